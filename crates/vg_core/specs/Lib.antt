@@ -1,0 +1,5 @@
+pub mod Words
+pub mod Spelling
+pub mod Meaning
+pub mod Joining
+pub mod Reader

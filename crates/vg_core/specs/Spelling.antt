@@ -1,0 +1,65 @@
+-- What a small function looks like as a text: the definition of the small form.
+use Rattle.std.specs.Prelude.{ℕ, ◌≡◌, ◌<◌, List, [], ◌∷◌, ◌++◌, codes, All}
+use Rattle.std.specs.List.{flat_map}
+use Rattle.std.specs.Fmt.{decimal}
+use Rattle.vg_core.specs.Words.{Placed, IsCut, spelled}
+use Rattle.vg_core.specs.declared.small.Test.{Test}
+use Rattle.vg_core.specs.declared.small.Small.{Small}
+use Rattle.vg_core.specs.declared.small.Lang.{Lang}
+use Rattle.vg_core.specs.declared.small.Lang.TheVariants.{C, Spec}
+
+-- `int nf_process(uint16_t port, uint64_t now) {`, or `ports 2; step {`
+abbrev pub head_words : Lang → List (List ℕ)
+head_words C =
+    codes "int" ∷ codes "nf_process" ∷ codes "(" ∷ codes "uint16_t" ∷ codes "port" ∷ codes "," ∷ codes "uint64_t" ∷ codes "now" ∷ codes ")" ∷ codes "{" ∷ []
+head_words Spec = codes "ports" ∷ codes "2" ∷ codes ";" ∷ codes "step" ∷ codes "{" ∷ []
+
+-- `if (port == A) return B;`, or `if port == A { send B; }`
+abbrev pub test_words : Lang → Test → List (List ℕ)
+test_words C t =
+    codes "if" ∷ codes "(" ∷ codes "port" ∷ codes "==" ∷ decimal t.port ∷ codes ")" ∷ codes "return" ∷ decimal t.value ∷ codes ";" ∷ []
+test_words Spec t =
+    codes "if" ∷ codes "port" ∷ codes "==" ∷ decimal t.port ∷ codes "{" ∷ codes "send" ∷ decimal t.value ∷ codes ";" ∷ codes "}" ∷ []
+
+-- `return B; }`, or `send B; }`
+abbrev pub last_words : Lang → ℕ → List (List ℕ)
+last_words C value = codes "return" ∷ decimal value ∷ codes ";" ∷ codes "}" ∷ []
+last_words Spec value = codes "send" ∷ decimal value ∷ codes ";" ∷ codes "}" ∷ []
+
+-- the words of a small function: its head, its tests in order, and what it does where none holds
+abbrev pub spelling : Lang → Small → List (List ℕ)
+spelling lang s = head_words lang ++ (flat_map (test_words lang) s.tests ++ last_words lang s.last)
+
+-- the number of ports that a text declares, which a C text does not
+abbrev pub ports_of : Lang → ℕ
+ports_of C = 0
+ports_of Spec = 2
+
+-- the place of the second word
+abbrev pub second_at : List Placed → ℕ
+second_at (type ∷ name ∷ words) = name.at
+second_at _ = 0
+
+-- the place of the function's name, which follows its type `int`; a specification has none
+abbrev pub name_at : Lang → List Placed → ℕ
+name_at C words = second_at words
+name_at Spec words = 0
+
+-- a port is a 16-bit number, and a value one of two ports
+pub record IsTest (t : Test) : Type 0 where
+  pub port : t.port < 65536
+  pub value : t.value < 2
+
+-- the text, cut into words, spells this small function
+pub record Spells (lang : Lang) (text : List ℕ) (s : Small) : Type 0 where
+  pub words : List Placed
+  pub cut : IsCut text words
+  pub form : spelled words ≡ spelling lang s
+  pub ports : s.ports ≡ ports_of lang
+  pub at : s.at ≡ name_at lang words
+  pub tests : All IsTest s.tests
+  pub last : s.last < 2
+
+-- the text spells no small function
+abbrev pub SpellsNone : Lang → List ℕ → Type 0
+SpellsNone lang text = (s : Small) → Spells lang text s → ⊥

@@ -1,0 +1,143 @@
+//! Reading a small function from its words.
+ghost use Rattle.std.specs.Prelude.{◌≡◌, ◌<◌, ◌^◌, length, map, option_map, IfOk, IsErrOf};
+ghost use Rattle.vg_core.specs.Spelling.{Spells, SpellsNone, name_at};
+ghost use Rattle.vg_core.specs.Reader.{after, number_after, value_after, test_of, last_of, begins_if, body_of, small_of, texts, placed, Gives};
+ghost use Rattle.vg_core.specs.declared.small.SmallFault.TheVariants as faults;
+
+use crate::form;
+use crate::numbers::number_in;
+use crate::small::{Lang, Small, SmallFault, Test, Tests};
+use crate::words::{Word, cut};
+use std::alloc::Global;
+
+/// Reads a small function, as C or as a specification.
+///
+/// `Form` comes exactly where the text spells no small function, `Memory` where memory ran out.
+pub fn read_small(alloc: Global, text: &[u8], lang: Lang) -> Result<Small, SmallFault>
+    requires { length text.now < 2 ^ 31 }
+    ensures spells { IfOk result (Spells lang text.now) }
+    ensures form { IsErrOf result faults.Form → SpellsNone lang text.now }
+{
+    let words = cut(alloc, text)?;
+    read(alloc, &words, lang)
+}
+
+// Reads a small function, word after word.
+#[tactic(auto, unfolding(crate::specs::Reader::small_of))]
+fn read(alloc: Global, words: &[Word<'_>], lang: Lang) -> Result<Small, SmallFault>
+    ensures { Gives result (small_of lang (placed words.now)) }
+{
+    let Some(rest) = strip(words, form::head(lang)) else {
+        return Err(SmallFault::Form);
+    };
+    let (tests, last) = body(alloc, rest, lang)?;
+    Ok(Small {
+        ports: form::ports(lang),
+        at: place(words, lang),
+        tests,
+        last,
+    })
+}
+
+// The words after these first ones.
+fn strip<'a, 'b>(words: &'b [Word<'a>], want: &[&str]) -> Option<&'b [Word<'a>]>
+    ensures { option_map (λ ws. texts ws.now) result ≡ after (map (λ e. e.now) want.now) (texts words.now) }
+{
+    let mut rest = words;
+    for e in want {
+        let [first, others @ ..] = rest else {
+            return None;
+        };
+        if first.text != e.as_bytes() {
+            return None;
+        }
+        rest = others;
+    }
+    Some(rest)
+}
+
+// A number, and the words after it.
+fn number<'a, 'b>(words: &'b [Word<'a>]) -> Option<(u16, &'b [Word<'a>])>
+    ensures { option_map (λ x. (x.0, texts x.1.now)) result ≡ number_after (texts words.now) }
+{
+    let [first, rest @ ..] = words else {
+        return None;
+    };
+    let n = number_in(first.text)?;
+    Some((n, rest))
+}
+
+// A value, which is 0 or 1, and the words after it.
+fn value<'a, 'b>(words: &'b [Word<'a>]) -> Option<(u16, &'b [Word<'a>])>
+    ensures { option_map (λ x. (x.0, texts x.1.now)) result ≡ value_after (texts words.now) }
+{
+    let (n, rest) = number(words)?;
+    if n < 2 { Some((n, rest)) } else { None }
+}
+
+// A test, and the words after it.
+#[tactic(auto, unfolding(crate::specs::Reader::test_of))]
+fn test<'a, 'b>(words: &'b [Word<'a>], lang: Lang) -> Option<(Test, &'b [Word<'a>])>
+    ensures { option_map (λ x. (x.0, texts x.1.now)) result ≡ test_of lang (texts words.now) }
+{
+    let rest = strip(words, form::before_port(lang))?;
+    let (port, rest) = number(rest)?;
+    let rest = strip(rest, form::before_value(lang))?;
+    let (value, rest) = value(rest)?;
+    let rest = strip(rest, form::after_value(lang))?;
+    Some((Test { port, value }, rest))
+}
+
+// The last value, after which no word stands.
+#[tactic(auto, unfolding(crate::specs::Reader::last_of))]
+fn last(words: &[Word<'_>], lang: Lang) -> Option<u16>
+    ensures { result ≡ last_of lang (texts words.now) }
+{
+    let rest = strip(words, form::before_last(lang))?;
+    let (value, rest) = value(rest)?;
+    let rest = strip(rest, &[";", "}"])?;
+    if rest.is_empty() { Some(value) } else { None }
+}
+
+// Whether a test comes next.
+fn has_test(words: &[Word<'_>]) -> bool
+    ensures { result ≡ begins_if (texts words.now) }
+{
+    strip(words, &["if"]).is_some()
+}
+
+// The tests and the last value.
+fn body(alloc: Global, words: &[Word<'_>], lang: Lang) -> Result<(Tests, u16), SmallFault>
+    ensures { Gives result (body_of lang (length words.now) (texts words.now)) }
+{
+    let mut tests = Vec::new(alloc);
+    let mut at = 0;
+    for _ in 0..words.len() {
+        let (_, rest) = words.split_at(at);
+        if !has_test(rest) {
+            let Some(last) = last(rest, lang) else {
+                return Err(SmallFault::Form);
+            };
+            return Ok((Tests::new(tests), last));
+        }
+        let Some((next, after)) = test(rest, lang) else {
+            return Err(SmallFault::Form);
+        };
+        tests.push(next)?;
+        at = words.len() - after.len();
+    }
+    Err(SmallFault::Form)
+}
+
+// The place of the function's name.
+fn place(words: &[Word<'_>], lang: Lang) -> u32
+    ensures { result ≡ name_at lang (placed words.now) }
+{
+    match lang {
+        Lang::C => match words {
+            [_, name, ..] => name.at,
+            _ => 0,
+        },
+        Lang::Spec => 0,
+    }
+}
