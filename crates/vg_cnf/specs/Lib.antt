@@ -1,0 +1,4 @@
+pub mod Clauses
+pub mod Lists
+pub mod Propagation
+pub mod Refutations
