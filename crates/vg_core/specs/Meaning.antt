@@ -1,4 +1,5 @@
--- What a small function does with a frame from a port, and what that costs.
+-- What a small function does with a frame from a port (C11 6.8.4.1 for `if`, 6.8.6.4 for `return`), and what that costs:
+-- what counts as a step is this program's own rule.
 use Rattle.std.specs.Prelude.{ℕ, ◌+◌, List, [], ◌∷◌, ◌==◌, if◌then◌else◌, Bool, true, false}
 use Rattle.vg_core.specs.declared.small.Test.{Test}
 use Rattle.vg_core.specs.declared.verdict.Verdict.{Verdict}
@@ -17,7 +18,7 @@ verdict_at ts last port = verdicts.Send (value_at ts last port)
 -- `return` executed
 abbrev pub steps_at : List Test → ℕ → ℕ
 steps_at [] port = 1
-steps_at (t ∷ ts) port = if port == t.port then 3 else 2 + steps_at ts port
+steps_at (t ∷ ts) port = if port == t.port then 2 + 1 else 2 + steps_at ts port
 
 -- the sides that a run takes: false at each test that does not hold, and true at the one that does, the last one reached
 abbrev pub sides_at : List Test → ℕ → List Bool

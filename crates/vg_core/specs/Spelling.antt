@@ -1,4 +1,5 @@
--- What a small function looks like as a text: the definition of the small form.
+-- What a small function looks like as a text: the definition of the small form. In C it is a function definition
+-- (C11 6.9.1) of `if` and `return` statements; the form of the specification is this program's own.
 use Rattle.std.specs.Prelude.{ℕ, ◌≡◌, ◌<◌, List, [], ◌∷◌, ◌++◌, codes, All}
 use Rattle.std.specs.List.{flat_map}
 use Rattle.std.specs.Fmt.{decimal}

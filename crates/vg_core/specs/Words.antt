@@ -1,4 +1,5 @@
--- The words of a text: its names, numbers and signs, each as long as it can be (C11 6.4, paragraph 4).
+-- The words of a text: the part of C's tokens that small texts need, which are names, numbers, the sign == and signs of
+-- one byte, each as long as it can be (C11 6.4, paragraph 4). Comments are no blanks here.
 use Rattle.std.specs.Prelude.{ℕ, ◌≡◌, ◌+◌, List, [], ◌∷◌, ◌++◌, length, map, All, IsTrue, Bool, true, false, not, ◌&&◌, ◌||◌, nat_le, ◌==◌}
 use Rattle.std.specs.List.{list_all}
 
@@ -6,6 +7,7 @@ use Rattle.std.specs.List.{list_all}
 abbrev pub is_blank : ℕ → Bool
 is_blank b = b == 32 || b == 9 || b == 13 || b == 10
 
+-- the same, as a fact
 abbrev pub IsBlank : ℕ → Type 0
 IsBlank b = IsTrue (is_blank b)
 
@@ -13,6 +15,7 @@ IsBlank b = IsTrue (is_blank b)
 abbrev pub is_name_byte : ℕ → Bool
 is_name_byte b = nat_le 97 b && nat_le b 122 || nat_le 65 b && nat_le b 90 || nat_le 48 b && nat_le b 57 || b == 95
 
+-- C would cut a row of three into two signs; here it is one word, and no small text has either
 abbrev pub is_equals_sign : ℕ → Bool
 is_equals_sign b = b == 61
 

@@ -9,7 +9,7 @@ use std::alloc::{AllocError, AllocFailed};
 use std::marker::Model;
 use thiserror::Error;
 
-/// Where the frame's port is this one, the value is that one.
+/// One test: if the frame came in at `port`, it goes to `value`.
 #[derive(Clone, Copy, Debug, PartialEq, Eq)]
 pub struct Test {
     pub port: u16,
@@ -76,6 +76,7 @@ pub enum SmallFault {
     /// The text is not of the small form.
     #[error("not a small function")]
     Form,
+    /// Memory ran out.
     #[error("out of memory")]
     Memory,
 }

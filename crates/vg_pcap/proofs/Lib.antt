@@ -1,0 +1,7 @@
+pub mod Numbers
+pub mod Headers
+pub mod Records
+pub mod FrameLists
+pub mod Told
+pub mod InOrder
+pub mod Laws

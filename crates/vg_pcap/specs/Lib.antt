@@ -1,0 +1,4 @@
+pub mod Captures
+pub mod Frames
+pub mod View
+pub mod Reading

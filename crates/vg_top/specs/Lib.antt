@@ -1,0 +1,12 @@
+pub mod Commands
+pub mod RunFiles
+pub mod Agreement
+pub mod Counts
+pub mod Outputs
+pub mod Lines
+pub mod Endings
+pub mod Statuses
+pub mod Effects
+pub mod Setup
+pub mod Running
+pub mod Writing

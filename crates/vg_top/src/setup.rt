@@ -1,0 +1,124 @@
+//! Reading what a run needs, and verifying it.
+ghost use Rattle.std.specs.Prelude.{◌≢◌, ◌<◌, ◌^◌, length, IfOk, IfErr, vec_len};
+ghost use Rattle.vg_core.specs.Spelling.{Spells};
+ghost use Rattle.vg_top.specs.RunFiles.{run_files_of};
+ghost use Rattle.vg_top.specs.Setup.{LoadsWithin, LoadsTexts, StopsReading, Verifies, ReadsFunctions};
+
+use crate::agreement::first_difference;
+use crate::limits::{MAX_INPUT, MAX_TEXT};
+use crate::names::Names;
+use crate::stop::{Stop, Unbuilt};
+use std::alloc::Global;
+use vg_base::{Files, LoadFault, MAX_OPEN, load};
+use vg_core::{Lang, Small, SmallFault, read_small};
+
+/// The C text and the specification.
+#[derive(Drop)]
+pub struct Texts {
+    pub c: Vec<u8>,
+    pub spec: Vec<u8>,
+}
+
+/// A C function and its specification.
+#[derive(Drop)]
+pub struct Functions {
+    pub c: Small,
+    pub spec: Small,
+}
+
+// The bytes of a file. Where they are more than `limit`, the run stops for the reason `too_long`.
+fn load_within<F: Files>(
+    alloc: Global,
+    files: &mut F,
+    name: &str,
+    limit: u64,
+    too_long: Stop,
+) -> Result<Vec<u8>, Stop>
+    requires room { (F.disk files.old).open_count < MAX_OPEN }
+    requires no_fault { too_long ≢ Stop.Read }
+    ensures { LoadsWithin (F.disk files.old) (F.disk files.new) name.now limit too_long result }
+{
+    match load(alloc, files, name, limit) {
+        Ok(bytes) => Ok(bytes),
+        Err(LoadFault::Read) => Err(Stop::Read),
+        Err(LoadFault::TooLong) => Err(too_long),
+        Err(LoadFault::Memory) => Err(Stop::Memory),
+    }
+}
+
+// Loads the C text, and then the specification.
+fn load_texts<F: Files>(alloc: Global, files: &mut F, names: &Names<'_>) -> Result<Texts, Stop>
+    requires { (F.disk files.old).open_count < MAX_OPEN }
+    ensures { LoadsTexts (F.disk files.old) (F.disk files.new) (run_files_of names.now) result }
+{
+    let c = match load_within(alloc, files, names.c, MAX_TEXT, Stop::Limit(Lang::C)) {
+        Ok(c) => c,
+        Err(stop) => return Err(stop),
+    };
+    match load_within(alloc, files, names.spec, MAX_TEXT, Stop::Limit(Lang::Spec)) {
+        Ok(spec) => Ok(Texts { c, spec }),
+        Err(stop) => Err(stop),
+    }
+}
+
+// The function that a text spells.
+fn read_function(alloc: Global, text: &[u8], lang: Lang) -> Result<Small, Stop>
+    requires { length text.now < 2 ^ 31 }
+    ensures spells { IfOk result (Spells lang text.now) }
+    ensures stops { IfErr result (StopsReading lang text.now) }
+{
+    match read_small(alloc, text, lang) {
+        Ok(small) => Ok(small),
+        Err(SmallFault::Form) => Err(Stop::NotBuilt(Unbuilt::Text(lang))),
+        Err(SmallFault::Memory) => Err(Stop::Memory),
+    }
+}
+
+// The functions that both texts spell, which agree.
+fn functions_in(alloc: Global, texts: &Texts) -> Result<Functions, Stop>
+    requires c { length texts.now.c.items < 2 ^ 31 }
+    requires spec { length texts.now.spec.items < 2 ^ 31 }
+    ensures { Verifies texts.now.c.items texts.now.spec.items result }
+{
+    let c = match read_function(alloc, &texts.c, Lang::C) {
+        Ok(c) => c,
+        Err(stop) => return Err(stop),
+    };
+    let spec = match read_function(alloc, &texts.spec, Lang::Spec) {
+        Ok(spec) => spec,
+        Err(stop) => return Err(stop),
+    };
+    match first_difference(&c, &spec) {
+        None => Ok(Functions { c, spec }),
+        Some(port) => Err(Stop::Wrong { at: c.at, port }),
+    }
+}
+
+/// Reads both texts and verifies that the C function does what its specification says.
+pub fn read_functions<F: Files>(
+    alloc: Global,
+    files: &mut F,
+    names: &Names<'_>,
+) -> Result<Functions, Stop>
+    requires { (F.disk files.old).open_count < MAX_OPEN }
+    ensures { ReadsFunctions (F.disk files.old) (F.disk files.new) (run_files_of names.now) result }
+{
+    match load_texts(alloc, files, names) {
+        Ok(texts) => functions_in(alloc, &texts),
+        Err(stop) => Err(stop),
+    }
+}
+
+/// Loads the input.
+pub fn load_input<F: Files>(alloc: Global, files: &mut F, name: &str) -> Result<Vec<u8>, Stop>
+    requires { (F.disk files.old).open_count < MAX_OPEN }
+    ensures { LoadsWithin (F.disk files.old) (F.disk files.new) name.now MAX_INPUT (Stop.NotBuilt Unbuilt.Capture) result }
+{
+    load_within(
+        alloc,
+        files,
+        name,
+        MAX_INPUT,
+        Stop::NotBuilt(Unbuilt::Capture),
+    )
+}
