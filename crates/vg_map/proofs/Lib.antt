@@ -1,0 +1,5 @@
+pub mod SlotLists
+pub mod Found
+pub mod Standing
+pub mod Steps
+pub mod Tables

@@ -1,0 +1,4 @@
+pub mod Hash
+pub mod Map
+pub mod Slots
+pub mod Search

@@ -1,0 +1,10 @@
+//! A hash table of fixed capacity, from keys of one length to indices, that takes no memory once it is made.
+#![tactic(auto)]
+
+mod fixed;
+mod hash;
+mod memory;
+mod slots;
+
+pub use fixed::HashMapFixed;
+pub use memory::Memory;
