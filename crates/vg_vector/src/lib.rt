@@ -1,0 +1,10 @@
+//! Cells of bytes of one size in one block, with loans that can't be copied.
+#![tactic(auto)]
+
+mod cells;
+mod faults;
+#[cfg(test)]
+mod tests;
+
+pub use cells::{CellLoan, Cells};
+pub use faults::Memory;
