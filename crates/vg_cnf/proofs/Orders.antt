@@ -1,21 +1,16 @@
 -- A checker may take units in any order: it reaches an empty clause exactly where `follows` says so.
 use Rattle.std.proofs.Common.{◌≡◌, List, [], ◌∷◌, ◌++◌, length, None, true, false, refl, sym, ap, subst, ◌∙◌, inl, inr, arith}
-use Rattle.std.specs.Prelude.{ℤ, pos, neg_ℤ, is_none, map, All, Contains}
+use Rattle.std.specs.Prelude.{ℤ, pos, neg_ℤ, is_none, All, Contains}
 use Rattle.std.specs.Ordering.{int_eq}
 use Rattle.std.proofs.Math.IntN.{neg_ℤ-neg_ℤ}
 use Rattle.std.proofs.lemmas.Bool.{cases_Bool, and_from, and_right, or_parts, or_left, or_right, or_from, true≢false, false≢true}
 use Rattle.std.proofs.lemmas.List.Elements.{All-cons, All-head, All-tail}
 use Rattle.vg_cnf.specs.Clauses.{holds, is_clause}
+use Rattle.vg_cnf.specs.Orders.{IsConsistent, Settled, by_true, by_two, Reaches, conflict, unit, occurs, negations}
 use Rattle.vg_cnf.specs.Propagation.{propagated, falsified, follows}
 use Rattle.vg_cnf.proofs.Steps.{clash, or_rest, same_literal, same_test, cases_Option}
 use Rattle.vg_cnf.proofs.Soundness.{clause-nonzero}
-use Rattle.vg_cnf.proofs.Settled.{IsConsistent, Settled, by_true, by_two, occurs, settled-unit, settled-propagated, propagated-settles}
-
--- an empty clause is reached from literals made true so far: a clause is false, or all its literals but one are and that one is made true too
-pub data Reaches (clauses : List (List ℤ)) : List ℤ → Type 0 where
-  conflict : {made : List ℤ} (c : List ℤ) → Contains clauses c → ((k : ℤ) → holds c k ≡ true → holds made (neg_ℤ k) ≡ true) → Reaches clauses made
-  unit : {made : List ℤ} (c : List ℤ) (l : ℤ) → Contains clauses c → ((k : ℤ) → holds c k ≡ true → int_eq k l ≡ false → holds made (neg_ℤ k) ≡ true) →
-      Reaches clauses (l ∷ made) → Reaches clauses made
+use Rattle.vg_cnf.proofs.Settled.{settled-unit, settled-propagated, propagated-settles}
 
 settled-at : (ls c : List ℤ) (clauses : List (List ℤ)) → Contains clauses c → All (Settled ls) clauses → Settled ls c
 settled-at ls c clauses at all = subst (Settled ls) at.2 (all at.0 c at.1)
@@ -60,13 +55,8 @@ settled-reaches ls clauses made consistent all within (unit c l at falses rest) 
 
 -- ---- assumptions
 
--- the negations of a clause's literals
-pub negations : List ℤ → List ℤ
-negations c = map neg_ℤ c
-
 falsified-settled : (ls c : List ℤ) (clauses : List (List ℤ)) → All (Settled ls) (falsified c ++ clauses) →
     ((k : ℤ) → holds (negations c) k ≡ true → holds ls k ≡ true) × All (Settled ls) clauses
-unfolding negations
 falsified-settled ls [] clauses all = ((λ k e. absurd (false≢true e)), all)
 falsified-settled ls (l ∷ c) clauses all =
     let here = settled-unit ls (neg_ℤ l) [] refl (All-head (Settled ls) (neg_ℤ l ∷ []) (falsified c ++ clauses) all) in
@@ -75,7 +65,6 @@ falsified-settled ls (l ∷ c) clauses all =
 
 pub settled-falsified : (made c : List ℤ) (clauses : List (List ℤ)) → ((k : ℤ) → holds (negations c) k ≡ true → holds made k ≡ true) → All (Settled made) clauses →
     All (Settled made) (falsified c ++ clauses)
-unfolding negations
 settled-falsified made [] clauses within all = all
 settled-falsified made (l ∷ c) clauses within all =
     All-cons (Settled made) (neg_ℤ l ∷ []) (falsified c ++ clauses)

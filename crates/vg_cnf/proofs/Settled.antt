@@ -1,13 +1,14 @@
 -- Unit propagation in any order. Literals that are made true settle clauses where nothing is left to propagate; what the recursion answers is compared with them.
-use Rattle.std.proofs.Common.{◌≡◌, ℕ, zero, suc, ◌<◌, ◌≤◌, List, [], ◌∷◌, length, Option, Some, None, Bool, true, false, refl, sym, ap, subst, ◌∙◌, inl, inr, arith}
+use Rattle.std.proofs.Common.{◌≡◌, ℕ, zero, suc, ◌<◌, ◌≤◌, List, [], ◌∷◌, length, Option, Some, None, true, false, refl, sym, ap, subst, ◌∙◌, inl, inr, arith}
 use Rattle.std.specs.Prelude.{ℤ, pos, negsuc, neg_ℤ, ◌||◌, All}
-use Rattle.std.specs.List.{list_any, list_all}
+use Rattle.std.specs.List.{list_all}
 use Rattle.std.specs.Option.{option_map}
 use Rattle.std.specs.Ordering.{int_eq}
 use Rattle.std.proofs.Math.IntN.{neg_ℤ-neg_ℤ}
 use Rattle.std.proofs.lemmas.Bool.{cases_Bool, and_parts, and_cases, or_left, or_right, or_from, true≢false, false≢true}
 use Rattle.std.proofs.lemmas.List.Elements.{All-cons, All-head, All-tail}
 use Rattle.vg_cnf.specs.Clauses.{holds, without}
+use Rattle.vg_cnf.specs.Orders.{IsConsistent, Settled, by_true, by_two, occurs}
 use Rattle.vg_cnf.specs.Propagation.{has_empty, first_unit, given, propagated_in}
 use Rattle.vg_cnf.proofs.Steps.{clash, or_rest, same_literal, same_test, without-kept, without-dropped, given-kept, given-dropped, first_unit-here, first_unit-later, propagated-empty, propagated-done, propagated-out, propagated-unit, cases_Option}
 
@@ -86,15 +87,6 @@ second k (y ∷ rest) e =
     ]
 
 -- ---- settled clauses
-
--- no literal is made true along with its negation
-abbrev pub IsConsistent : List ℤ → Type 0
-IsConsistent made = (l : ℤ) → holds made l ≡ true → holds made (neg_ℤ l) ≡ false
-
--- a literal of the clause is true, or two different ones are not false: it is neither empty nor a unit
-pub data Settled (made c : List ℤ) : Type 0 where
-  by_true : (l : ℤ) → holds c l ≡ true → holds made l ≡ true → Settled made c
-  by_two : (k l : ℤ) → holds c k ≡ true → holds c l ≡ true → int_eq k l ≡ false → holds made (neg_ℤ k) ≡ false → holds made (neg_ℤ l) ≡ false → Settled made c
 
 settled-nonempty : (made : List ℤ) → Settled made [] → ⊥
 settled-nonempty made (by_true l here t) = false≢true here
@@ -183,10 +175,6 @@ settled-propagated (suc steps) made clauses consistent all =
         ]
 
 -- ---- and the literals that propagation makes true settle the clauses
-
--- whether one of the clauses holds the literal
-abbrev pub occurs : List (List ℤ) → ℤ → Bool
-occurs clauses l = list_any (λ c. holds c l) clauses
 
 occurs-given : (l x : ℤ) (clauses : List (List ℤ)) → occurs (given l clauses) x ≡ true → occurs clauses x ≡ true
 occurs-given l x [] e = e

@@ -1,4 +1,5 @@
 pub mod Clauses
 pub mod Lists
+pub mod Orders
 pub mod Propagation
 pub mod Refutations
