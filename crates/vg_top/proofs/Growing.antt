@@ -20,7 +20,7 @@ told_before : {s t : Disk} → WriteKeeps s t → IsTrue t.tells_made → IsTrue
 told_before keeps told = rw keeps.held.tells_made at told
 
 -- the file that is written to has grown
-IsWriting-grown : {s t : Disk} {id : ℕ} {name bytes piece : List ℕ} → WritesAll s t id piece (Ok tt) → IsWriting s id name bytes → IsWriting t id name (bytes ++ piece)
+pub IsWriting-grown : {s t : Disk} {id : ℕ} {name bytes piece : List ℕ} → WritesAll s t id piece (Ok tt) → IsWriting s id name bytes → IsWriting t id name (bytes ++ piece)
 IsWriting-grown {bytes = bytes} write w = record {
   is_open = rw write.keeps.ids.opened w.is_open;
   named = λ told. rw write.keeps.ids.opened (w.named (told_before write.keeps told));
@@ -28,12 +28,12 @@ IsWriting-grown {bytes = bytes} write w = record {
 }
 
 -- a file of another name has not
-kept : {s t : Disk} {id : ℕ} {name bytes piece : List ℕ} (r : Result (Unit {0}) Failed) → WritesAll s t id piece r → IsWriting s id name bytes → IsTrue s.tells_made →
+pub kept : {s t : Disk} {id : ℕ} {name bytes piece : List ℕ} (r : Result (Unit {0}) Failed) → WritesAll s t id piece r → IsWriting s id name bytes → IsTrue s.tells_made →
     (other : List ℕ) → other ≢ name → t.made other ≡ s.made other
 kept {name = name} (Ok done) write w told = (write.whole told name (w.named told)).others
 kept {name = name} (Err e) write w told = (write.prefix told name (w.named told)).2.others
 
-IsWriting-kept : {s t : Disk} {id other : ℕ} {name bytes piece name' bytes' : List ℕ} → WritesAll s t id piece (Ok tt) → IsWriting s id name bytes
+pub IsWriting-kept : {s t : Disk} {id other : ℕ} {name bytes piece name' bytes' : List ℕ} → WritesAll s t id piece (Ok tt) → IsWriting s id name bytes
     → name' ≢ name → IsWriting s other name' bytes' → IsWriting t other name' bytes'
 IsWriting-kept {name' = name'} write w differ v = record {
   is_open = rw write.keeps.ids.opened v.is_open;
@@ -41,7 +41,7 @@ IsWriting-kept {name' = name'} write w differ v = record {
   made = λ told. let before = told_before write.keeps told in kept (Ok tt) write w before name' differ ∙ v.made before;
 }
 
-IsPrefix-whole : (whole : List ℕ) → IsPrefix whole whole
+pub IsPrefix-whole : (whole : List ℕ) → IsPrefix whole whole
 IsPrefix-whole whole = ([], sym (append-nil whole))
 
 -- the file holds no more than first bytes of what it held and the piece
@@ -267,7 +267,7 @@ pub Sends-three-stops-second : {s t u : Disk} {o : Outputs} {p q : List ℕ} (l 
 Sends-three-stops-second {o = o} {p = p} {q = q} l {e} x y =
     rw (three_are p q l) at (Sends-stops {A = Unit {0}} {B = Unit {0}} (at_log l) (Sends-then (Err e) (Sends-out0 {o = o} (Ok tt) x) (Sends-out1 {o = o} (Err e) y)))
 
-headers_are : (h : List ℕ) → both (at_out0 h) (at_out1 h) ≡ record { out0 = h; out1 = h; log = [] }
+pub headers_are : (h : List ℕ) → both (at_out0 h) (at_out1 h) ≡ record { out0 = h; out1 = h; log = [] }
 headers_are h = rw (append-nil h) refl
 
 -- a header for each capture, and then the rest

@@ -19,7 +19,7 @@ leaves s t {n} Read run stops = record { names = n; run = run; rose = stops.0; u
 leaves s t {n} Write run stops = record {
   rose = stops.rose;
   read_faults = stops.read_faults;
-  began = record { names = n; c = stops.c; spec = stops.spec; frames = stops.frames; run = run; input = stops.input; wrote = stops.wrote };
+  began = record { names = n; c = stops.c; spec = stops.spec; frames = stops.frames; run = run; input = stops.input; wrote = stops.wrote; follows = stops.follows };
 }
 leaves s t {n} Memory run stops = record { names = n; run = run; unwritten = stops.0 }
 leaves s t {n} (Wrong at port) run stops = record { reason = inr (n, run, stops.reason); unwritten = stops.unwritten }

@@ -7,3 +7,4 @@ pub mod Stopping
 pub mod Unique
 pub mod Printing
 pub mod Leaving
+pub mod Ordering

@@ -17,6 +17,7 @@ use Rattle.vg_top.specs.Lines.{verified_line, totals_line}
 use Rattle.vg_top.specs.Outputs.{handle_at, handled_by}
 use Rattle.vg_top.specs.Running.{HasRun, StopsRun, Prints}
 use Rattle.vg_top.specs.Statuses.{status_of, status_at, IsStatus, IsFaultOrMemory}
+use Rattle.vg_top.proofs.Ordering.{follows-all}
 use Rattle.vg_top.proofs.Unique.{ComesTo-same}
 
 -- ---- statuses
@@ -80,6 +81,7 @@ began_done s t {n} r run has = record {
     log = whole_part s t n.log _ all.log;
     others = all.others;
   };
+  follows = λ told. follows-all (has.wrote told);
 }
 
 -- ---- the one answer

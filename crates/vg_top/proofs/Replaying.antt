@@ -90,7 +90,7 @@ parts_written {s = s} {b = b} {t = t} {n = n} r q created sends closed differ to
       others = kept_others r q created sends closed differ told;
     }
 
-all_written : {A : Type 0} {s a b t : Disk} {n : RunFiles} {o : Outputs} {w : Written} (x : A) (q : Result (Unit {0}) Failed) →
+pub all_written : {A : Type 0} {s a b t : Disk} {n : RunFiles} {o : Outputs} {w : Written} (x : A) (q : Result (Unit {0}) Failed) →
     CreatesAll s a n (Ok o) → Sends {A = A} a b o w (Ok x) → ClosesAll b t o q → AreDistinct n → IsTrue s.tells_made → WroteAll s t n w
 all_written {n = n} x q created sends closed differ told =
     let writing = (sends.grows n nothing differ (created.whole differ)).whole in

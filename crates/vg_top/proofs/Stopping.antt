@@ -16,7 +16,7 @@ use Rattle.vg_top.specs.declared.stop.Unbuilt.TheVariants.{Capture}
 use Rattle.vg_top.specs.declared.totals.Totals.{Totals}
 use Rattle.vg_top.specs.Agreement.{IsPathCount, most_steps}
 use Rattle.vg_top.specs.Commands.{RunFiles}
-use Rattle.vg_top.specs.Effects.{Unwritten, WroteAll, WroteParts}
+use Rattle.vg_top.specs.Effects.{Unwritten, WroteAll, WroteParts, LogFollows}
 use Rattle.vg_top.specs.Endings.{IsLonger, IsWithin, AreFrames}
 use Rattle.vg_top.specs.Outputs.{Written, written_for, handled_by, totals_of}
 use Rattle.vg_top.specs.Running.{HasRun, StopsRun, StopsIn, FailsReplay}
@@ -116,10 +116,13 @@ replay_done {s = s} {u = u} {w = w} f v frames r distinct x y holds paths steps 
   };
 }
 
+LogFollows-before : (s u w : Disk) {n : RunFiles} {c spec : Small} {frames : List Framed} → u.made ≡ s.made → LogFollows u w n c spec frames → LogFollows s w n c spec frames
+LogFollows-before s u w same x = record { lined = x.lined; others = x.others; frames_are = x.frames_are; log = rw same at x.log; captures = x.captures }
+
 pub replay_failed : {s t u w : Disk} {n : RunFiles} (f : Functions) (v : Vec ℕ Global) (frames : List Framed) {e : Failed} → AreDistinct n → ReadsFunctions s t n (Ok f) →
     LoadsWithin t u n.in0 MAX_INPUT (NotBuilt Capture) (Ok v) → HoldsFrames v.items frames →
-    Replays {A = Totals} u w n (written_for f.c f.spec frames) (Err e) → FailsReplay s w n
-replay_failed {s = s} {u = u} {w = w} f v frames distinct x y holds replays = record {
+    Replays {A = Totals} u w n (written_for f.c f.spec frames) (Err e) → (AreDistinct n → IsTrue u.tells_made → LogFollows u w n f.c f.spec frames) → FailsReplay s w n
+replay_failed {s = s} {u = u} {w = w} f v frames distinct x y holds replays follows = record {
   rose = rw (y.reads.keeps.write_faults ∙ x.reads.keeps.write_faults) at replays.faults.failed;
   read_faults = replays.keeps.read_faults ∙ y.reads.same ∙ x.reads.same;
   c = f.c;
@@ -127,6 +130,7 @@ replay_failed {s = s} {u = u} {w = w} f v frames distinct x y holds replays = re
   frames = frames;
   input = has_frames f v frames x y holds;
   wrote = λ told. WroteParts-before s u w (y.reads.keeps.made ∙ x.reads.keeps.made) (replays.parts distinct (made_before (Ok f) (Ok v) x.reads y.reads told));
+  follows = λ told. LogFollows-before s u w (y.reads.keeps.made ∙ x.reads.keeps.made) (follows distinct (made_before (Ok f) (Ok v) x.reads y.reads told));
 }
 
 -- the same ids are open, and the same can be read, whatever came

@@ -10,7 +10,7 @@ use Rattle.vg_top.specs.Agreement.{IsPathCount, most_steps}
 use Rattle.vg_top.specs.Commands.{RunFiles, IsNoneOf, IsRun}
 use Rattle.vg_top.specs.Endings.{Stopped, ComesTo, AreFrames}
 use Rattle.vg_top.specs.Lines.{verified_line, totals_line, refusal_text}
-use Rattle.vg_top.specs.Outputs.{Written, written_for, handled_by, totals_of}
+use Rattle.vg_top.specs.Outputs.{Written, written_for, handled_by, capture_to, log_of, totals_of}
 
 -- ---- the files
 
@@ -49,8 +49,21 @@ pub record WroteParts (s t : Disk) (n : RunFiles) (w : Written) : Type 0 where
   pub log : IsPart s t n.log w.log
   pub others : KeepsOthers s t n
 
+-- a file begins with these bytes
+abbrev pub Holds : Disk → List ℕ → List ℕ → Type 0
+Holds t name bytes = (more : List ℕ) × (t.made name ≡ Some (bytes ++ more))
+
+-- The log follows the captures: it has no byte of a line but those of these first frames, and where there are such, both
+-- captures hold them whole.
+pub record LogFollows (s t : Disk) (n : RunFiles) (c spec : Small) (frames : List Framed) : Type 0 where
+  pub lined : List Framed
+  pub others : List Framed
+  pub frames_are : frames ≡ lined ++ others
+  pub log : IsPart s t n.log (log_of (handled_by c lined))
+  pub captures : (lined ≡ []) ⊎ (Holds t n.out0 (capture_to 0 (handled_by spec lined)) × Holds t n.out1 (capture_to 1 (handled_by spec lined)))
+
 -- The replay of these words began, over the functions and frames that the files hold, and its outputs hold no more than
--- first bytes of what they should.
+-- first bytes of what they should, the log no further than the captures.
 pub record BeganReplay (words : List (List ℕ)) (s t : Disk) : Type 0 where
   pub names : RunFiles
   pub c : Small
@@ -59,6 +72,7 @@ pub record BeganReplay (words : List (List ℕ)) (s t : Disk) : Type 0 where
   pub run : IsRun words names
   pub input : AreFrames s names c spec frames
   pub wrote : IsTrue s.tells_made → WroteParts s t names (written_for c spec frames)
+  pub follows : IsTrue s.tells_made → LogFollows s t names c spec frames
 
 -- ---- a run that was done
 

@@ -9,7 +9,7 @@ use Rattle.vg_top.specs.declared.stop.Stop.{Stop}
 use Rattle.vg_top.specs.declared.stop.Stop.TheVariants.{Wrong, NotBuilt, Limit, Read, Write, Memory}
 use Rattle.vg_top.specs.Agreement.{IsPathCount, most_steps}
 use Rattle.vg_top.specs.Commands.{RunFiles}
-use Rattle.vg_top.specs.Effects.{Unwritten, WroteAll, WroteParts, Says, FailsSaying}
+use Rattle.vg_top.specs.Effects.{Unwritten, WroteAll, WroteParts, LogFollows, Says, FailsSaying}
 use Rattle.vg_top.specs.Endings.{Stopped, EndsIn, AreFrames}
 use Rattle.vg_top.specs.Outputs.{written_for, handled_by, totals_of}
 
@@ -39,6 +39,7 @@ pub record FailsReplay (s t : Disk) (n : RunFiles) : Type 0 where
   pub frames : List Framed
   pub input : AreFrames s n c spec frames
   pub wrote : IsTrue s.tells_made → WroteParts s t n (written_for c spec frames)
+  pub follows : IsTrue s.tells_made → LogFollows s t n c spec frames
 
 -- a run on these files wrote nothing and met no fault, and came to this
 pub record StopsIn (s t : Disk) (n : RunFiles) (stop : Stop) : Type 0 where

@@ -1,5 +1,5 @@
 -- The three outputs of a replay, while they are being written. No public clause rests on this file.
-use Rattle.std.specs.Prelude.{ℕ, ◌+◌, ◌≡◌, ◌≢◌, List, [], ◌++◌, IsTrue, Some, None, Result, IfOk, OnOk, OnErr}
+use Rattle.std.specs.Prelude.{ℕ, ◌+◌, ◌≡◌, ◌≢◌, ◌⊎◌, List, [], ◌++◌, IsTrue, Some, None, Result, IfOk, OnOk, OnErr}
 use Rattle.std.specs.List.{flat_map}
 use Rattle.vg_base.specs.declared.faults.Failed.{Failed}
 use Rattle.vg_base.specs.Files.{Disk, Writes, writing, IsOpen, Counts, WriteKeeps, SameHeld, SameIds}
@@ -7,8 +7,8 @@ use Rattle.vg_core.specs.declared.small.Small.{Small}
 use Rattle.vg_pcap.specs.Frames.{Framed, header}
 use Rattle.vg_top.specs.declared.outputs.Outputs.{Outputs}
 use Rattle.vg_top.specs.Commands.{RunFiles}
-use Rattle.vg_top.specs.Effects.{IsBegun, KeepsOthers, WroteAll, WroteParts}
-use Rattle.vg_top.specs.Outputs.{Written, piece_to, handle_at, handled_by, line_of, lines_from}
+use Rattle.vg_top.specs.Effects.{IsBegun, Holds, KeepsOthers, WroteAll, WroteParts}
+use Rattle.vg_top.specs.Outputs.{Written, piece_to, handle_at, handled_by, line_of, lines_from, capture_to, log_of}
 
 -- the id writes to the file of this name, which holds these bytes so far
 pub record IsWriting (t : Disk) (id : ℕ) (name bytes : List ℕ) : Type 0 where
@@ -132,3 +132,24 @@ frames_pieces c spec number frames = record {
 -- what the three files begin with
 abbrev pub headers : Written
 headers = record { out0 = header; out1 = header; log = [] }
+
+-- a frame couldn't be written whole: its line wasn't begun, or both captures have it
+pub record StopsInOrder (s t : Disk) (o : Outputs) (more : Written) : Type 0 where
+  pub order : (n : RunFiles) (w : Written) → AreDistinct n → AreWriting s o n w → IsTrue s.tells_made →
+      ((t.made n.log ≡ Some w.log) × Holds t n.out0 w.out0 × Holds t n.out1 w.out1)
+      ⊎ ((t.made n.out0 ≡ Some (w.out0 ++ more.out0)) × (t.made n.out1 ≡ Some (w.out1 ++ more.out1)))
+
+-- what was added stands in the captures for all frames that the log has a byte of
+pub record StopsBehind (s t : Disk) (o : Outputs) (c spec : Small) (frames : List Framed) : Type 0 where
+  pub behind : (n : RunFiles) (w : Written) → AreDistinct n → AreWriting s o n w → IsTrue s.tells_made →
+      (lined : List Framed) × (others : List Framed) × (frames ≡ lined ++ others)
+      × IsBegun t n.log (w.log ++ (frames_pieces c spec 1 lined).log)
+      × Holds t n.out0 (w.out0 ++ (frames_pieces c spec 1 lined).out0)
+      × Holds t n.out1 (w.out1 ++ (frames_pieces c spec 1 lined).out1)
+
+-- the three files, empty at first, were written so that the log follows the captures
+pub record StopsFollowing (s t : Disk) (o : Outputs) (c spec : Small) (frames : List Framed) : Type 0 where
+  pub follows : (n : RunFiles) → AreDistinct n → AreWriting s o n nothing → IsTrue s.tells_made →
+      (lined : List Framed) × (others : List Framed) × (frames ≡ lined ++ others)
+      × IsBegun t n.log (log_of (handled_by c lined))
+      × ((lined ≡ []) ⊎ (Holds t n.out0 (capture_to 0 (handled_by spec lined)) × Holds t n.out1 (capture_to 1 (handled_by spec lined))))

@@ -1,11 +1,12 @@
 //! Handling the frames of the input.
-ghost use Rattle.std.specs.Prelude.{◌≡◌, ◌≤◌, ◌<◌, ◌+◌, ◌^◌, [], length, map, OnOk, IfOk};
-ghost use Rattle.vg_pcap.specs.Frames.{Framed, Fits, header};
+ghost use Rattle.std.specs.Prelude.{◌≡◌, ◌≤◌, ◌<◌, ◌+◌, ◌^◌, length, OnErr, IfOk, IsTrue};
+ghost use Rattle.vg_pcap.specs.Frames.{Fits};
 ghost use Rattle.vg_pcap.specs.View.{view};
 ghost use Rattle.vg_base.specs.Files.{Writes, IsOpen, WritesAll};
 ghost use Rattle.vg_top.specs.RunFiles.{run_files_of};
-ghost use Rattle.vg_top.specs.Outputs.{goes_to, piece_to, handle_at, handled_by, line_of, written_for, totals_of};
-ghost use Rattle.vg_top.specs.Writing.{AreWritable, Sends, Replays, frame_pieces, headers, frames_pieces};
+ghost use Rattle.vg_top.specs.Effects.{LogFollows};
+ghost use Rattle.vg_top.specs.Outputs.{goes_to, piece_to, handle_at, handled_by, written_for, totals_of};
+ghost use Rattle.vg_top.specs.Writing.{AreWritable, AreDistinct, Sends, Replays, StopsInOrder, StopsBehind, StopsFollowing, frame_pieces, frames_pieces};
 
 use crate::lines::log_line;
 use crate::names::Names;
@@ -37,7 +38,8 @@ fn send_to<F: Files>(
 ) -> Result<(), Failed>
     requires open { IsOpen Writes ((F.disk files.old).opened id) }
     requires fits { Fits (view frame.now) }
-    ensures { WritesAll (F.disk files.old) (F.disk files.new) id (piece_to port (handle_at spec.now (view frame.now))) result }
+    ensures { WritesAll (F.disk files.old) (F.disk files.new) id
+        (piece_to port (handle_at spec.now (view frame.now))) result }
 {
     if goes_to(spec.verdict(0), port) {
         put_frame(files, id, frame)
@@ -58,7 +60,10 @@ fn handle<F: Files>(
 ) -> Result<(), Failed>
     requires writable { AreWritable (F.disk files.old) outputs.now }
     requires fits { Fits (view frame.now) }
-    ensures { Sends (F.disk files.old) (F.disk files.new) outputs.now (frame_pieces c.now spec.now number (view frame.now)) result }
+    ensures sends { Sends (F.disk files.old) (F.disk files.new) outputs.now
+        (frame_pieces c.now spec.now number (view frame.now)) result }
+    ensures order { OnErr result (StopsInOrder (F.disk files.old) (F.disk files.new) outputs.now
+        (frame_pieces c.now spec.now number (view frame.now))) }
 {
     send_to(files, outputs.out0, 0, spec, frame)?;
     send_to(files, outputs.out1, 1, spec, frame)?;
@@ -76,7 +81,9 @@ fn handle_all<F: Files>(
     requires writable { AreWritable (F.disk files.old) outputs.now }
     requires few { length frames < 2 ^ 31 }
     ensures totals { IfOk result (λ totals. totals ≡ totals_of (handled_by c.now frames.entry)) }
-    ensures sends { Sends (F.disk files.old) (F.disk files.new) outputs.now (frames_pieces c.now spec.now 1 frames.entry) result }
+    ensures sends { Sends (F.disk files.old) (F.disk files.new) outputs.now
+        (frames_pieces c.now spec.now 1 frames.entry) result }
+    ensures order { OnErr result (StopsBehind (F.disk files.old) (F.disk files.new) outputs.now c.now spec.now frames.entry) }
 {
     let mut frames = frames;
     let mut totals = Totals::default();
@@ -98,7 +105,9 @@ fn write_all<F: Files>(
     requires writable { AreWritable (F.disk files.old) outputs.now }
     requires few { length frames < 2 ^ 31 }
     ensures totals { IfOk result (λ totals. totals ≡ totals_of (handled_by c.now frames.entry)) }
-    ensures sends { Sends (F.disk files.old) (F.disk files.new) outputs.now (written_for c.now spec.now frames.entry) result }
+    ensures sends { Sends (F.disk files.old) (F.disk files.new) outputs.now
+        (written_for c.now spec.now frames.entry) result }
+    ensures order { OnErr result (StopsFollowing (F.disk files.old) (F.disk files.new) outputs.now c.now spec.now frames.entry) }
 {
     put_header(files, outputs.out0)?;
     put_header(files, outputs.out1)?;
@@ -116,7 +125,10 @@ pub fn replay<F: Files>(
     requires room { (F.disk files.old).open_count + 3 ≤ MAX_OPEN }
     requires few { length frames < 2 ^ 31 }
     ensures totals { IfOk result (λ totals. totals ≡ totals_of (handled_by c.now frames.entry)) }
-    ensures replays { Replays (F.disk files.old) (F.disk files.new) (run_files_of names.now) (written_for c.now spec.now frames.entry) result }
+    ensures replays { Replays (F.disk files.old) (F.disk files.new) (run_files_of names.now)
+        (written_for c.now spec.now frames.entry) result }
+    ensures follows { OnErr result (AreDistinct (run_files_of names.now) → IsTrue (F.disk files.old).tells_made →
+        LogFollows (F.disk files.old) (F.disk files.new) (run_files_of names.now) c.now spec.now frames.entry) }
 {
     let outputs = create_all(files, names)?;
     let written = write_all(files, &outputs, c, spec, frames);

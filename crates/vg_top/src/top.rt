@@ -88,21 +88,33 @@ pub fn refuse<O: Sink>(out: &mut O, stop: Stop) -> Status
 pub fn run<F: Files, O: Sink>(alloc: Global, words: &[String], files: &mut F, out: &mut O) -> Status
     requires { (F.disk files.old).open_count + 3 ≤ MAX_OPEN }
     ensures known { IsStatus result.0 }
-    ensures done { result.0 ≡ 0 → IsDone (words_in words.now) (F.disk files.old) (F.disk files.new) (O.flow out.old) (O.flow out.new) }
-    ensures wrong { result.0 ≡ 1 → (at : ℕ) × (port : ℕ) × IsStopped (words_in words.now) (F.disk files.old) (F.disk files.new) (O.flow out.old) (O.flow out.new) (Stop.Wrong at port) }
-    ensures limit { result.0 ≡ 11 → (lang : Lang) × IsStopped (words_in words.now) (F.disk files.old) (F.disk files.new) (O.flow out.old) (O.flow out.new) (Stop.Limit lang) }
-    ensures not_built { result.0 ≡ 12 → (what : Unbuilt) × IsStopped (words_in words.now) (F.disk files.old) (F.disk files.new) (O.flow out.old) (O.flow out.new) (Stop.NotBuilt what) }
+    ensures done { result.0 ≡ 0 →
+        IsDone (words_in words.now) (F.disk files.old) (F.disk files.new) (O.flow out.old) (O.flow out.new) }
+    ensures wrong { result.0 ≡ 1 → (at : ℕ) × (port : ℕ) ×
+        IsStopped (words_in words.now) (F.disk files.old) (F.disk files.new) (O.flow out.old) (O.flow out.new) (Stop.Wrong at port) }
+    ensures limit { result.0 ≡ 11 → (lang : Lang) ×
+        IsStopped (words_in words.now) (F.disk files.old) (F.disk files.new) (O.flow out.old) (O.flow out.new) (Stop.Limit lang) }
+    ensures not_built { result.0 ≡ 12 → (what : Unbuilt) ×
+        IsStopped (words_in words.now) (F.disk files.old) (F.disk files.new) (O.flow out.old) (O.flow out.new) (Stop.NotBuilt what) }
 
     // What the words and the files come to is answered, but for a fault or want of memory.
-    ensures exactly { IsTrue (F.disk files.old).tells_held → (ending : Ending) → ComesTo (F.disk files.old) (words_in words.now) ending → (result.0 ≡ status_at ending) ⊎ IsFaultOrMemory result.0 }
+    ensures exactly { IsTrue (F.disk files.old).tells_held →
+        (ending : Ending) → ComesTo (F.disk files.old) (words_in words.now) ending →
+        (result.0 ≡ status_at ending) ⊎ IsFaultOrMemory result.0 }
 
-    ensures read { result.0 ≡ 6 → IsStopped (words_in words.now) (F.disk files.old) (F.disk files.new) (O.flow out.old) (O.flow out.new) Stop.Read }
-    ensures write { result.0 ≡ 7 → IsStopped (words_in words.now) (F.disk files.old) (F.disk files.new) (O.flow out.old) (O.flow out.new) Stop.Write ⊎ FailsPrinting (words_in words.now) (F.disk files.old) (F.disk files.new) (O.flow out.old) (O.flow out.new) }
-    ensures memory { result.0 ≡ 8 → IsStopped (words_in words.now) (F.disk files.old) (F.disk files.new) (O.flow out.old) (O.flow out.new) Stop.Memory }
-    ensures quiet { result.0 ≢ 6 → result.0 ≢ 7 → IsQuiet (F.disk files.old) (F.disk files.new) (O.flow out.old) (O.flow out.new) }
+    ensures read { result.0 ≡ 6 →
+        IsStopped (words_in words.now) (F.disk files.old) (F.disk files.new) (O.flow out.old) (O.flow out.new) Stop.Read }
+    ensures write { result.0 ≡ 7 →
+        IsStopped (words_in words.now) (F.disk files.old) (F.disk files.new) (O.flow out.old) (O.flow out.new) Stop.Write
+        ⊎ FailsPrinting (words_in words.now) (F.disk files.old) (F.disk files.new) (O.flow out.old) (O.flow out.new) }
+    ensures memory { result.0 ≡ 8 →
+        IsStopped (words_in words.now) (F.disk files.old) (F.disk files.new) (O.flow out.old) (O.flow out.new) Stop.Memory }
+    ensures quiet { result.0 ≢ 6 → result.0 ≢ 7 →
+        IsQuiet (F.disk files.old) (F.disk files.new) (O.flow out.old) (O.flow out.new) }
 
     // Whatever the status: no output holds more than first bytes of what it should, and what can be read stays.
-    ensures outputs { Unwritten (F.disk files.old) (F.disk files.new) ⊎ BeganReplay (words_in words.now) (F.disk files.old) (F.disk files.new) }
+    ensures outputs { Unwritten (F.disk files.old) (F.disk files.new)
+        ⊎ BeganReplay (words_in words.now) (F.disk files.old) (F.disk files.new) }
     ensures held { SameHeld (F.disk files.old) (F.disk files.new) }
     ensures ids { SameIds (F.disk files.old) (F.disk files.new) }
     ensures tells { (O.flow out.new).tells_made ≡ (O.flow out.old).tells_made }

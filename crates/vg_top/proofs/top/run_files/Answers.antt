@@ -44,5 +44,5 @@ returns g c =
       ids = same.1;
       done = tt;
       stops = replay_failed c.in-Ok.functions c.in-Ok-load_input.input c.in-Some.frames (own_distinct files c.requires.own) c.in-Ok.ensures c.in-Ok-load_input.ensures
-          (rw c.deref.ensures.value at c.in-Some.ensures.whole) c.in-Err-replay.ensures.replays;
+          (rw c.deref.ensures.value at c.in-Some.ensures.whole) c.in-Err-replay.ensures.replays c.in-Err-replay.ensures.follows;
     }

@@ -1,0 +1,5 @@
+use Rattle.vg_lpm.proofs.tests.bits_past_the_length_do_not_count.Given as goal
+
+-- the ledger that the blank stands for
+abbrev pub ghosts-first_wrong : goal.ghosts-first_wrong
+ghosts-first_wrong g a = record { name = a.blank.name; parts = a.blank.parts }

@@ -1,0 +1,6 @@
+//! The types of a specification and of its configuration.
+#![tactic(auto)]
+
+mod config;
+
+pub use config::Route;

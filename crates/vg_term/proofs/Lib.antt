@@ -1,0 +1,5 @@
+pub mod Same
+pub mod Standing
+pub mod Made
+pub mod Values
+pub mod Meanings

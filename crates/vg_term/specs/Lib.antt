@@ -1,0 +1,4 @@
+pub mod Operations
+pub mod Terms
+pub mod Value
+pub mod Folding

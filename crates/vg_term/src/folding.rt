@@ -1,0 +1,66 @@
+//! Constructors that fold: the answered term may be a simpler one of the same value.
+
+ghost use Rattle.std.specs.Prelude.{map, All, IfSome};
+ghost use Rattle.vg_term.specs.Operations.{Fits};
+ghost use Rattle.vg_term.specs.Terms.{Stands, width_at};
+ghost use Rattle.vg_term.specs.Folding.{Folds, IsWord, IsAnswer};
+
+use crate::applying::apply;
+use crate::node::{Node, Op, Parts, TermId};
+use crate::stops::TermStop;
+use crate::terms::Terms;
+use vg_bits::Word;
+
+impl Terms {
+    /// The word of a term that is a constant.
+    pub fn constant(&self, term: TermId) -> Option<Word>
+        requires { Stands self.now term }
+        ensures { IfSome result (λ w. IsWord self.now term w) }
+    {
+        match self.node(term) {
+            Node::Op(op, _) => match op {
+                Op::Const(word) => Some(word),
+                _ => None,
+            },
+            Node::Var { .. } => None,
+        }
+    }
+
+    /// A term for an operation on parts that fit it, folded where all of them are constants.
+    pub fn build(&mut self, op: Op, parts: &[TermId]) -> Result<TermId, TermStop>
+        requires parts_stand { All (Stands self.old) parts.now }
+        requires fits { Fits op (map (width_at self.old) parts.now) }
+        ensures { Folds self.old self.new op parts.now result }
+    {
+        match self.answer_on_constants(op, parts) {
+            Some(word) => self.make(Op::Const(word), &[]),
+            None => self.make(op, parts),
+        }
+    }
+
+    // What the operation answers, where all its parts are constants.
+    fn answer_on_constants(&self, op: Op, parts: &[TermId]) -> Option<Word>
+        requires parts_stand { All (Stands self.now) parts.now }
+        requires fits { Fits op (map (width_at self.now) parts.now) }
+        ensures { IfSome result (λ w. IsAnswer self.now op parts.now w) }
+    {
+        match Parts::new(parts) {
+            Parts::Zero => None,
+            Parts::One(a) => {
+                let word = self.constant(a)?;
+                Some(apply(op, &[word]))
+            }
+            Parts::Two(a, b) => {
+                let left = self.constant(a)?;
+                let right = self.constant(b)?;
+                Some(apply(op, &[left, right]))
+            }
+            Parts::Three(c, a, b) => {
+                let condition = self.constant(c)?;
+                let left = self.constant(a)?;
+                let right = self.constant(b)?;
+                Some(apply(op, &[condition, left, right]))
+            }
+        }
+    }
+}

@@ -1,0 +1,17 @@
+// Terms over machine words: a shared store of operations and variables, their values, and constructors that fold.
+#![tactic(auto)]
+
+mod applying;
+mod folding;
+mod node;
+mod stops;
+mod terms;
+#[cfg(test)]
+mod tests;
+mod valuing;
+
+pub use applying::apply;
+pub use node::{Node, Op, Parts, TermId};
+pub use stops::{Memory, TermStop};
+pub use terms::{MOST_TERMS, Terms};
+pub use valuing::{Assign, value};

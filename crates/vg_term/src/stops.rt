@@ -1,0 +1,19 @@
+//! Why a term was not made.
+
+use thiserror::Error;
+
+/// Memory ran out.
+#[derive(Clone, Copy, Debug, PartialEq, Eq, Error)]
+#[error("out of memory")]
+pub struct Memory;
+
+/// Why a term was not made. The terms are then as they were.
+#[derive(Clone, Copy, Debug, PartialEq, Eq, Error)]
+pub enum TermStop {
+    /// `MOST_TERMS` terms stand, and a new one is needed.
+    #[error("too many terms")]
+    Full,
+    /// Memory ran out.
+    #[error("out of memory")]
+    Memory,
+}
