@@ -1,16 +1,15 @@
 -- Laws of lists that are made term by term.
-use Rattle.std.proofs.Common.{◌≡◌, ℕ, suc, zero, ◌+◌, ◌-◌, ◌<◌, ◌≤◌, List, [], ◌∷◌, ◌++◌, map, length, get_or, take, drop, slice_get, unwrap_or, is_some, true≢false, length-take-le, Option, Some, None, Result, Ok, Err, ◌↔◌, add-zero, Contains, All, ◌⊎◌, refl, sym, ap, subst, ◌∙◌, inl, inr, arith}
+use Rattle.std.proofs.Common.{◌≡◌, ℕ, suc, zero, ◌+◌, ◌<◌, ◌≤◌, List, [], ◌∷◌, ◌++◌, map, length, take, drop, slice_get, unwrap_or, is_some, true≢false, length-take-le, Some, Result, Ok, Err, ◌↔◌, add-zero, Contains, All, ◌⊎◌, refl, sym, ap, subst, ◌∙◌, inl, inr, arith}
 use Rattle.std.proofs.lemmas.Bool.{cases_lt}
 use Rattle.std.proofs.lemmas.List.{length-append, take-append-drop, take-append-le, get_or_append_left}
 use Rattle.std.proofs.lemmas.List.Elements.{All-head, All-tail}
-use Rattle.std.proofs.lemmas.Option.{slice_get_within, slice_get-get_or, get_or_from_slice_get, slice_get_read, slice_get_past}
+use Rattle.std.proofs.lemmas.Option.{slice_get_within, slice_get-get_or, slice_get_past}
 use Rattle.std.proofs.Math.Seq.{take-append_seam}
 use Rattle.vg_term.specs.Operations.{Fits, width_of}
 use Rattle.vg_term.specs.Terms.{Term, Stands, ComesNext, AreTerms, nothing, extended, HasWidth, Needs, width_at, width_in, variable_count, listed, held, operation}
 use Rattle.vg_term.specs.declared.node.TermId.{TermId}
 use Rattle.vg_term.specs.declared.node.Op.{Op}
 use Rattle.vg_term.specs.declared.node.Parts.{Parts}
-use Rattle.vg_term.specs.declared.node.Node.{Node}
 use Rattle.vg_term.specs.declared.node.Node.TheVariants as nodes
 use Rattle.vg_term.specs.declared.stops.TermStop.{TermStop}
 use Rattle.vg_term.specs.declared.stops.TermStop.TheVariants as stops

@@ -1,11 +1,11 @@
 -- What a term that is answered stands for.
-use Rattle.std.proofs.Common.{◌≡◌, ℕ, List, [], ◌∷◌, ◌++◌, map, slice_get, Option, Some, None, Result, Ok, Err, IfOk, Contains, All, refl, sym, ap, subst, ◌∙◌, inl, inr, arith}
+use Rattle.std.proofs.Common.{◌≡◌, ℕ, List, [], ◌∷◌, ◌++◌, map, slice_get, Some, Result, Ok, Err, All, refl, sym, ap, subst, ◌∙◌, inl, inr}
 use Rattle.std.proofs.lemmas.List.{append-nil}
 use Rattle.std.proofs.lemmas.Option.{slice_get_within}
 use Rattle.vg_bits.specs.declared.word.Word.{Word}
-use Rattle.vg_term.specs.Operations.{Bits, bits_of, widths, answer, width_of, Fits}
+use Rattle.vg_term.specs.Operations.{bits_of, widths, answer, width_of, Fits}
 use Rattle.vg_term.specs.Terms.{Term, Stands, AreTerms, Needs, width_at, width_in, listed, held, operation}
-use Rattle.vg_term.specs.Value.{value_of, bits_at, entry_value, Assigns, HasItsWord}
+use Rattle.vg_term.specs.Value.{bits_at, entry_value, Assigns}
 use Rattle.vg_term.specs.Folding.{Grows, StandsFor, Folds, IsWord, IsAnswer}
 use Rattle.vg_term.specs.declared.node.TermId.{TermId}
 use Rattle.vg_term.specs.declared.node.Op.{Op}

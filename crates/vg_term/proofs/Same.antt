@@ -1,5 +1,5 @@
 -- The derived equality of nodes is equality.
-use Rattle.std.proofs.Common.{◌≡◌, ◌&&◌, ℕ, Bool, true, false, refl, sym, ap, ◌∙◌, true≢false}
+use Rattle.std.proofs.Common.{◌≡◌, ◌&&◌, ℕ, Bool, true, false, refl, ap}
 use Rattle.std.proofs.lemmas.Bool.{false≢true, eqb-true}
 use Rattle.std.proofs.Math.Dec.{eqb}
 use Rattle.vg_bits.proofs.Laws.{same_word}
@@ -11,7 +11,6 @@ use Rattle.vg_term.specs.declared.node.Parts.{Parts}
 use Rattle.vg_term.specs.declared.node.Parts.TheVariants.{Zero, One, Two, Three}
 use Rattle.vg_term.specs.declared.node.Node.{Node}
 use Rattle.vg_term.specs.declared.node.Node.TheVariants as nodes
-use Rattle.vg_term.specs.contracts.node.TermIdPartialEq.TheImpl as id
 use Rattle.vg_term.specs.contracts.node.OpPartialEq.TheImpl as op
 use Rattle.vg_term.specs.contracts.node.PartsPartialEq.TheImpl as parts
 use Rattle.vg_term.specs.contracts.node.NodePartialEq.TheImpl as node

@@ -3,15 +3,14 @@ use Rattle.std.proofs.lemmas.Bool.{cases_lt}
 use Rattle.std.proofs.lemmas.Option.{get_or_from_slice_get}
 use Rattle.std.proofs.lemmas.List.{get_or-set_other}
 use Rattle.std.proofs.lemmas.Grind.{get_or-set_at}
-use Rattle.std.proofs.Common.{◌≡◌, ◌≢◌, ℕ, suc, zero, ◌+◌, ◌-◌, ◌<◌, ◌≤◌, List, [], ◌∷◌, ◌++◌, map, length, set, get_or, slice_get, Option, Some, None, All, refl, sym, ap, subst, ◌∙◌, inl, inr, arith}
+use Rattle.std.proofs.Common.{◌≡◌, ◌≢◌, ℕ, suc, zero, ◌+◌, ◌<◌, ◌≤◌, List, [], ◌∷◌, ◌++◌, map, length, set, get_or, slice_get, Option, Some, None, All, refl, sym, ap, subst, ◌∙◌, inl, inr, arith}
 use Rattle.vg_bits.specs.declared.word.Word.{Word}
 use Rattle.vg_term.specs.Operations.{Bits, bits_of, widths, answer, width_of, Fits}
 use Rattle.vg_term.specs.Terms.{Term, Stands, AreTerms, width_at, width_in, listed}
-use Rattle.vg_term.specs.Value.{value_to, value_of, bits_at, node_value, entry_value, assigned, Assigns, AreReckoned}
+use Rattle.vg_term.specs.Value.{value_to, value_of, bits_at, entry_value, assigned, AreReckoned}
 use Rattle.vg_term.specs.declared.node.TermId.{TermId}
 use Rattle.vg_term.specs.declared.node.Op.{Op}
 use Rattle.vg_term.specs.declared.node.Parts.{Parts}
-use Rattle.vg_term.specs.declared.node.Node.{Node}
 use Rattle.vg_term.specs.declared.node.Node.TheVariants as nodes
 use Rattle.vg_term.proofs.Made.{is_made, same_map, stays, same_width}
 

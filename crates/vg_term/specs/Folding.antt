@@ -1,5 +1,5 @@
 -- What the constructors that fold promise: another term may stand for the operation, and its value is the operation's under every assignment.
-use Rattle.std.specs.Prelude.{◌≡◌, ℕ, ◌<◌, List, [], ◌∷◌, ◌++◌, map, Result, IfOk, OnErr, Ok, Err}
+use Rattle.std.specs.Prelude.{◌≡◌, List, ◌++◌, map, Result, IfOk, OnErr}
 use Rattle.vg_bits.specs.declared.word.Word.{Word}
 use Rattle.vg_term.specs.Operations.{answer, width_of, bits_of}
 use Rattle.vg_term.specs.Terms.{Term, Stands, width_at}

@@ -1,4 +1,4 @@
-use Rattle.std.proofs.Common.{refl, inl, inr, ◌≡◌, ◌∙◌, sym, Some, Ok, Err, List, ◌∷◌, [], ◌++◌, ap, subst, slice_get, arith}
+use Rattle.std.proofs.Common.{refl, inl, inr, ◌≡◌, ◌∙◌, sym, Some, List, ◌∷◌, [], ◌++◌, ap, slice_get, arith}
 use Rattle.vg_term.specs.Terms.{Term}
 use Rattle.vg_term.proofs.Standing.{found, absent, contains_at, last_is, answered, added}
 use Rattle.vg_term.proofs.terms.need.Goals as goal

@@ -1,0 +1,5 @@
+pub mod Cuts
+pub mod Sizes
+pub mod Lens
+pub mod NumberLaws
+pub mod CommentLaws
