@@ -1,0 +1,45 @@
+//! A bench: runs one layer of the program on made input, to be timed from outside.
+#![tactic(auto)]
+
+mod containers;
+mod count;
+mod keys;
+mod stop;
+
+use crate::stop::Stop;
+use std::env::Env;
+use std::process::ExitCode;
+use std::{env, io};
+
+// The words of the command line, without the program's name.
+fn words(rt: &(impl Env + AllocGlobal)) -> io::Result<Vec<String>> {
+    let mut words = Vec::new(rt.alloc());
+    for word in env::args(rt)?.skip(1) {
+        words.push(word)?;
+    }
+    Ok(words)
+}
+
+// Runs the layer that the first word names, with the words after it.
+fn run(rt: &(impl Env + AllocGlobal + Print)) -> Result<(), Stop> {
+    let words = match words(rt) {
+        Ok(words) => words,
+        Err(error) if error.kind() == io::ErrorKind::OutOfMemory => return Err(Stop::Memory),
+        // Words that aren't text are no command.
+        Err(_) => return Err(Stop::Usage),
+    };
+    match words.as_slice() {
+        [layer, rest @ ..] if layer.as_str() == "containers" => containers::run(rt, rest),
+        _ => Err(Stop::Usage),
+    }
+}
+
+fn main(rt: HostRuntime) -> ExitCode {
+    let Err(stop) = run(&rt) else {
+        return ExitCode::SUCCESS;
+    };
+    match println!(&rt; "{stop}") {
+        Ok(()) => ExitCode::from(stop.status()),
+        Err(_) => ExitCode::from(Stop::Print.status()),
+    }
+}
