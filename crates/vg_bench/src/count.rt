@@ -23,3 +23,32 @@ pub fn count_of(word: &str) -> Option<u32>
     }
     Some(count)
 }
+
+#[cfg(test)]
+mod tests {
+    use super::*;
+    use std::test::Fail;
+
+    #[test]
+    fn plain_decimal_numbers_only(rt: HostRuntime) -> Result<(), Fail> {
+        assert_eq!(rt; count_of("0"), Some(0));
+        assert_eq!(rt; count_of("10"), Some(10));
+        assert_eq!(rt; count_of("1000000000"), Some(1_000_000_000));
+        for word in [
+            "",
+            "+1",
+            "-1",
+            "01",
+            "00",
+            " 1",
+            "1 ",
+            "1e6",
+            "1_000",
+            "1000000001",
+            "4294967296",
+        ] {
+            assert_eq!(rt; count_of(word), None, "for {word}");
+        }
+        Ok(())
+    }
+}
