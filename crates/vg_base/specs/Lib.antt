@@ -8,3 +8,4 @@ pub mod Pages
 pub mod Memory
 pub mod MemorySink
 pub mod Handle
+pub mod Several

@@ -1,7 +1,9 @@
 -- The bytes of a capture: the file format pcap, version 2.4, as libpcap's manual page pcap-savefile(5) has it.
-use Rattle.std.specs.Prelude.{ℕ, ◌≡◌, ◌<◌, ◌≤◌, ◌^◌, ◌++◌, List, length, All}
+use Rattle.std.specs.Prelude.{ℕ, ◌≡◌, ◌≢◌, ◌<◌, ◌≤◌, ◌^◌, ◌++◌, ◌⊎◌, List, [], length, take, drop, All}
 use Rattle.std.specs.List.{flat_map}
 use Rattle.byteorder.specs.Endian.{little_bytes, big_bytes}
+use Rattle.vg_pcap.specs.declared.faults.HeaderField.{HeaderField}
+use Rattle.vg_pcap.specs.declared.faults.HeaderField.TheVariants.{Length, Magic, Version, Link}
 
 -- which byte of a number stands first: the least or the greatest
 pub data Order : Type 0 where
@@ -38,12 +40,62 @@ abbrev pub nanoseconds_per_unit : Resolution → ℕ
 nanoseconds_per_unit Microseconds = 1000
 nanoseconds_per_unit Nanoseconds = 1
 
+-- ---- headers
+
+-- what a capture begins with: the magic
+abbrev pub magic_bytes : Encoding → List ℕ
+magic_bytes encoding = number_bytes encoding.order 4 (magic encoding.resolution)
+
+-- version 2.4
+abbrev pub version_bytes : Encoding → List ℕ
+version_bytes encoding = number_bytes encoding.order 2 2 ++ number_bytes encoding.order 2 4
+
+-- the link type of Ethernet
+abbrev pub link_bytes : Encoding → List ℕ
+link_bytes encoding = number_bytes encoding.order 4 1
+
+-- the bytes of a header: the magic, version 2.4, then zone, accuracy and snap length, which a reader ignores, and the link type of Ethernet
+unfoldable pub header_bytes : Encoding → List ℕ → List ℕ
+header_bytes encoding ignored = magic_bytes encoding ++ version_bytes encoding ++ ignored ++ link_bytes encoding
+
+-- the file begins with a header, and these bytes stand behind it
+pub record HasHeader (encoding : Encoding) (file behind : List ℕ) : Type 0 where
+  pub ignored : List ℕ
+  pub ignored_size : length ignored ≡ 12
+  pub whole : file ≡ header_bytes encoding ignored ++ behind
+
+-- the file begins with the magic of an encoding, and has a header's 24 bytes
+pub record HasMagic (encoding : Encoding) (file : List ℕ) : Type 0 where
+  pub long : 24 ≤ length file
+  pub magic : take 4 file ≡ magic_bytes encoding
+
+-- why a file begins with no header; of several reasons the first in this order
+abbrev pub IsBadHeader : List ℕ → HeaderField → Type 0
+IsBadHeader file Length = length file < 24
+IsBadHeader file Magic = (24 ≤ length file) × ((encoding : Encoding) → take 4 file ≢ magic_bytes encoding)
+IsBadHeader file Version = (encoding : Encoding) × HasMagic encoding file × (take 4 (drop 4 file) ≢ version_bytes encoding)
+IsBadHeader file Link =
+    (encoding : Encoding) × HasMagic encoding file × (take 4 (drop 4 file) ≡ version_bytes encoding) × (take 4 (drop 20 file) ≢ link_bytes encoding)
+
+-- ---- records
+
 -- a packet as a capture keeps it: when it was seen, how long it was then, and the bytes of it that were captured
 pub record Record : Type 0 where
   pub seconds : ℕ
   pub fraction : ℕ
   pub original : ℕ
   pub captured : List ℕ
+
+-- the numbers that stand before the captured bytes
+pub record RecordHead : Type 0 where
+  pub seconds : ℕ
+  pub fraction : ℕ
+  pub size : ℕ
+  pub original : ℕ
+
+-- those of a record
+abbrev pub head_of : Record → RecordHead
+head_of r = record { seconds = r.seconds; fraction = r.fraction; size = length r.captured; original = r.original }
 
 -- the most bytes of a packet that are taken; libpcap's own largest snapshot length
 abbrev pub longest : ℕ
@@ -56,25 +108,67 @@ pub record IsGood (encoding : Encoding) (r : Record) : Type 0 where
   pub original : r.original < 2 ^ 32
   pub captured : length r.captured ≤ longest
 
--- what stands before the captured bytes: four numbers of 32 bits
-unfoldable pub record_head : Encoding → Record → List ℕ
-record_head encoding r =
-    number_bytes encoding.order 4 r.seconds ++ number_bytes encoding.order 4 r.fraction ++ number_bytes encoding.order 4 (length r.captured)
-    ++ number_bytes encoding.order 4 r.original
+-- a record begins with four numbers of 32 bits
+unfoldable pub head_bytes : Encoding → RecordHead → List ℕ
+head_bytes encoding h =
+    number_bytes encoding.order 4 h.seconds ++ number_bytes encoding.order 4 h.fraction ++ number_bytes encoding.order 4 h.size ++ number_bytes encoding.order 4 h.original
 
 -- a record's bytes
 abbrev pub record_bytes : Encoding → Record → List ℕ
-record_bytes encoding r = record_head encoding r ++ r.captured
+record_bytes encoding r = head_bytes encoding (head_of r) ++ r.captured
 
--- the bytes of a header: the magic, version 2.4, then zone, accuracy and snap length, which a reader ignores, and the link type of Ethernet
-unfoldable pub header_bytes : Encoding → List ℕ → List ℕ
-header_bytes encoding ignored =
-    number_bytes encoding.order 4 (magic encoding.resolution) ++ number_bytes encoding.order 2 2 ++ number_bytes encoding.order 2 4 ++ ignored
-    ++ number_bytes encoding.order 4 1
+-- the bytes begin with these numbers, and others stand behind them
+pub record HasHead (encoding : Encoding) (bytes : List ℕ) (h : RecordHead) (behind : List ℕ) : Type 0 where
+  pub seconds : h.seconds < 2 ^ 32
+  pub fraction : h.fraction < 2 ^ 32
+  pub size : h.size < 2 ^ 32
+  pub original : h.original < 2 ^ 32
+  pub whole : bytes ≡ head_bytes encoding h ++ behind
 
--- the file is a whole capture with these records: a header, and then one record after another up to the end
-pub record HoldsRecords (encoding : Encoding) (file : List ℕ) (records : List Record) : Type 0 where
-  pub ignored : List ℕ
-  pub ignored_size : length ignored ≡ 12
+-- ---- damage
+
+-- why a record is refused
+pub data Damage : Type 0 where
+  -- the file ends inside it
+  Cut : Damage
+  -- more than the longest was captured
+  Long : Damage
+  -- its fraction is a second or more
+  Fraction : Damage
+
+-- A record begins with these bytes, of which there are some, and is refused. The fraction is looked at first, then how much was captured, and
+-- then whether that is there.
+abbrev pub IsDamaged : Encoding → List ℕ → Damage → Type 0
+IsDamaged encoding bytes Fraction =
+    (h : RecordHead) × (behind : List ℕ) × HasHead encoding bytes h behind × (units_per_second encoding.resolution ≤ h.fraction)
+IsDamaged encoding bytes Long =
+    (h : RecordHead) × (behind : List ℕ) × HasHead encoding bytes h behind × (h.fraction < units_per_second encoding.resolution) × (longest < h.size)
+IsDamaged encoding bytes Cut =
+    ((bytes ≢ []) × (length bytes < 16))
+    ⊎ ((h : RecordHead) × (behind : List ℕ) × HasHead encoding bytes h behind × (h.fraction < units_per_second encoding.resolution) × (h.size ≤ longest)
+        × (length behind < h.size))
+
+-- ---- whole files
+
+-- how a capture ends: where its file does, or at a record that is refused
+pub data CaptureEnd : Type 0 where
+  Whole : CaptureEnd
+  Refused : Damage → CaptureEnd
+
+-- what stands behind the good records
+abbrev pub EndsWith : Encoding → List ℕ → CaptureEnd → Type 0
+EndsWith encoding rest Whole = rest ≡ []
+EndsWith encoding rest (Refused damage) = IsDamaged encoding rest damage
+
+-- the bytes are these good records, one after another, up to such an end
+pub record AreRecords (encoding : Encoding) (bytes : List ℕ) (records : List Record) (end : CaptureEnd) : Type 0 where
   pub good : All (IsGood encoding) records
-  pub whole : file ≡ header_bytes encoding ignored ++ flat_map (record_bytes encoding) records
+  pub rest : List ℕ
+  pub whole : bytes ≡ flat_map (record_bytes encoding) records ++ rest
+  pub ends : EndsWith encoding rest end
+
+-- the file is a capture with these records: a header, and then the records up to such an end
+pub record HoldsRecords (encoding : Encoding) (file : List ℕ) (records : List Record) (end : CaptureEnd) : Type 0 where
+  pub behind : List ℕ
+  pub header : HasHeader encoding file behind
+  pub records_are : AreRecords encoding behind records end

@@ -1,7 +1,7 @@
 -- The frames of a capture, and the capture that is written of frames.
 use Rattle.std.specs.Prelude.{ℕ, ◌≡◌, ◌<◌, ◌≤◌, ◌+◌, ◌*◌, ◌/◌, ◌%◌, ◌^◌, ◌++◌, max, List, [], ◌∷◌, length}
 use Rattle.std.specs.List.{flat_map}
-use Rattle.vg_pcap.specs.Captures.{Encoding, Little, Microseconds, Nanoseconds, number_bytes, nanoseconds_per_unit, Record, record_bytes, header_bytes, longest, HoldsRecords}
+use Rattle.vg_pcap.specs.Captures.{Encoding, Little, Nanoseconds, number_bytes, nanoseconds_per_unit, Record, record_bytes, header_bytes, longest, CaptureEnd, Whole, HoldsRecords}
 
 -- a frame as contracts see it: when it came, in nanoseconds, how long it was before it was cut, and its bytes
 pub record Framed : Type 0 where
@@ -24,19 +24,20 @@ frames_after encoding latest [] = []
 frames_after encoding latest (r ∷ records) =
     frame_of encoding latest r ∷ frames_after encoding (max latest (time_of encoding r)) records
 
--- the file is a whole capture of this encoding, and these are its frames
-pub record HoldsFramesAs (encoding : Encoding) (file : List ℕ) (frames : List Framed) : Type 0 where
+-- the frames that come in one after another, and how that ends
+pub record Stream : Type 0 where
+  pub frames : List Framed
+  pub end : CaptureEnd
+
+-- the file is a capture of this encoding, and this is its stream
+pub record HoldsStreamAs (encoding : Encoding) (file : List ℕ) (stream : Stream) : Type 0 where
   pub records : List Record
-  pub held : HoldsRecords encoding file records
-  pub are : frames ≡ frames_after encoding 0 records
+  pub held : HoldsRecords encoding file records stream.end
+  pub are : stream.frames ≡ frames_after encoding 0 records
 
--- the encoding that is read: little-endian, times in microseconds
-abbrev pub read_encoding : Encoding
-read_encoding = record { order = Little; resolution = Microseconds }
-
--- the file is a whole capture that can be read, and these are its frames
-abbrev pub HoldsFrames : List ℕ → List Framed → Type 0
-HoldsFrames file frames = HoldsFramesAs read_encoding file frames
+-- the file is a capture, and this is its stream
+abbrev pub HoldsStream : List ℕ → Stream → Type 0
+HoldsStream file stream = (encoding : Encoding) × HoldsStreamAs encoding file stream
 
 -- a frame that can be written
 pub record Fits (f : Framed) : Type 0 where

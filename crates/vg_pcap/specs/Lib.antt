@@ -1,4 +1,6 @@
 pub mod Captures
 pub mod Frames
-pub mod View
-pub mod Reading
+pub mod Arrivals
+pub mod Reader
+pub mod Writer
+pub mod Merge

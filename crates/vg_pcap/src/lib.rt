@@ -3,15 +3,15 @@
 //! The format is pcap, version 2.4, as libpcap's manual page pcap-savefile(5) has it, for link type Ethernet.
 #![tactic(auto)]
 
+mod faults;
+mod ffi;
 mod format;
-mod frame;
-mod frames;
-mod reading;
-#[cfg(test)]
-mod tests;
-mod writing;
+mod merge;
+mod reader;
+mod writer;
 
+pub use faults::{CaptureFault, HeaderField};
 pub use format::MAX_CAPTURED;
-pub use frame::Frame;
-pub use frames::Frames;
-pub use writing::{put_frame, put_header};
+pub use merge::{Merge, MergeFault};
+pub use reader::CaptureReader;
+pub use writer::CaptureWriter;
