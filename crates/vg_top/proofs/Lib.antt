@@ -1,3 +1,8 @@
 mod Agreeing
 mod NamesApart
 mod Replayed
+mod Verifying
+mod Captures
+mod Unique
+mod Leaving
+mod Printing

@@ -71,7 +71,7 @@ WroteParts-before s t u made x = record {
 
 -- ---- the run
 
-module _ {s t u : Disk} {n : Files} (f : Functions) (x : ReadsFunctions s t n (Ok f)) where
+module _ {s t : Disk} {n : Files} (f : Functions) (x : ReadsFunctions s t n (Ok f)) where
   held : IsTrue s.tells_held → IsTrue t.tells_held
   held told = rw x.reads.keeps.held.tells_held told
 
@@ -81,8 +81,9 @@ module _ {s t u : Disk} {n : Files} (f : Functions) (x : ReadsFunctions s t n (O
   same : t.held ≡ s.held
   same = x.reads.keeps.held.held
 
+module _ {s t : Disk} (u : Disk) {n : Files} (f : Functions) (x : ReadsFunctions s t n (Ok f)) where
   others_before : (IsTrue t.tells_made → KeepsOthers t u (replay_files n)) → IsTrue s.tells_made → KeepsOthers s u (replay_files n)
-  others_before keeps told = λ name none. keeps (made told) name none ∙ ap (λ (m : List ℕ → _). m name) x.reads.keeps.made
+  others_before keeps told = λ name none. keeps (made f x told) name none ∙ ap (λ (m : List ℕ → _). m name) x.reads.keeps.made
 
   began_before : (IsTrue t.tells_made → KeepsOthers t u (replay_files n)) → Began t u (replay_files n) f.c → BeginsIn s u n
   began_before keeps b = record {
@@ -92,8 +93,8 @@ module _ {s t u : Disk} {n : Files} (f : Functions) (x : ReadsFunctions s t n (O
     began = record {
       frames = b.frames;
       ports = b.ports;
-      first = λ told. first_before same (b.first (held told));
-      wrote = λ told. WroteParts-before s t u x.reads.keeps.made (b.wrote (made told));
+      first = λ told. first_before (same f x) (b.first (held f x told));
+      wrote = λ told. WroteParts-before s t u x.reads.keeps.made (b.wrote (made f x told));
     };
     others = others_before keeps;
   }
@@ -109,8 +110,8 @@ module _ {s t u : Disk} {n : Files} (f : Functions) (x : ReadsFunctions s t n (O
     verified = x.verified;
     frames = y.frames;
     ports = y.ports;
-    handled = λ told. AreUpTo-before same (y.up_to (held told));
-    wrote = λ told. WroteAll-before s t u (y.wrote (made told));
+    handled = λ told. AreUpTo-before (same f x) (y.up_to (held f x told));
+    wrote = λ told. WroteAll-before s t u (y.wrote (made f x told));
     others = others_before keeps;
     no_fault = record { read_faults = y.no_fault.read_faults ∙ x.reads.same; write_faults = y.no_fault.write_faults ∙ x.reads.keeps.write_faults };
   }
@@ -122,9 +123,9 @@ module _ {s t u : Disk} {n : Files} (f : Functions) (x : ReadsFunctions s t n (O
       spec = f.spec;
       verified = x.verified;
       captures = λ told.
-        let bad = y.header (held told) in
+        let bad = y.header (held f x told) in
         let is : bad.0 ≡ field = cc in
-        rw is at (header_before same bad.2);
+        rw is at (header_before {s = s} {t = t} (same f x) bad.2);
     };
     unwritten = unwritten y.made y.no_fault.write_faults;
     no_fault = record { read_faults = y.no_fault.read_faults ∙ x.reads.same; write_faults = y.no_fault.write_faults ∙ x.reads.keeps.write_faults };
@@ -149,8 +150,8 @@ module _ {s t u : Disk} {n : Files} (f : Functions) (x : ReadsFunctions s t n (O
     verified = x.verified;
     frames = y.frames;
     ports = y.ports;
-    handled = λ told. AreTooMany-before same (y.too_many (held told));
-    wrote = λ told. WroteAll-before s t u (y.wrote (made told));
+    handled = λ told. AreTooMany-before (same f x) (y.too_many (held f x told));
+    wrote = λ told. WroteAll-before s t u (y.wrote (made f x told));
     others = others_before keeps;
     no_fault = record { read_faults = y.no_fault.read_faults ∙ x.reads.same; write_faults = y.no_fault.write_faults ∙ x.reads.keeps.write_faults };
   }
@@ -168,9 +169,9 @@ module _ {s t u : Disk} {n : Files} (f : Functions) (x : ReadsFunctions s t n (O
     replayed = record {
       frames = y.frames;
       ports = y.ports;
-      all = λ told. AreAll-before same (y.all (held told));
+      all = λ told. AreAll-before (same f x) (y.all (held f x told));
       totals_are = y.totals_are;
-      wrote = λ told. WroteAll-before s t u (y.wrote (made told));
+      wrote = λ told. WroteAll-before s t u (y.wrote (made f x told));
       no_fault = record { read_faults = y.no_fault.read_faults ∙ x.reads.same; write_faults = y.no_fault.write_faults ∙ x.reads.keeps.write_faults };
     };
     others = others_before keeps;

@@ -13,19 +13,19 @@ returns-in-Ok-replay g c =
     let report : Report = record { paths = c.path_count-paths.result; steps = c.most_steps-steps.result; totals = c.in-Ok-replay.totals } in
     let replays = c.in-Ok-replay.ensures in
     record {
-      held = held_after c.in-Ok.functions c.in-Ok.ensures replays;
-      ids = ids_after c.in-Ok.functions c.in-Ok.ensures replays;
-      done = replay_done c.in-Ok.functions c.in-Ok.ensures report c.path_count-paths.ensures c.most_steps-steps.ensures replays.others replays.done;
+      held = held_after _ c.in-Ok.functions c.in-Ok.ensures replays;
+      ids = ids_after _ c.in-Ok.functions c.in-Ok.ensures replays;
+      done = replay_done _ c.in-Ok.functions c.in-Ok.ensures report c.path_count-paths.ensures c.most_steps-steps.ensures replays.others replays.done;
       stops = tt;
     }
 
 pub returns : goal.returns
 returns g c =
     let replays = c.in-Err-replay.ensures in
-    let stops = replay_stops c.in-Ok.functions c.in-Ok.ensures c.in-Err-replay.stop replays.others replays.stops in
+    let stops = replay_stops _ c.in-Ok.functions c.in-Ok.ensures c.in-Err-replay.stop replays.others replays.stops in
     record {
-      held = held_after c.in-Ok.functions c.in-Ok.ensures replays;
-      ids = ids_after c.in-Ok.functions c.in-Ok.ensures replays;
+      held = held_after _ c.in-Ok.functions c.in-Ok.ensures replays;
+      ids = ids_after _ c.in-Ok.functions c.in-Ok.ensures replays;
       done = tt;
       stops = rw c.stop_of.ensures stops;
     }
