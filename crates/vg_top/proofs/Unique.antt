@@ -21,7 +21,7 @@ use Rattle.vg_top.specs.Agreement.{Agree, IsFirstDifference}
 use Rattle.vg_top.specs.Endings.{Ending, Stopped, Done, EndsIn, ComesTo, IsLonger, IsWithin}
 use Rattle.vg_top.specs.Records.{fault_of_record}
 use Rattle.vg_top.specs.Runs.{IsRun, IsUnbuilt, IsBuilt}
-use Rattle.vg_top.proofs.Captures.{same_header, header_all, header_up_to, header_many, same_all, all_up_to, all_many, same_up_to, up_to_many}
+use Rattle.vg_top.proofs.Captures.{same_header_port, same_header_field, header_all, header_up_to, header_many, same_all, all_up_to, all_many, same_up_to, up_to_many}
 
 -- ---- the decisions of a run, one after another
 
@@ -136,29 +136,29 @@ same_port p q x y =
       ]
     ]
 
-at_captures : {s : Disk} {n : Files} {c spec : Small} (e f : Ending) → AtCaptures s n c spec e → AtCaptures s n c spec f → e ≡ f
-at_captures e f (header p g is x) (header q h js y) = let same = same_header x y in is ∙ rw (same.0, same.1) refl ∙ sym js
-at_captures e f (header p g is x) (up_to q m d b js y) = absurd (header_up_to m d x y)
-at_captures e f (header p g is x) (many b js y) = absurd (header_many x y)
-at_captures e f (header p g is x) (all b js y) = absurd (header_all x y)
-at_captures e f (up_to p m d a is x) (header q h js y) = absurd (header_up_to m d y x)
-at_captures e f (up_to p m d a is x) (up_to q k g b js y) = let same = same_up_to m k d g x y in is ∙ rw (same.0, same.1, same.2) refl ∙ sym js
-at_captures e f (up_to p m d a is x) (many b js y) = absurd (up_to_many m d x y)
-at_captures e f (up_to p m d a is x) (all b js y) = absurd (all_up_to m d y x)
-at_captures e f (many a is x) (header q h js y) = absurd (header_many y x)
-at_captures e f (many a is x) (up_to q k g b js y) = absurd (up_to_many k g y x)
-at_captures e f (many a is x) (many b js y) = is ∙ sym js
-at_captures e f (many a is x) (all b js y) = absurd (all_many y x)
-at_captures e f (all a is x) (header q h js y) = absurd (header_all y x)
-at_captures e f (all a is x) (up_to q k g b js y) = absurd (all_up_to k g x y)
-at_captures e f (all a is x) (many b js y) = absurd (all_many x y)
-at_captures {c = c} {spec = spec} e f (all a is x) (all b js y) = is ∙ ap (Done c spec) (same_all x y) ∙ sym js
+at_captures : (s : Disk) {n : Files} {c spec : Small} (e f : Ending) → AtCaptures s n c spec e → AtCaptures s n c spec f → e ≡ f
+at_captures s e f (header p g is x) (header q h js y) = is ∙ rw (same_header_port s p q x y, same_header_field s g h x y) refl ∙ sym js
+at_captures s e f (header p g is x) (up_to q m d b js y) = absurd (header_up_to s m d x y)
+at_captures s e f (header p g is x) (many b js y) = absurd (header_many s x y)
+at_captures s e f (header p g is x) (all b js y) = absurd (header_all s x y)
+at_captures s e f (up_to p m d a is x) (header q h js y) = absurd (header_up_to s m d y x)
+at_captures s e f (up_to p m d a is x) (up_to q k g b js y) = let same = same_up_to s a b m k d g x y in is ∙ rw (same.0, same.1, same.2) refl ∙ sym js
+at_captures s e f (up_to p m d a is x) (many b js y) = absurd (up_to_many s a b m d x y)
+at_captures s e f (up_to p m d a is x) (all b js y) = absurd (all_up_to s m d y x)
+at_captures s e f (many a is x) (header q h js y) = absurd (header_many s y x)
+at_captures s e f (many a is x) (up_to q k g b js y) = absurd (up_to_many s b a k g y x)
+at_captures s e f (many a is x) (many b js y) = is ∙ sym js
+at_captures s e f (many a is x) (all b js y) = absurd (all_many s b a y x)
+at_captures s e f (all a is x) (header q h js y) = absurd (header_all s y x)
+at_captures s e f (all a is x) (up_to q k g b js y) = absurd (all_up_to s k g x y)
+at_captures s e f (all a is x) (many b js y) = absurd (all_many s a b x y)
+at_captures s {c = c} {spec = spec} e f (all a is x) (all b js y) = is ∙ ap (Done c spec) (same_all s a b x y) ∙ sym js
 
 at_ports : {s : Disk} {n : Files} {c spec : Small} (e f : Ending) → AtPorts s n c spec e → AtPorts s n c spec f → e ≡ f
 at_ports {c = c} e f (inl x) (inl y) = x.2 ∙ ap (λ (port : ℕ). Stopped (Wrong c.at port)) (same_port x.0 y.0 x.1 y.1) ∙ sym y.2
 at_ports e f (inl x) (inr y) = absurd (no_first x.1 y.0)
 at_ports e f (inr x) (inl y) = absurd (no_first y.1 x.0)
-at_ports e f (inr x) (inr y) = at_captures e f x.1 y.1
+at_ports {s = s} e f (inr x) (inr y) = at_captures s e f x.1 y.1
 
 at_count : {s : Disk} {n : Files} {c spec : Small} (e f : Ending) → AtCount s n c spec e → AtCount s n c spec f → e ≡ f
 at_count e f (inl x) (inl y) = x.0 ∙ sym y.0

@@ -13,3 +13,6 @@ pub use report::Report;
 pub use stop::{Damage, Stop, Unbuilt};
 pub use top::{Status, refuse, run};
 
+#[cfg(test)]
+mod tests;
+
