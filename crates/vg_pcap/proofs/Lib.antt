@@ -1,0 +1,5 @@
+pub mod NumberBytes
+pub mod Pieces
+pub mod FileHeaders
+pub mod RecordBytes
+pub mod ReadAhead
