@@ -1,6 +1,6 @@
 -- Headers at the front of a file.
 use Rattle.std.proofs.Common.{◌≡◌, ◌≢◌, ◌≤◌, ◌<◌, ℕ, ◌+◌, List, [], ◌++◌, length, take, drop, take_all, refl, sym, ap, ◌∙◌, append_assoc, append-nil, length-append, length-drop, arith}
-use Rattle.std.proofs.lemmas.List.{drop_at, take_at, length-take-le, take-append-drop, take-append-le}
+use Rattle.std.proofs.lemmas.List.{drop_at, take_at, length-take-le, take-append-drop, take-append-le, drop-append-le}
 use Rattle.std.proofs.Math.Seq.{take-add}
 use Rattle.vg_base.specs.Files.{AreBytes}
 use Rattle.vg_pcap.specs.Captures.{Order, Encoding, HasHeader, HasMagic, IsBadHeader, header_bytes, magic_bytes, version_bytes, link_bytes, number_bytes}
@@ -91,3 +91,36 @@ HasHeader-whole encoding header size magic version link =
     let nothing : drop 24 header ≡ [] = no_items (drop 24 header) (omega (arith, length-drop 24 header)) in
     rw nothing at is
 
+
+-- a header, and what stands behind it
+pub HasHeader-more : {encoding : Encoding} {header : List ℕ} (behind : List ℕ) → HasHeader encoding header [] → HasHeader encoding (header ++ behind) behind
+HasHeader-more {encoding} behind is = record {
+  ignored = is.ignored;
+  ignored_size = is.ignored_size;
+  whole = ap (λ (front : List ℕ). front ++ behind) (is.whole ∙ append-nil (header_bytes encoding is.ignored));
+}
+
+-- four bytes of a header stand at their place also where more follows
+same_part : (k : ℕ) (header behind : List ℕ) → k + 4 ≤ length header → take 4 (drop k (header ++ behind)) ≡ take 4 (drop k header)
+same_part k header behind within =
+    ap (take 4) (drop-append-le k header behind (omega arith)) ∙ take-append-le 4 (drop k header) behind (omega (arith, length-drop k header))
+
+magic_more : {encoding : Encoding} (header behind : List ℕ) → HasMagic encoding header → HasMagic encoding (header ++ behind)
+magic_more header behind is = let long = is.long in record {
+  long = omega (arith, length-append header behind);
+  magic = take-append-le 4 header behind (omega arith) ∙ is.magic;
+}
+
+-- what is refused of 24 bytes is refused of a file that begins with them
+pub IsBadHeader-more : (header behind : List ℕ) (field : HeaderField) → length header ≡ 24 → IsBadHeader header field → IsBadHeader (header ++ behind) field
+IsBadHeader-more header behind Length size few = absurd (omega arith)
+IsBadHeader-more header behind Magic size (long, none) =
+    (omega (arith, length-append header behind), λ encoding e. none encoding (sym (take-append-le 4 header behind (omega arith)) ∙ e))
+IsBadHeader-more header behind Version size (encoding, magic, other) =
+    (encoding, magic_more header behind magic, λ e. other (sym (same_part 4 header behind (omega arith)) ∙ e))
+IsBadHeader-more header behind Link size (encoding, magic, version, other) = (
+  encoding,
+  magic_more header behind magic,
+  same_part 4 header behind (omega arith) ∙ version,
+  λ e. other (sym (same_part 20 header behind (omega arith)) ∙ e),
+)

@@ -11,6 +11,7 @@ mod format;
 mod headers;
 mod merge;
 mod reader;
+mod reading;
 mod records;
 mod writer;
 
