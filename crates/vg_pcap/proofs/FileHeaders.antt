@@ -56,8 +56,7 @@ places : (m v i l behind : List ℕ) → length m ≡ 4 → length v ≡ 4 → l
 places m v i l behind size_m size_v size_i size_l =
     let at_version : drop 4 (m ++ v ++ i ++ l ++ behind) ≡ v ++ (i ++ (l ++ behind)) = ap (drop 4) (regroup m v i l behind) ∙ drop_at m (v ++ (i ++ (l ++ behind))) 4 size_m in
     let front : length (m ++ v ++ i) ≡ 20 = omega (arith, length-append (m ++ v) i, length-append m v) in
-    let at_link : drop 20 (m ++ v ++ i ++ l ++ behind) ≡ l ++ behind = ap (drop 20) (append_assoc (m ++ v ++ i) l behind) ∙ drop_at (m ++ v ++ i) (l ++ behind) 20 front in
-    (
+    let at_link : drop 20 (m ++ v ++ i ++ l ++ behind) ≡ l ++ behind = ap (drop 20) (append_assoc (m ++ v ++ i) l behind) ∙ drop_at (m ++ v ++ i) (l ++ behind) 20 front in (
       ap (take 4) (regroup m v i l behind) ∙ take_at m (v ++ (i ++ (l ++ behind))) 4 size_m,
       ap (take 4) at_version ∙ take_at v (i ++ (l ++ behind)) 4 size_v,
       ap (take 4) at_link ∙ take_at l behind 4 size_l,
@@ -90,7 +89,6 @@ HasHeader-whole encoding header size magic version link =
     let is = HasHeader-of_parts encoding header (omega arith) magic version link in
     let nothing : drop 24 header ≡ [] = no_items (drop 24 header) (omega (arith, length-drop 24 header)) in
     rw nothing at is
-
 
 -- a header, and what stands behind it
 pub HasHeader-more : {encoding : Encoding} {header : List ℕ} (behind : List ℕ) → HasHeader encoding header [] → HasHeader encoding (header ++ behind) behind

@@ -5,3 +5,5 @@ pub mod RecordBytes
 pub mod ReadAhead
 pub mod RecordLists
 pub mod Taken
+pub mod Streams
+pub mod Starting

@@ -41,9 +41,15 @@ Stays-trans x y = record {
 -- what was read ahead of a file stands before it
 pub refilled : {s t : Disk} {id n : ℕ} {into : List ℕ} (bytes : List ℕ) → ReadsNext s t id into (Ok n) → IsTrue s.tells_held → IsBefore s (Some id) [] bytes → IsBefore t (Some id) (take n into) bytes
 refilled {n = n} {into = into} bytes read told (name, place, file, opened, held, within, is) =
-    let given = read.bytes told name place file opened held in
-    (name, place + n, file, read.place told name place opened, rw read.held.held held, given.within,
-      is ∙ sym (take-append-drop n (drop place file)) ∙ two (sym given.next) (drop-drop n place file))
+    let given = read.bytes told name place file opened held in (
+      name,
+      place + n,
+      file,
+      read.place told name place opened,
+      rw read.held.held held,
+      given.within,
+      is ∙ sym (take-append-drop n (drop place file)) ∙ two (sym given.next) (drop-drop n place file),
+    )
   where
     two : {a b c d : List ℕ} → a ≡ b → c ≡ d → a ++ c ≡ b ++ d
     two p q = cc
@@ -84,8 +90,7 @@ given_of t None ahead rest into bytes n parts count none is =
     rw (zero_is, is) (omega arith, refl, refl)
 given_of t (Some id) ahead rest into bytes n parts count none (name, place, file, opened, held, within, is) =
     let size : length (take n into) ≡ n = length-take-le n into (omega arith) in
-    let whole : bytes ≡ take n into ++ (rest ++ drop place file) = is ∙ ap (λ (front : List ℕ). front ++ drop place file) parts ∙ append_assoc (take n into) rest (drop place file) in
-    (
+    let whole : bytes ≡ take n into ++ (rest ++ drop place file) = is ∙ ap (λ (front : List ℕ). front ++ drop place file) parts ∙ append_assoc (take n into) rest (drop place file) in (
       omega (arith, size, ap (λ (xs : List ℕ). length xs) whole, length-append (take n into) (rest ++ drop place file)),
       sym (ap (take n) whole ∙ take_at (take n into) (rest ++ drop place file) n size),
       (name, place, file, opened, held, within, ap (drop n) whole ∙ drop_at (take n into) (rest ++ drop place file) n size),

@@ -1,8 +1,8 @@
 -- What was taken from the front of the bytes of a capture.
-use Rattle.std.proofs.Common.{◌≡◌, ◌≢◌, ◌≤◌, ◌<◌, ◌+◌, ◌⊎◌, inl, inr, ℕ, List, [], ◌++◌, length, take, drop, take_all, refl, sym, ap, ◌∙◌, append_assoc, length-append, length-drop, Result, Ok, Err, arith}
+use Rattle.std.proofs.Common.{◌≡◌, ◌≢◌, ◌≤◌, ◌<◌, ◌+◌, ◌⊎◌, inl, inr, ℕ, List, [], ◌++◌, length, take, drop, take_all, refl, sym, ap, ◌∙◌, append_assoc, length-append, length-drop, Result, Ok, Err, IsErrOf, arith}
 use Rattle.std.proofs.lemmas.List.{take_at, take-append-drop, length-take-le}
 use Rattle.vg_base.specs.Files.{Disk}
-use Rattle.vg_pcap.specs.Captures.{Encoding, RecordHead, HasHead, head_bytes, head_of, Record, IsGood, Damage, Cut, Long, Fraction, IsDamaged, longest}
+use Rattle.vg_pcap.specs.Captures.{Encoding, RecordHead, HasHead, head_bytes, head_of, Record, IsGood, Damage, Cut, Long, Fraction, IsDamaged, units_per_second, longest}
 use Rattle.vg_pcap.specs.declared.faults.CaptureFault.{CaptureFault}
 use Rattle.vg_pcap.specs.declared.faults.CaptureFault.TheVariants as faults
 use Rattle.vg_pcap.specs.Reader.{HasReadCause, fault_of}
@@ -34,22 +34,28 @@ cut_body encoding h front bytes rest n whole is few all = inr (h, rest, HasHead-
 abbrev head_with : ℕ → ℕ → ℕ → ℕ → RecordHead
 head_with a b c d = record { seconds = a; fraction = b; size = c; original = d }
 
--- a whole record was taken
-pub HasRecord-taken : {encoding : Encoding} {h : RecordHead} (front bytes rest part more : List ℕ) → bytes ≡ front ++ rest → HasGoodHead encoding front h → length part ≡ h.size → part ≡ take h.size rest →
-    h.size ≤ length rest → HasRecord encoding bytes (record_of_head h (part ++ more)) (drop h.size rest)
-HasRecord-taken {encoding} {h} front bytes rest part more whole is size same enough =
-    let head = HasHead-behind front bytes rest whole is in
-    let captured : take h.size (part ++ more) ≡ part = take_at part more h.size size in
-    let count : length (take h.size (part ++ more)) ≡ h.size = ap (λ (xs : List ℕ). length xs) captured ∙ size in
-    let head_is : h ≡ head_of (record_of_head h (part ++ more)) = ap (λ (n : ℕ). head_with h.seconds h.fraction n h.original) (sym count) in
-    let split : rest ≡ take h.size (part ++ more) ++ drop h.size rest = sym (take-append-drop h.size rest) ∙ ap (λ (xs : List ℕ). xs ++ drop h.size rest) (sym same ∙ sym captured) in
+-- the numbers that the bytes begin with, and as many bytes behind them as they say, are a record
+pub HasRecord-of_head : {encoding : Encoding} {h : RecordHead} (bytes rest captured : List ℕ) → HasHead encoding bytes h rest → h.fraction < units_per_second encoding.resolution → h.size ≤ longest →
+    h.size ≤ length rest → captured ≡ take h.size rest →
+    HasRecord encoding bytes (record { seconds = h.seconds; fraction = h.fraction; original = h.original; captured = captured }) (drop h.size rest)
+HasRecord-of_head {encoding} {h} bytes rest captured head less short enough same =
+    let count : length captured ≡ h.size = ap (λ (xs : List ℕ). length xs) same ∙ length-take-le h.size rest enough in
+    let head_is : h ≡ head_with h.seconds h.fraction (length captured) h.original = ap (λ (n : ℕ). head_with h.seconds h.fraction n h.original) (sym count) in
+    let split : rest ≡ captured ++ drop h.size rest = sym (take-append-drop h.size rest) ∙ ap (λ (xs : List ℕ). xs ++ drop h.size rest) (sym same) in
     record {
-      good = record { seconds = head.seconds; fraction = is.fraction; original = head.original; captured = omega (arith, count, is.size) };
-      whole = head.whole ∙ pieces (ap (head_bytes encoding) head_is) split ∙ sym (append_assoc (head_bytes encoding (head_of (record_of_head h (part ++ more)))) (take h.size (part ++ more)) (drop h.size rest));
+      good = record { seconds = head.seconds; fraction = less; original = head.original; captured = omega (arith, count, short) };
+      whole = head.whole ∙ pieces (ap (head_bytes encoding) head_is) split
+          ∙ sym (append_assoc (head_bytes encoding (head_with h.seconds h.fraction (length captured) h.original)) captured (drop h.size rest));
     }
   where
     pieces : {a b c d : List ℕ} → a ≡ b → c ≡ d → a ++ c ≡ b ++ d
     pieces p q = cc
+
+-- a whole record was taken
+pub HasRecord-taken : {encoding : Encoding} {h : RecordHead} (front bytes rest part more : List ℕ) → bytes ≡ front ++ rest → HasGoodHead encoding front h → length part ≡ h.size → part ≡ take h.size rest →
+    h.size ≤ length rest → HasRecord encoding bytes (record_of_head h (part ++ more)) (drop h.size rest)
+HasRecord-taken {encoding} {h} front bytes rest part more whole is size same enough =
+    HasRecord-of_head bytes rest (take h.size (part ++ more)) (HasHead-behind front bytes rest whole is) is.fraction is.size enough (take_at part more h.size size ∙ same)
 
 -- ---- causes
 
@@ -63,3 +69,10 @@ pub damage_unread : (damage : Damage) (number : ℕ) → fault_of damage number 
 damage_unread Cut number e = cc (e)
 damage_unread Long number e = cc (e)
 damage_unread Fraction number e = cc (e)
+
+-- the cause of a fault is the same, whatever else might have been answered
+pub cause_same : {A B : Type 0} {s t : Disk} (fault : CaptureFault) → HasReadCause {A = A} s t (Err fault) → HasReadCause {A = B} s t (Err fault)
+cause_same fault cause = record { fault = λ is. cause.fault (ap Err (told fault faults.Read is)); same = tt; same_else = cause.same_else; rises = cause.rises }
+  where
+    told : {B : Type 0} (a b : CaptureFault) → IsErrOf {T = B} (Err a) b → a ≡ b
+    told a b e = cc

@@ -25,8 +25,12 @@ returns-in-Err g c =
       cause = cause_else _ _ _ (λ e. cc) read.faults.same;
       stays = read.stays;
       good = tt;
-      refused = inr (c.in-Err.field, refl, λ told file is.
-          let gives = rw all at (read.gives told file is) in
-          let whole = Gives-whole (omega (arith, c.read_into.auto.into)) gives in
-          rw (← whole) at (IsBadHeader-more c.read_into.new.into (drop 24 file) c.in-Err.field (omega (arith, c.read_into.auto.into)) c.in-Err.ensures.bad));
+      refused = inr (
+        c.in-Err.field,
+        refl,
+        λ told file is.
+            let gives = rw all at (read.gives told file is) in
+            let whole = Gives-whole (omega (arith, c.read_into.auto.into)) gives in
+            rw (← whole) at (IsBadHeader-more c.read_into.new.into (drop 24 file) c.in-Err.field (omega (arith, c.read_into.auto.into)) c.in-Err.ensures.bad),
+      );
     }

@@ -16,9 +16,13 @@ returns-in-Err g c =
       stays = read.stays;
       good = tt;
       begins = tt;
-      refused = inr (damage_view c.in-Err.damage, refl, λ told bytes is.
-          let gives = rw all at (read.gives told bytes is) in
-          rw (← Gives-whole (omega (arith, c.read_into.auto.into)) gives) at (c.in-Err.ensures.refused (drop 16 bytes)));
+      refused = inr (
+        damage_view c.in-Err.damage,
+        refl,
+        λ told bytes is.
+            let gives = rw all at (read.gives told bytes is) in
+            rw (← Gives-whole (omega (arith, c.read_into.auto.into)) gives) at (c.in-Err.ensures.refused (drop 16 bytes)),
+      );
     })
 
 pub returns-then-got-size : goal.returns-then-got-size
@@ -33,11 +37,15 @@ returns-then-got-size g c =
       stays = Stays-trans first.stays read.stays;
       good = tt;
       begins = tt;
-      refused = inr (Cut, refl, λ told bytes is.
-          let gives = rw all at (first.gives told bytes is) in
-          let whole = Gives-whole (omega (arith, c.read_into.auto.into)) gives in
-          let few = read.end (told_before first.stays.keeps told) (drop 16 bytes) gives.after (omega (arith, c.if-got-size.true, room)) in
-          cut_body (encoding_view c.args.encoding) (head_view c.in-Ok-read_head.head) c.read_into.new.into bytes (drop 16 bytes) c.in-Ok-read_into.got whole c.in-Ok-read_head.ensures.good c.if-got-size.true few);
+      refused = inr (
+        Cut,
+        refl,
+        λ told bytes is.
+            let gives = rw all at (first.gives told bytes is) in
+            let whole = Gives-whole (omega (arith, c.read_into.auto.into)) gives in
+            let few = read.end (told_before first.stays.keeps told) (drop 16 bytes) gives.after (omega (arith, c.if-got-size.true, room)) in
+            cut_body (encoding_view c.args.encoding) (head_view c.in-Ok-read_head.head) c.read_into.new.into bytes (drop 16 bytes) c.in-Ok-read_into.got whole c.in-Ok-read_head.ensures.good c.if-got-size.true few,
+      );
     }
 
 pub returns : goal.returns
@@ -56,8 +64,7 @@ returns g c =
       begins = λ told bytes is.
           let gives = rw all at (first.gives told bytes is) in
           let whole = Gives-whole (omega (arith, c.read_into.auto.into)) gives in
-          let body = rw both at (read.gives (told_before first.stays.keeps told) (drop 16 bytes) gives.after) in
-          (
+          let body = rw both at (read.gives (told_before first.stays.keeps told) (drop 16 bytes) gives.after) in (
             drop size (drop 16 bytes),
             HasRecord-taken c.read_into.new.into bytes (drop 16 bytes) c.read_into-2.new.into _ whole good room (Gives-part room body) body.within,
             body.after,
