@@ -7,3 +7,4 @@ pub mod RecordLists
 pub mod Taken
 pub mod Streams
 pub mod Starting
+pub mod Written

@@ -1,5 +1,5 @@
 -- Reading a capture from its front: what private contracts say. No public clause rests on this file.
-use Rattle.std.specs.Prelude.{ℕ, ◌≡◌, ◌<◌, ◌≤◌, ◌+◌, ◌*◌, ◌^◌, ◌⊎◌, List, [], ◌++◌, take, IsTrue, Option, Some, None, IfSome, Result, IfOk, IfErr}
+use Rattle.std.specs.Prelude.{ℕ, ◌≡◌, ◌<◌, ◌≤◌, ◌+◌, ◌*◌, ◌/◌, ◌%◌, ◌^◌, ◌⊎◌, List, [], ◌++◌, take, IsTrue, Option, Some, None, IfSome, Result, IfOk, IfErr}
 use Rattle.byteorder.specs.Endian.{little_number, big_number}
 use Rattle.vg_pcap.specs.declared.encoding.Order as coded_order
 use Rattle.vg_pcap.specs.declared.encoding.Order.TheVariants as orders
@@ -96,3 +96,9 @@ pub record TakesRecord (s t : Disk) (old new : Source) (encoding : Encoding) (fr
   pub begins : IfOk result (λ found. IsTrue s.tells_held → (bytes : List ℕ) → IsBefore s old.id old.ahead bytes → Begins t new encoding bytes frame found)
   pub refused : IfErr result (λ fault. (fault ≡ faults.Read) ⊎ ((damage : Damage) × (fault ≡ fault_of damage number)
       × (IsTrue s.tells_held → (bytes : List ℕ) → IsBefore s old.id old.ahead bytes → IsDamaged encoding bytes damage)))
+
+-- ---- what a writer puts down
+
+-- the numbers before a frame of this time, original length and size
+abbrev pub written_head : ℕ → ℕ → ℕ → RecordHead
+written_head time original size = record { seconds = time / 1000000000; fraction = time % 1000000000; size = size; original = original }

@@ -29,3 +29,6 @@ pub const MAX_CAPTURED: usize = 262_144;
 
 // So many bytes of a file are read ahead at once.
 pub(crate) const BUFFER_SIZE: usize = 65_536;
+
+// So many bytes of a record, with the numbers before it, go out at once.
+pub(crate) const FIRST_SIZE: usize = 2048;
