@@ -8,3 +8,4 @@ pub mod Taken
 pub mod Streams
 pub mod Starting
 pub mod Written
+pub mod Laws

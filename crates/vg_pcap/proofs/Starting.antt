@@ -71,16 +71,26 @@ bytes_behind {encoding} {file} behind is small =
     let front = header_bytes encoding is.ignored in
     rw (drop_at front behind (length front) refl) at (AreBytes-drop (length front) (front ++ behind) (rw is.whole at small))
 
--- what stands behind a header is a stream, and it is still to come
+-- what stands behind a header is a stream
+pub stream_behind : {file : List ℕ} (encoding : Encoding) (behind : List ℕ) → HasHeader encoding file behind → AreBytes file → (stream : Stream) × HoldsStream file stream
+stream_behind encoding behind header small =
+    let all = records_of encoding behind (bytes_behind behind header small) in
+    (
+      record { frames = frames_after encoding 0 all.0; end = all.1 },
+      (encoding, record { records = all.0; held = record { behind = behind; header = header; records_are = all.2 }; are = refl }),
+    )
+
+-- and it is still to come
 streams : {t : Disk} {file : List ℕ} (r : Reader) (behind : List ℕ) (encoding : Encoding) → HasHeader encoding file behind → AreBytes file → IsTrue t.tells_held → IsBefore t r.id r.ahead behind →
     r.encoding ≡ encoding → r.latest ≡ 0 → (stream : Stream) × HoldsStream file stream × StillComes t r stream
+unfolding stream_behind
 streams r behind encoding header small told before written early =
     let all = records_of encoding behind (bytes_behind behind header small) in
-    let records = all.0 in
-    let stream : Stream = record { frames = frames_after encoding 0 records; end = all.1 } in (
-      stream,
-      (encoding, record { records = records; held = record { behind = behind; header = header; records_are = all.2 }; are = refl }),
-      record { told = told; bytes = behind; before = before; records = records; are = rw written all.2; frames = rw (written, early) refl },
+    let stream = stream_behind encoding behind header small in
+    (
+      stream.0,
+      stream.1,
+      record { told = told; bytes = behind; before = before; records = all.0; are = rw written all.2; frames = rw (written, early) refl },
     )
 
 -- the id of a source is open for reading

@@ -51,7 +51,7 @@ next_refused {old = old} {stream} t new still damage bad =
 abbrev over : Source → Encoding → ℕ → ℕ → Framed → Reader
 over a encoding latest count frame = record { id = a.id; ahead = a.ahead; encoding = encoding; latest = latest; count = count; frame = frame }
 
-time_early : (encoding : Encoding) (seconds fraction : ℕ) → seconds < 2 ^ 32 → fraction < units_per_second encoding.resolution →
+pub time_early : (encoding : Encoding) (seconds fraction : ℕ) → seconds < 2 ^ 32 → fraction < units_per_second encoding.resolution →
     seconds * 1000000000 + fraction * nanoseconds_per_unit encoding.resolution < 2 ^ 32 * 1000000000
 time_early encoding seconds fraction early less =
     elim encoding.resolution as (λ each. fraction < units_per_second each → seconds * 1000000000 + fraction * nanoseconds_per_unit each < 2 ^ 32 * 1000000000) [
