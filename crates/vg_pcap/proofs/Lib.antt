@@ -1,1 +1,12 @@
+pub mod NumberBytes
+pub mod Pieces
+pub mod FileHeaders
+pub mod RecordBytes
+pub mod ReadAhead
+pub mod RecordLists
+pub mod Taken
+pub mod Streams
+pub mod Starting
+pub mod Written
+pub mod Laws
 pub mod Orders

@@ -4,3 +4,5 @@ pub mod Arrivals
 pub mod Reader
 pub mod Writer
 pub mod Merge
+pub mod Reading
+pub mod Buffered
