@@ -1,0 +1,5 @@
+pub mod Refilling
+pub mod Arriving
+pub mod Staying
+pub mod Ports
+pub mod Merging
