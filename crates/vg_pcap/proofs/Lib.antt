@@ -3,3 +3,4 @@ pub mod Arriving
 pub mod Staying
 pub mod Ports
 pub mod Merging
+pub mod Filling

@@ -1,5 +1,5 @@
 -- One frame after another comes in the one order.
-use Rattle.std.proofs.Common.{◌≡◌, ◌≢◌, ℕ, zero, suc, ◌+◌, ◌<◌, ◌≤◌, ◌⊎◌, ◌^◌, min, inl, inr, ⊎_elim, refl, ◌∙◌, sym, ap, subst, List, [], ◌∷◌, ◌++◌, length, set, get_or, All, AllPairs, Contains, slice_get, if◌then◌else◌, Bool, true, false, Ok, Err, Some, None, Option, Result, IfErr, arith, length-set, length-append, append_assoc, append-nil, true≢false, get_or-set_same, get_or-set_other}
+use Rattle.std.proofs.Common.{◌≡◌, ◌≢◌, ℕ, zero, suc, ◌+◌, ◌<◌, ◌≤◌, ◌⊎◌, ◌^◌, min, inl, inr, ⊎_elim, le_of_eq, refl, ◌∙◌, sym, ap, subst, List, [], ◌∷◌, ◌++◌, length, set, get_or, All, AllPairs, Contains, slice_get, if◌then◌else◌, Bool, true, false, Ok, Err, Some, None, Option, Result, IfErr, IfSome, IfNone, arith, length-set, length-append, append_assoc, append-nil, true≢false, get_or-set_same, get_or-set_other}
 use Rattle.std.proofs.lemmas.Bool.{cases_eq, cases_lt}
 use Rattle.std.proofs.lemmas.List.{get_or_past, length_push}
 use Rattle.std.proofs.lemmas.List.Elements.{All-nil, All-push, All-contains, Contains-append_cases}
@@ -10,12 +10,12 @@ use Rattle.vg_pcap.specs.declared.faults.CaptureFault.{CaptureFault}
 use Rattle.vg_pcap.specs.declared.faults.CaptureFault.TheVariants as faults
 use Rattle.vg_pcap.specs.declared.merge.MergeFault.{MergeFault}
 use Rattle.vg_pcap.specs.Captures.{Damage, CaptureEnd, Whole, Refused}
-use Rattle.vg_pcap.specs.Frames.{Framed, Stream, frames_after}
+use Rattle.vg_pcap.specs.Frames.{Framed, Stream, frames_after, Fits}
 use Rattle.vg_pcap.specs.Arrivals.{Arrival, no_frames, stream_at, frames_from, Precedes, ComeFirst, EndsAt, IsAtDamage, AllCome, ComeUpTo}
 use Rattle.vg_pcap.specs.Reader.{Reader, StillComes, number_after, fault_of}
 use Rattle.vg_pcap.specs.Merge.{Input, InputComes, IsNext, IsChanged, Comes, AreToCome, RefusesRecord, Advances, waiting_at, waiting_count}
-use Rattle.vg_pcap.specs.Inputs.{AreApart, AreInputs, IsSound, IsLastFrame, Refills, RefillsAt, RefusesNext}
-use Rattle.vg_pcap.proofs.Arriving.{frames_from-push_same, frames_from-push_other, EndsAt-push, no_later, All-at_place}
+use Rattle.vg_pcap.specs.Inputs.{AreApart, AreInputs, IsSound, IsLastFrame, Refills, RefillsAt, RefusesNext, IsLeastBelow}
+use Rattle.vg_pcap.proofs.Arriving.{frames_from-push_same, frames_from-push_other, EndsAt-push, no_later, All-at_place, All-from_places}
 use Rattle.vg_pcap.proofs.Staying.{InputComes-stays}
 use Rattle.vg_pcap.proofs.Ports.{at_refilled, other_id, reads_one, reads_refused}
 
@@ -219,7 +219,7 @@ Comes-more {s} {t} {came} {old} {new} {streams} {past} {a} changed sound comes r
           (subst (λ (st : Stream). InputComes t input st) (sym here) (subst (λ (i : Input). InputComes t i now) (sym e.1) (r.refills.comes now h.still))))
           (λ (e : (port ≢ a.port) × (slice_get old port ≡ Some input)).
           subst (λ (st : Stream). InputComes t input st) (sym (get_or-set_other h.left a.port port now no_frames e.0))
-          (InputComes-stays (h.others port input e.0 e.1) r.refills.keeps.held.tells_held r.refills.keeps.held.held (other_id r.apart r.was_at r.refills port input e.0 e.1)))
+          (InputComes-stays (h.others port input e.0 e.1) r.refills.keeps.held.tells_held r.refills.keeps.held.held (other_id r.inputs.apart r.was_at r.refills port input e.0 e.1)))
           (at_refilled r port input at);
       counts = λ port input at. ⊎_elim
           (λ (e : (port ≡ a.port) × (input ≡ r.now)).
@@ -233,3 +233,164 @@ Comes-more {s} {t} {came} {old} {new} {streams} {past} {a} changed sound comes r
           subst (λ (fs : List Framed). number_after input.reader.count ≡ number_after (length fs + waiting_count input)) (sym (frames_from-push_other port a past (λ q. e.0 (sym q)))) (h.counts port input e.0 e.1))
           (at_refilled r port input at);
     }
+
+-- where a stream is still to come, no refused record is next
+pub no_damage : {s : Disk} {input : Input} {stream : Stream} {damage : Damage} → InputComes s input stream → stream.frames ≡ [] → stream.end ≡ Refused damage → ⊥
+no_damage {s} {input} {stream} {damage} comes none refused = by input.waits refl
+  where
+    by : (waits : Bool) → input.waits ≡ waits → ⊥
+    by true w = let here = (comes.waiting w).1 in cc
+    by false w = let here = (comes.ended w).1 in cc
+
+-- nor where there is no port
+pub no_damage_past : (left : List Stream) (port : ℕ) (damage : Damage) → length left ≤ port → (stream_at left port).end ≡ Refused damage → ⊥
+no_damage_past left port damage past refused = let none = ap (λ (st : Stream). st.end) (past_ports left port past) in cc
+
+number-after_all : (count len all : ℕ) → number_after count ≡ number_after (len + 1) → all ≡ len + 1 → number_after count ≡ number_after all
+number-after_all count len all e is = e ∙ ap number_after (sym is)
+
+-- the next record is refused
+pub refuses_more : {s t : Disk} {came old new : List Input} {streams : List Stream} {past : List Arrival} {a : Arrival} {fault : CaptureFault} → IsChanged came old a → All IsSound old → Comes s came streams past → RefillsAt s t old new a.port (Err fault) →
+    RefusesRecord streams (past ++ a ∷ []) (record { port = a.port; fault = fault })
+refuses_more {s} {t} {came} {old} {new} {streams} {past} {a} {fault} changed sound comes r =
+    let h = handled changed sound r.was_at comes in
+    let now : Stream = record { frames = h.rest; end = (stream_at h.left a.port).end } in
+    let left : List Stream = set h.left a.port now in
+    let here : stream_at left a.port ≡ now = get_or-set_same h.left a.port now no_frames h.within in
+    let same_ports : length old ≡ length h.left = (let l = h.first.ports in let m = h.ports in let n = length-set h.left a.port now in omega arith) in
+    ⊎_elim
+    (λ (read : fault ≡ faults.Read). inl read)
+    (λ (refused : (h.rest ≡ []) × (damage : Damage) × (now.end ≡ Refused damage) × (fault ≡ fault_of damage (number_after r.was.reader.count))).
+    let all : length (stream_at streams a.port).frames ≡ length (frames_from a.port past) + 1 =
+      ap length (h.turn ∙ ap (λ l. frames_from a.port past ++ a.frame ∷ l) refused.0) ∙ length_push (frames_from a.port past) a.frame in
+    let number : number_after r.was.reader.count ≡ number_after (length (stream_at streams a.port).frames) =
+      number-after_all r.was.reader.count (length (frames_from a.port past)) (length (stream_at streams a.port).frames) h.count all in
+    let upto : ComeUpTo streams (past ++ a ∷ []) a.port refused.1 = record {
+      left = left;
+      first = h.first;
+      is_port = (let w = h.within in let l = h.first.ports in let n = length-set h.left a.port now in omega arith);
+      at_damage = record {
+        none_left = ap (λ (st : Stream). st.frames) here ∙ refused.0;
+        refused = ap (λ (st : Stream). st.end) here ∙ refused.2;
+      };
+      right_after = EndsAt-push a past;
+      no_other = λ other d at. ⊎_elim
+          (λ (e : other ≡ a.port). inl e)
+          (λ (ne : other ≢ a.port).
+          let there : stream_at left other ≡ stream_at h.left other = get_or-set_other h.left a.port other now no_frames ne in
+          let none : (stream_at h.left other).frames ≡ [] = ap (λ (st : Stream). st.frames) (sym there) ∙ at.none_left in
+          let end : (stream_at h.left other).end ≡ Refused d = ap (λ (st : Stream). st.end) (sym there) ∙ at.refused in
+          absurd (⊎_elim
+          (λ (lt : other < length old). let i = input_at old other lt in no_damage (h.others other i.0 ne i.1) none end)
+          (λ (past_all : length old ≤ other). no_damage_past h.left other d (omega arith) end)
+          (cases_lt other (length old))))
+          (cases_eq other a.port);
+    } in
+    inr (refused.1, refused.3 ∙ ap (fault_of refused.1) number, upto))
+    (r.refills.refused now h.still)
+
+-- ---- the port of the next frame
+
+Precedes-antisym : (a b : Arrival) → Precedes a b → Precedes b a → a.port ≡ b.port
+Precedes-antisym a b (inl lt) (inl gt) = absurd (omega arith)
+Precedes-antisym a b (inl lt) (inr ge) = let time = ge.0 in absurd (omega arith)
+Precedes-antisym a b (inr le) (inl gt) = let time = le.0 in absurd (omega arith)
+Precedes-antisym a b (inr le) (inr ge) = let low = le.1 in let high = ge.1 in omega arith
+
+-- there is one next port
+pub one_next : {inputs : List Input} {a b : Arrival} → IsNext inputs a → IsNext inputs b → a.port ≡ b.port
+one_next {inputs} {a} {b} x y =
+    let first : Precedes a (waiting_at b.port y.input) = x.least b.port y.input y.at y.waits in
+    let second : Precedes b (waiting_at a.port x.input) = y.least a.port x.input x.at x.waits in
+    let first-2 : Precedes a b = subst (λ (f : Framed). Precedes a (record { port = b.port; frame = f })) (sym y.frame) first in
+    let second-2 : Precedes b a = subst (λ (f : Framed). Precedes b (record { port = a.port; frame = f })) (sym x.frame) second in
+    Precedes-antisym a b first-2 second-2
+
+-- where the bytes of the next frame are changed, the next port stays
+pub same_next : {came old : List Input} {a b : Arrival} → IsChanged came old a → IsNext old b → a.port ≡ b.port
+same_next {came} {old} {a} {b} changed next =
+    let bytes = changed.bytes changed.next.input changed.next.at in
+    let now : Input = record changed.next.input { reader = record changed.next.input.reader { frame = record a.frame { bytes = bytes.0 } } } in
+    let here : Arrival = record { port = a.port; frame = now.reader.frame } in
+    let first : IsNext old here = record {
+      input = now;
+      at = bytes.2;
+      waits = changed.next.waits;
+      frame = refl;
+      least = λ port other at waits. ⊎_elim
+          (λ (e : port ≡ a.port).
+          let is : now ≡ other = same_Some now other (sym bytes.2 ∙ (ap (λ k. slice_get old k) (sym e) ∙ at)) in
+          inr (ap (λ (i : Input). i.reader.frame.time) is, le_of_eq (sym e)))
+          (λ (ne : port ≢ a.port). changed.next.least port other (sym (changed.others port ne) ∙ at) waits)
+          (cases_eq port a.port);
+    } in
+    one_next first next
+
+-- ---- the calls
+
+-- the next record of the next port was read
+pub advanced : {s t : Disk} {old new : List Input} {b : Arrival} → IsNext old b → RefillsAt s t old new b.port (Ok tt) → Advances s t old new (Ok tt)
+advanced {s} {t} {old} {new} {b} next r = record {
+  reads = reads_one r;
+  comes = λ came streams past a changed comes. Comes-more changed r.inputs.sound comes (subst (λ (k : ℕ). RefillsAt s t old new k (Ok tt)) (sym (same_next changed next)) r);
+  refused = λ came streams past a changed comes. tt;
+  fault = tt;
+}
+
+-- it is refused
+pub advance_refused : {s t : Disk} {old new : List Input} {b : Arrival} {fault : CaptureFault} → IsNext old b → RefillsAt s t old new b.port (Err fault) → Advances s t old new (Err (record { port = b.port; fault = fault }))
+advance_refused {s} {t} {old} {new} {b} {fault} next r = record {
+  reads = reads_refused r;
+  comes = λ came streams past a changed comes. tt;
+  refused = λ came streams past a changed comes.
+      let same = same_next changed next in
+      subst (λ (k : ℕ). RefusesRecord streams (past ++ a ∷ []) (record { port = k; fault = fault })) same
+      (refuses_more changed r.inputs.sound comes (subst (λ (k : ℕ). RefillsAt s t old new k (Err fault)) (sym same) r));
+  fault = ⊎_elim (λ read. inl read) (λ (d : (damage : Damage) × (fault ≡ fault_of damage (number_after r.was.reader.count))). inr (d.0, number_after r.was.reader.count, d.1)) r.refills.fault;
+}
+
+-- no frame waits, and so all have come
+pub all_come : {s : Disk} {inputs : List Input} {streams : List Stream} {past : List Arrival} → All (λ input. input.waits ≡ false) inputs → Comes s inputs streams past → AllCome streams past
+all_come {s} {inputs} {streams} {past} none comes =
+    let same_ports : length inputs ≡ length comes.left = comes.ports ∙ sym comes.first.ports in
+    let ended : (port : ℕ) → ((stream_at comes.left port).frames ≡ []) × ((stream_at comes.left port).end ≡ Whole) =
+      λ port. ⊎_elim
+      (λ (lt : port < length inputs). let i = input_at inputs port lt in (comes.still port i.0 i.1).ended (All-at_place (λ (input : Input). input.waits ≡ false) inputs port i.0 none i.1))
+      (λ (past_all : length inputs ≤ port). let is = past_ports comes.left port (omega arith) in (ap (λ (st : Stream). st.frames) is, ap (λ (st : Stream). st.end) is))
+      (cases_lt port (length inputs)) in
+    record {
+      left = comes.left;
+      first = comes.first;
+      none_left = λ port. (ended port).0;
+      whole = λ port. sym (comes.first.ends port) ∙ (ended port).1;
+    }
+
+-- the least of all that wait
+pub next_of_all : (inputs : List Input) (port : ℕ) (next : Option ℕ) → length inputs ≤ port → IsLeastBelow inputs port next →
+    IfSome next (λ p. (f : Framed) × IsNext inputs (record { port = p; frame = f }))
+next_of_all inputs port None past least = tt
+next_of_all inputs port (Some p) past least =
+    let input = least.0 in
+    (input.reader.frame, record {
+      input = input;
+      at = least.2;
+      waits = least.3;
+      frame = refl;
+      least = λ q other at waits. let lt = slice_get_within inputs q other at in least.4 q other (omega arith) at waits;
+    })
+
+pub none_of_all : (inputs : List Input) (port : ℕ) (next : Option ℕ) → length inputs ≤ port → IsLeastBelow inputs port next →
+    IfNone next (All (λ input. input.waits ≡ false) inputs)
+none_of_all inputs port None past least =
+    All-from_places (λ (input : Input). input.waits ≡ false) inputs (λ p input at. let lt = slice_get_within inputs p input at in least p input (omega arith) at)
+none_of_all inputs port (Some p) past least = tt
+
+pub end_of_all : (inputs : List Input) (port : ℕ) (next : Option ℕ) → length inputs ≤ port → IsLeastBelow inputs port next →
+    IfNone next ((s : Disk) (streams : List Stream) (past : List Arrival) → Comes s inputs streams past → AllCome streams past)
+end_of_all inputs port None past least = λ s streams came comes. all_come (none_of_all inputs port None past least) comes
+end_of_all inputs port (Some p) past least = tt
+
+-- the next frame can be written
+pub next_fits : {inputs : List Input} {a : Arrival} → All IsSound inputs → IsNext inputs a → Fits a.frame
+next_fits {inputs} {a} sound next =
+    subst Fits (sym next.frame) (All-at_place IsSound inputs a.port next.input sound next.at next.waits).fits

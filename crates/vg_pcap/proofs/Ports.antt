@@ -50,9 +50,9 @@ pub other_id : {s t : Disk} {inputs : List Input} {port : ℕ} {was now : Input}
     (p : ℕ) (x : Input) → p ≢ port → slice_get inputs p ≡ Some x → SameId s t x.reader.id
 other_id {inputs = inputs} {port = port} {was = was} apart at r p x ne here = record { stands = λ j is. r.others j (λ e. ne (apart.places p port x was j here at is (sym e))) }
 
-pub refilled_at : {s t : Disk} {inputs : List Input} {port : ℕ} {was now : Input} {result : Result (Unit {0}) CaptureFault} → port < length inputs → slice_get inputs port ≡ Some was → Refills s t was now result → AreApart inputs → AreReadable s inputs →
+pub refilled_at : {s t : Disk} {inputs : List Input} {port : ℕ} {was now : Input} {result : Result (Unit {0}) CaptureFault} → port < length inputs → slice_get inputs port ≡ Some was → Refills s t was now result → AreInputs inputs → AreReadable s inputs →
     RefillsAt s t inputs (set inputs port now) port result
-refilled_at {s} {t} {inputs} {port} {was} {now} lt at r apart readable = record {
+refilled_at {s} {t} {inputs} {port} {was} {now} lt at r are readable = record {
   ports = length-set inputs port now;
   others = λ p ne. slice_get-set_other inputs port p now ne;
   was = was;
@@ -63,9 +63,9 @@ refilled_at {s} {t} {inputs} {port} {was} {now} lt at r apart readable = record 
   readable = All-from_places (λ i. IsReadable t i.reader.id) (set inputs port now)
       (λ p x here. ⊎_elim
       (λ (e : (p ≡ port) × (x ≡ now)). rw e.1 r.readable)
-      (λ (e : (p ≢ port) × (slice_get inputs p ≡ Some x)). IsReadable-stays x.reader.id (All-at_place (λ i. IsReadable s i.reader.id) inputs p x readable e.1) (other_id apart at r p x e.0 e.1))
+      (λ (e : (p ≢ port) × (slice_get inputs p ≡ Some x)). IsReadable-stays x.reader.id (All-at_place (λ i. IsReadable s i.reader.id) inputs p x readable e.1) (other_id are.apart at r p x e.0 e.1))
       (at_set inputs port now p x lt here));
-  apart = apart;
+  inputs = are;
 }
 
 -- each input is the one that was read, or stood there before

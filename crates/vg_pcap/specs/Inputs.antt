@@ -74,7 +74,7 @@ pub record RefillsAt (s t : Disk) (old new : List Input) (port : ℕ) (result : 
   pub now_at : slice_get new port ≡ Some now
   pub refills : Refills s t was now result
   pub readable : All (λ i. IsReadable t i.reader.id) new
-  pub apart : AreApart old
+  pub inputs : AreInputs old
 
 -- ---- opening one
 

@@ -15,4 +15,4 @@ returns g c =
     let items = c.self.inside.inputs.items in
     let lt : c.args.port < length items = rw c.self.view_is c.requires.port in
     let at : slice_get items c.args.port ≡ Some c.index_mut-input.result.now = slice_get_read items (length items) c.args.port c.index_mut-input.result.now refl lt c.index_mut-input.ensures.value in
-    rw (← c.self.view_is) (refilled_at lt at c.refill.ensures c.self.invariant.apart (rw c.self.view_is c.requires.readable))
+    rw (← c.self.view_is) (refilled_at lt at c.refill.ensures c.self.invariant (rw c.self.view_is c.requires.readable))
