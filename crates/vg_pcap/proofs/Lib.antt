@@ -4,3 +4,5 @@ pub mod Staying
 pub mod Ports
 pub mod Merging
 pub mod Filling
+pub mod Closing
+pub mod Opening

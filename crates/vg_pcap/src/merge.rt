@@ -225,9 +225,7 @@ fn close_all<F: Files>(files: &mut F, mut inputs: Vec<PortInput>) -> Result<(), 
     let mut result = Ok(());
     while let Some(input) = inputs.pop() {
         let PortInput { reader, waits: _ } = input;
-        if reader.close(files).is_err() {
-            result = Err(Failed);
-        }
+        result = result.and(reader.close(files));
     }
     result
 }
