@@ -1,12 +1,10 @@
 -- Lists of arrivals, and lists of which one element is replaced.
-use Rattle.std.proofs.Common.{◌≡◌, ◌≢◌, ℕ, zero, suc, ◌+◌, ◌<◌, ◌≤◌, ◌⊎◌, ◌==◌, max, inl, inr, ⊎_elim, refl, ◌∙◌, sym, ap, subst, List, [], ◌∷◌, ◌++◌, length, get_or, set, map, filter, filter_map, All, AllPairs, Contains, slice_get, Bool, true, false, cond, Some, None, Option, arith, append_assoc, append-nil, eq-eqb, ne_eqb, eqb-true}
-use Rattle.std.proofs.lemmas.List.{map-append, get_or_append_left, get_or_push, length_push, get_or_past}
-use Rattle.std.proofs.lemmas.List.Elements.{All-cons, All-nil, All-push, filter-append, Contains-push}
-use Rattle.std.proofs.lemmas.List.Quantifiers.{all_pairs_push}
-use Rattle.std.proofs.lemmas.Bool.{cases_eq, cases_lt}
+use Rattle.std.proofs.Common.{◌≡◌, ◌≢◌, ℕ, zero, suc, ◌<◌, ◌≤◌, ◌==◌, max, refl, ◌∙◌, ap, subst, List, [], ◌∷◌, ◌++◌, length, get_or, set, map, filter, filter_map, All, slice_get, Some, Option, arith, append-nil, eq-eqb, ne_eqb}
+use Rattle.std.proofs.lemmas.List.{map-append}
+use Rattle.std.proofs.lemmas.List.Elements.{All-cons, All-nil, filter-append}
 use Rattle.vg_pcap.specs.Captures.{Encoding, Record}
 use Rattle.vg_pcap.specs.Frames.{Framed, frames_after, frame_of, time_of}
-use Rattle.vg_pcap.specs.Arrivals.{Arrival, Precedes, frames_from, EndsAt}
+use Rattle.vg_pcap.specs.Arrivals.{Arrival, frames_from, EndsAt}
 
 -- ---- one element replaced
 
@@ -76,5 +74,5 @@ no_later encoding latest [] = All-nil (λ f. latest ≤ f.time)
 no_later encoding latest (r ∷ records) =
     let next : ℕ = max latest (time_of encoding r) in
     let more : (k : ℕ) (d : Framed) → k < length (frames_after encoding next records) → latest ≤ (get_or (frames_after encoding next records) k d).time =
-      λ k d lt. let here = no_later encoding next records k d lt in omega arith in
+    λ k d lt. let here = no_later encoding next records k d lt in omega arith in
     All-cons (λ f. latest ≤ f.time) (frame_of encoding latest r) (frames_after encoding next records) (omega arith) more

@@ -1,11 +1,11 @@
 -- Closing one input after another.
-use Rattle.std.proofs.Common.{◌≡◌, ◌≢◌, ℕ, zero, suc, ◌+◌, ◌<◌, ◌≤◌, ◌⊎◌, inl, inr, ⊎_elim, refl, ◌∙◌, sym, ap, subst, List, [], ◌∷◌, ◌++◌, length, All, get_or, slice_get, filter_map, Ok, Err, Some, None, Option, Result, arith, append_assoc, append-nil}
+use Rattle.std.proofs.Common.{◌≡◌, ◌≢◌, ℕ, zero, suc, ◌<◌, ⊎_elim, refl, ◌∙◌, sym, ap, subst, List, [], ◌∷◌, ◌++◌, length, slice_get, Ok, Err, Some, None, Option, Result, arith, append_assoc, append-nil}
 use Rattle.std.specs.Result.{result_and}
 use Rattle.std.specs.List.{cons_option}
 use Rattle.std.proofs.lemmas.Bool.{cases_eq}
 use Rattle.std.proofs.lemmas.List.Elements.{All-nil, All-cons, All-head, All-tail, All-weaker}
 use Rattle.std.proofs.lemmas.Option.{slice_get_within}
-use Rattle.vg_base.specs.Files.{Disk, Counts, ReadKeeps, SameIds, ClosesOne, Rose}
+use Rattle.vg_base.specs.Files.{Disk, Counts, ReadKeeps, SameIds, ClosesOne}
 use Rattle.vg_base.specs.declared.faults.Failed.{Failed}
 use Rattle.vg_base.specs.Several.{DiffersBy}
 use Rattle.vg_base.proofs.Disks.{ReadKeeps-trans, SameHeld-refl}
@@ -52,7 +52,7 @@ differs-more {s} {t} {u} {ids} None before none one =
 differs-more {s} {t} {u} {ids} (Some j) before none one =
     let closes = one j refl in
     let still_closed : (id : ℕ) → t.opened id ≡ None → u.opened id ≡ None =
-      λ id e. ⊎_elim (λ (same : id ≡ j). ap u.opened same ∙ closes.now) (λ (ne : id ≢ j). closes.others id ne ∙ e) (cases_eq id j) in
+    λ id e. ⊎_elim (λ (same : id ≡ j). ap u.opened same ∙ closes.now) (λ (ne : id ≢ j). closes.others id ne ∙ e) (cases_eq id j) in
     record {
       closed = All-cons (λ id. u.opened id ≡ None) j ids closes.now (All-weaker (λ id. t.opened id ≡ None) (λ id. u.opened id ≡ None) still_closed ids before.closed);
       others = λ id all. before.others id (All-tail (λ other. id ≢ other) j ids all) ∙ sym (closes.others id (All-head (λ other. id ≢ other) j ids all));

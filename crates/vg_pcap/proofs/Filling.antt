@@ -1,23 +1,22 @@
 -- The first record of each port is read, one port after another.
-use Rattle.std.proofs.Common.{◌≡◌, ◌≢◌, ℕ, zero, suc, ◌+◌, ◌<◌, ◌≤◌, ◌⊎◌, inl, inr, ⊎_elim, refl, ◌∙◌, sym, ap, subst, List, [], ◌∷◌, length, All, AllPairs, Contains, get_or, slice_get, Bool, true, false, Ok, Err, Some, None, Option, Result, arith}
+use Rattle.std.proofs.Common.{◌≡◌, ◌≢◌, ℕ, ◌+◌, ◌<◌, ◌≤◌, inl, inr, ⊎_elim, refl, ◌∙◌, sym, ap, subst, List, [], length, slice_get, false, Ok, Err, Some, arith}
 use Rattle.std.proofs.lemmas.Bool.{cases_eq, cases_lt}
 use Rattle.std.proofs.lemmas.List.Elements.{All-nil}
 use Rattle.std.proofs.lemmas.Option.{slice_get_within}
-use Rattle.vg_base.specs.Files.{Disk, ReadKeeps}
+use Rattle.vg_base.specs.Files.{Disk}
 use Rattle.vg_base.proofs.Disks.{SameHeld-refl}
 use Rattle.vg_pcap.specs.declared.faults.CaptureFault.{CaptureFault}
 use Rattle.vg_pcap.specs.declared.faults.CaptureFault.TheVariants as faults
-use Rattle.vg_pcap.specs.declared.merge.MergeFault.{MergeFault}
-use Rattle.vg_pcap.specs.Captures.{Damage, CaptureEnd, Whole, Refused}
-use Rattle.vg_pcap.specs.Frames.{Framed, Stream}
-use Rattle.vg_pcap.specs.Arrivals.{Arrival, stream_at, Precedes, ComeFirst, IsAtDamage, ComeUpTo}
+use Rattle.vg_pcap.specs.Captures.{Damage, Refused}
+use Rattle.vg_pcap.specs.Frames.{Stream}
+use Rattle.vg_pcap.specs.Arrivals.{stream_at, Precedes, ComeFirst, ComeUpTo}
 use Rattle.vg_pcap.specs.Reader.{StillComes, number_after, fault_of}
-use Rattle.vg_pcap.specs.Merge.{Input, InputComes, Comes, AreToCome, AreReadable, RefusesRecord, ReadsInputs, Fills, waiting_count}
-use Rattle.vg_pcap.specs.Inputs.{AreInputs, Refills, RefillsAt, RefusesNext}
+use Rattle.vg_pcap.specs.Merge.{Input, InputComes, AreToCome, AreReadable, ReadsInputs, Fills, waiting_count}
+use Rattle.vg_pcap.specs.Inputs.{RefillsAt}
 use Rattle.vg_pcap.proofs.Arriving.{All-at_place}
 use Rattle.vg_pcap.proofs.Staying.{InputComes-stays, StillComes-stays}
 use Rattle.vg_pcap.proofs.Ports.{at_refilled, other_id, reads_one, reads_refused, ReadsInputs-trans}
-use Rattle.vg_pcap.proofs.Merging.{input_at, no_damage, no_damage_past}
+use Rattle.vg_pcap.proofs.Merging.{input_at, no_damage}
 
 -- of the streams that are to come, the first record of each port below this one was read
 pub record FilledBelow (t : Disk) (inputs : List Input) (port : ℕ) (streams : List Stream) : Type 0 where

@@ -1,20 +1,19 @@
 -- One frame after another comes in the one order.
-use Rattle.std.proofs.Common.{◌≡◌, ◌≢◌, ℕ, zero, suc, ◌+◌, ◌<◌, ◌≤◌, ◌⊎◌, ◌^◌, min, inl, inr, ⊎_elim, le_of_eq, refl, ◌∙◌, sym, ap, subst, List, [], ◌∷◌, ◌++◌, length, set, get_or, All, AllPairs, Contains, slice_get, if◌then◌else◌, Bool, true, false, Ok, Err, Some, None, Option, Result, IfErr, IfSome, IfNone, arith, length-set, length-append, append_assoc, append-nil, true≢false, get_or-set_same, get_or-set_other}
+use Rattle.std.proofs.Common.{◌≡◌, ◌≢◌, ℕ, zero, suc, ◌+◌, ◌<◌, ◌≤◌, ◌⊎◌, inl, inr, ⊎_elim, le_of_eq, refl, ◌∙◌, sym, ap, subst, List, [], ◌∷◌, ◌++◌, length, set, get_or, All, Contains, slice_get, if◌then◌else◌, Bool, true, false, Ok, Err, Some, None, Option, IfSome, IfNone, arith, length-set, append_assoc, true≢false, get_or-set_same, get_or-set_other}
 use Rattle.std.proofs.lemmas.Bool.{cases_eq, cases_lt}
 use Rattle.std.proofs.lemmas.List.{get_or_past, length_push}
-use Rattle.std.proofs.lemmas.List.Elements.{All-nil, All-push, All-contains, Contains-append_cases}
+use Rattle.std.proofs.lemmas.List.Elements.{All-push, All-contains, Contains-append_cases}
 use Rattle.std.proofs.lemmas.List.Quantifiers.{all_pairs_push}
-use Rattle.std.proofs.lemmas.Option.{same_Some, slice_get_within, slice_get-get_or, slice_get_past}
-use Rattle.vg_base.specs.Files.{Disk, ReadKeeps}
+use Rattle.std.proofs.lemmas.Option.{same_Some, slice_get_within}
+use Rattle.vg_base.specs.Files.{Disk}
 use Rattle.vg_pcap.specs.declared.faults.CaptureFault.{CaptureFault}
 use Rattle.vg_pcap.specs.declared.faults.CaptureFault.TheVariants as faults
-use Rattle.vg_pcap.specs.declared.merge.MergeFault.{MergeFault}
-use Rattle.vg_pcap.specs.Captures.{Damage, CaptureEnd, Whole, Refused}
-use Rattle.vg_pcap.specs.Frames.{Framed, Stream, frames_after, Fits}
-use Rattle.vg_pcap.specs.Arrivals.{Arrival, no_frames, stream_at, frames_from, Precedes, ComeFirst, EndsAt, IsAtDamage, AllCome, ComeUpTo}
-use Rattle.vg_pcap.specs.Reader.{Reader, StillComes, number_after, fault_of}
-use Rattle.vg_pcap.specs.Merge.{Input, InputComes, IsNext, IsChanged, Comes, AreToCome, RefusesRecord, Advances, waiting_at, waiting_count}
-use Rattle.vg_pcap.specs.Inputs.{AreApart, AreInputs, IsSound, IsLastFrame, Refills, RefillsAt, RefusesNext, IsLeastBelow}
+use Rattle.vg_pcap.specs.Captures.{Damage, Whole, Refused}
+use Rattle.vg_pcap.specs.Frames.{Framed, Stream, Fits}
+use Rattle.vg_pcap.specs.Arrivals.{Arrival, no_frames, stream_at, frames_from, Precedes, ComeFirst, AllCome, ComeUpTo}
+use Rattle.vg_pcap.specs.Reader.{StillComes, number_after, fault_of}
+use Rattle.vg_pcap.specs.Merge.{Input, InputComes, IsNext, IsChanged, Comes, RefusesRecord, Advances, waiting_at, waiting_count}
+use Rattle.vg_pcap.specs.Inputs.{IsSound, IsLastFrame, RefillsAt, IsLeastBelow}
 use Rattle.vg_pcap.proofs.Arriving.{frames_from-push_same, frames_from-push_other, EndsAt-push, no_later, All-at_place, All-from_places}
 use Rattle.vg_pcap.proofs.Staying.{InputComes-stays}
 use Rattle.vg_pcap.proofs.Ports.{at_refilled, other_id, reads_one, reads_refused}
@@ -68,19 +67,19 @@ ComeFirst-more {streams} {left} {past} a rest first lt head least =
     let at_port : stream_at (set left a.port now) a.port ≡ now = get_or-set_same left a.port now no_frames lt in
     let elsewhere : (port : ℕ) → port ≢ a.port → stream_at (set left a.port now) port ≡ stream_at left port = λ port ne. get_or-set_other left a.port port now no_frames ne in
     let within : (port : ℕ) (f : Framed) → Contains (stream_at (set left a.port now) port).frames f → Contains (stream_at left port).frames f =
-      λ port f h. ⊎_elim
-      (λ (e : port ≡ a.port).
-      let there : Contains rest f = subst (λ (s : Stream). Contains s.frames f) (ap (λ k. stream_at (set left a.port now) k) e ∙ at_port) h in
-      subst (λ (k : ℕ). Contains (stream_at left k).frames f) (sym e) (subst (λ (fs : List Framed). Contains fs f) (sym head) (in_tail f a.frame rest there)))
-      (λ (ne : port ≢ a.port). subst (λ (s : Stream). Contains s.frames f) (elsewhere port ne) h)
-      (cases_eq port a.port) in
+    λ port f h. ⊎_elim
+    (λ (e : port ≡ a.port).
+    let there : Contains rest f = subst (λ (s : Stream). Contains s.frames f) (ap (λ k. stream_at (set left a.port now) k) e ∙ at_port) h in
+    subst (λ (k : ℕ). Contains (stream_at left k).frames f) (sym e) (subst (λ (fs : List Framed). Contains fs f) (sym head) (in_tail f a.frame rest there)))
+    (λ (ne : port ≢ a.port). subst (λ (s : Stream). Contains s.frames f) (elsewhere port ne) h)
+    (cases_eq port a.port) in
     record {
       ports = length-set left a.port now ∙ first.ports;
       in_turn = λ port. ⊎_elim
           (λ (e : port ≡ a.port).
           subst (λ (k : ℕ). (stream_at streams k).frames ≡ frames_from k (past ++ a ∷ []) ++ (stream_at (set left a.port now) k).frames) (sym e)
           (first.in_turn a.port ∙ (ap (λ l. frames_from a.port past ++ l) head ∙ (sym (append_assoc (frames_from a.port past) (a.frame ∷ []) rest)
-          ∙ (ap (λ l. l ++ rest) (sym (frames_from-push_same a past)) ∙ ap (λ (s : Stream). frames_from a.port (past ++ a ∷ []) ++ s.frames) (sym at_port)))))) 
+          ∙ (ap (λ l. l ++ rest) (sym (frames_from-push_same a past)) ∙ ap (λ (s : Stream). frames_from a.port (past ++ a ∷ []) ++ s.frames) (sym at_port))))))
           (λ (ne : port ≢ a.port).
           first.in_turn port ∙ (ap (λ l. l ++ (stream_at left port).frames) (sym (frames_from-push_other port a past (λ e. ne (sym e))))
           ∙ ap (λ (s : Stream). frames_from port (past ++ a ∷ []) ++ s.frames) (sym (elsewhere port ne))))
@@ -181,10 +180,15 @@ handled {s} {came} {old} {streams} {past} {a} {was} changed sound at comes =
     let is : record input { reader = record input.reader { frame = record a.frame { bytes = bytes.0 } } } ≡ was = same_Some _ was (sym bytes.2 ∙ at) in
     let least = least_of_all left a changed.next (comes.ports ∙ sym comes.first.ports) comes.still (waits_last changed sound) in
     let changed_still : StillComes s (record input.reader { frame = record a.frame { bytes = bytes.0 } }) (record { frames = w.0; end = (stream_at left a.port).end }) = record {
-      told = w.2.told; bytes = w.2.bytes; before = w.2.before; records = w.2.records; are = w.2.are; frames = w.2.frames;
+      told = w.2.told;
+      bytes = w.2.bytes;
+      before = w.2.before;
+      records = w.2.records;
+      are = w.2.are;
+      frames = w.2.frames;
     } in
     let here_count : number_after input.reader.count ≡ number_after (length (frames_from a.port past) + 1) =
-      one_waits input.reader.count (length (frames_from a.port past)) input.waits changed.next.waits (comes.counts a.port input changed.next.at) in
+    one_waits input.reader.count (length (frames_from a.port past)) input.waits changed.next.waits (comes.counts a.port input changed.next.at) in
     record {
       left = left;
       rest = w.0;
@@ -225,7 +229,7 @@ Comes-more {s} {t} {came} {old} {new} {streams} {past} {a} changed sound comes r
           (λ (e : (port ≡ a.port) × (input ≡ r.now)).
           let long : length (frames_from a.port (past ++ a ∷ [])) ≡ length (frames_from a.port past) + 1 = ap length (frames_from-push_same a past) ∙ length_push (frames_from a.port past) a.frame in
           let here : number_after r.now.reader.count ≡ number_after (length (frames_from a.port past) + 1 + waiting_count r.now) =
-            number_after-more r.now.reader.count r.was.reader.count (length (frames_from a.port past)) (waiting_count r.now) r.refills.counts h.count in
+          number_after-more r.now.reader.count r.was.reader.count (length (frames_from a.port past)) (waiting_count r.now) r.refills.counts h.count in
           subst (λ (k : ℕ). number_after input.reader.count ≡ number_after (length (frames_from k (past ++ a ∷ [])) + waiting_count input)) (sym e.0)
           (subst (λ (i : Input). number_after i.reader.count ≡ number_after (length (frames_from a.port (past ++ a ∷ [])) + waiting_count i)) (sym e.1)
           (subst (λ (n : ℕ). number_after r.now.reader.count ≡ number_after (n + waiting_count r.now)) (sym long) here)))
@@ -262,9 +266,9 @@ refuses_more {s} {t} {came} {old} {new} {streams} {past} {a} {fault} changed sou
     (λ (read : fault ≡ faults.Read). inl read)
     (λ (refused : (h.rest ≡ []) × (damage : Damage) × (now.end ≡ Refused damage) × (fault ≡ fault_of damage (number_after r.was.reader.count))).
     let all : length (stream_at streams a.port).frames ≡ length (frames_from a.port past) + 1 =
-      ap length (h.turn ∙ ap (λ l. frames_from a.port past ++ a.frame ∷ l) refused.0) ∙ length_push (frames_from a.port past) a.frame in
+    ap length (h.turn ∙ ap (λ l. frames_from a.port past ++ a.frame ∷ l) refused.0) ∙ length_push (frames_from a.port past) a.frame in
     let number : number_after r.was.reader.count ≡ number_after (length (stream_at streams a.port).frames) =
-      number-after_all r.was.reader.count (length (frames_from a.port past)) (length (stream_at streams a.port).frames) h.count all in
+    number-after_all r.was.reader.count (length (frames_from a.port past)) (length (stream_at streams a.port).frames) h.count all in
     let upto : ComeUpTo streams (past ++ a ∷ []) a.port refused.1 = record {
       left = left;
       first = h.first;
@@ -354,10 +358,10 @@ pub all_come : {s : Disk} {inputs : List Input} {streams : List Stream} {past : 
 all_come {s} {inputs} {streams} {past} none comes =
     let same_ports : length inputs ≡ length comes.left = comes.ports ∙ sym comes.first.ports in
     let ended : (port : ℕ) → ((stream_at comes.left port).frames ≡ []) × ((stream_at comes.left port).end ≡ Whole) =
-      λ port. ⊎_elim
-      (λ (lt : port < length inputs). let i = input_at inputs port lt in (comes.still port i.0 i.1).ended (All-at_place (λ (input : Input). input.waits ≡ false) inputs port i.0 none i.1))
-      (λ (past_all : length inputs ≤ port). let is = past_ports comes.left port (omega arith) in (ap (λ (st : Stream). st.frames) is, ap (λ (st : Stream). st.end) is))
-      (cases_lt port (length inputs)) in
+    λ port. ⊎_elim
+    (λ (lt : port < length inputs). let i = input_at inputs port lt in (comes.still port i.0 i.1).ended (All-at_place (λ (input : Input). input.waits ≡ false) inputs port i.0 none i.1))
+    (λ (past_all : length inputs ≤ port). let is = past_ports comes.left port (omega arith) in (ap (λ (st : Stream). st.frames) is, ap (λ (st : Stream). st.end) is))
+    (cases_lt port (length inputs)) in
     record {
       left = comes.left;
       first = comes.first;
@@ -370,14 +374,16 @@ pub next_of_all : (inputs : List Input) (port : ℕ) (next : Option ℕ) → len
     IfSome next (λ p. (f : Framed) × IsNext inputs (record { port = p; frame = f }))
 next_of_all inputs port None past least = tt
 next_of_all inputs port (Some p) past least =
-    let input = least.0 in
-    (input.reader.frame, record {
-      input = input;
-      at = least.2;
-      waits = least.3;
-      frame = refl;
-      least = λ q other at waits. let lt = slice_get_within inputs q other at in least.4 q other (omega arith) at waits;
-    })
+    let input = least.0 in (
+      input.reader.frame,
+      record {
+        input = input;
+        at = least.2;
+        waits = least.3;
+        frame = refl;
+        least = λ q other at waits. let lt = slice_get_within inputs q other at in least.4 q other (omega arith) at waits;
+      },
+    )
 
 pub none_of_all : (inputs : List Input) (port : ℕ) (next : Option ℕ) → length inputs ≤ port → IsLeastBelow inputs port next →
     IfNone next (All (λ input. input.waits ≡ false) inputs)

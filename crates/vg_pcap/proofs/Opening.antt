@@ -1,29 +1,27 @@
 -- The capture of one port is opened after that of another.
-use Rattle.std.proofs.Common.{◌≡◌, ◌≢◌, ℕ, zero, suc, ◌+◌, ◌<◌, ◌≤◌, ◌⊎◌, inl, inr, ⊎_elim, refl, ◌∙◌, sym, ap, subst, List, [], ◌∷◌, ◌++◌, length, All, Contains, get_or, slice_get, filter_map, codes, bytes_eq, Bool, true, false, IsTrue, Ok, Err, Some, None, Option, Result, arith, append-nil, length-append}
+use Rattle.std.proofs.Common.{◌≡◌, ◌≢◌, ℕ, zero, suc, ◌+◌, ◌<◌, ◌≤◌, ◌⊎◌, inl, inr, ⊎_elim, refl, ◌∙◌, sym, ap, subst, List, [], ◌∷◌, ◌++◌, length, All, Contains, get_or, slice_get, codes, bytes_eq, Bool, true, false, IsTrue, Ok, Err, Some, None, Option, Result, arith, append-nil, take, drop, take_all, length-take-le, take-append-drop}
 use Rattle.std.specs.List.{cons_option}
 use Rattle.std.proofs.Math.Path.{fun_ext}
-use Rattle.std.proofs.lemmas.Bool.{cases_eq, cases_lt}
-use Rattle.std.proofs.lemmas.List.{length_push, get_or_append_left, get_or_push}
-use Rattle.std.proofs.lemmas.List.Elements.{All-nil, All-cons, All-push, All-pop, All-head, All-tail, All-weaker, All-contains, filter_map-append}
+use Rattle.std.proofs.lemmas.Bool.{cases_eq}
+use Rattle.std.proofs.lemmas.List.{length_push, get_or_append_left, get_or_push, take_more, drop_more}
+use Rattle.std.proofs.lemmas.List.Elements.{All-nil, All-cons, All-push, All-pop, All-weaker, All-contains, filter_map-append}
 use Rattle.std.proofs.lemmas.Option.{slice_get_within, same_Some}
 use Rattle.std.proofs.lemmas.Slice.Eq.{bytes_eq-Decides}
-use Rattle.vg_base.specs.Files.{Disk, Opened, Reads, IsOpen, Counts, ReadKeeps, SameIds, OpensOne, Rose}
+use Rattle.vg_base.specs.Files.{Disk, Reads, IsOpen, ReadKeeps, SameIds, OpensOne}
 use Rattle.vg_base.specs.declared.faults.Failed.{Failed}
-use Rattle.vg_base.specs.Several.{DiffersBy, AreOpen, OpensThese}
+use Rattle.vg_base.specs.Several.{DiffersBy, OpensThese}
 use Rattle.vg_base.proofs.Disks.{ReadKeeps-trans, SameHeld-refl, IsOpen-some}
 use Rattle.vg_pcap.specs.declared.faults.CaptureFault.{CaptureFault}
 use Rattle.vg_pcap.specs.declared.faults.CaptureFault.TheVariants as faults
 use Rattle.vg_pcap.specs.declared.faults.HeaderField.{HeaderField}
-use Rattle.vg_pcap.specs.declared.merge.MergeFault.{MergeFault}
 use Rattle.vg_pcap.specs.Frames.{Stream, HoldsStream}
-use Rattle.vg_pcap.specs.Captures.{IsBadHeader}
 use Rattle.vg_pcap.specs.Arrivals.{no_frames, stream_at}
 use Rattle.vg_pcap.specs.Reader.{Reader, ComesIn, HasBadHeader, StillComes, IsReadable, Starts}
-use Rattle.vg_pcap.specs.Merge.{Input, AreReadable, ids_of, AreToCome, AllComeIn, IsFirstBadHeader, RefusesStart, StartsMerge, ClosesInputs}
-use Rattle.vg_pcap.specs.Inputs.{AreApart, AreInputs, IsSound}
-use Rattle.vg_pcap.proofs.Arriving.{All-from_places, All-at_place}
+use Rattle.vg_pcap.specs.Merge.{Input, AreReadable, ids_of, AreToCome, AllComeIn, StartsMerge, ClosesInputs}
+use Rattle.vg_pcap.specs.Inputs.{AreApart, AreInputs, IsSound, OpensPort}
+use Rattle.vg_pcap.proofs.Arriving.{All-at_place}
 use Rattle.vg_pcap.proofs.Staying.{SameId, IsReadable-stays, StillComes-stays}
-use Rattle.vg_pcap.proofs.Closing.{slice_get-append_left, slice_get-append_next, differs-none}
+use Rattle.vg_pcap.proofs.Closing.{slice_get-append_next, differs-none}
 
 -- ---- appended lists
 
@@ -94,24 +92,29 @@ opens_elsewhere {s} id other opens readable = record { stands = λ j is. open_st
 opens_more : {s t u : Disk} {ids : List ℕ} (id : Option ℕ) → OpensThese s t Reads ids → OpensAtMost t u id → OpensThese s u Reads (ids ++ cons_option id [])
 opens_more {s} {t} {u} {ids} None these opens =
     let same = opens.none refl in
-    let here : OpensThese s u Reads ids = (record {
-      closed = these.0.closed;
-      others = λ k all. ap (λ f. f k) same.opened ∙ these.0.others k all;
-      count = omega (arith, these.0.count, same.open_count);
-    }, All-weaker (λ k. IsOpen Reads (t.opened k)) (λ k. IsOpen Reads (u.opened k)) (λ k is. rw same.opened is) ids these.1) in
+    let here : OpensThese s u Reads ids = (
+      record {
+        closed = these.0.closed;
+        others = λ k all. ap (λ f. f k) same.opened ∙ these.0.others k all;
+        count = omega (arith, these.0.count, same.open_count);
+      },
+      All-weaker (λ k. IsOpen Reads (t.opened k)) (λ k. IsOpen Reads (u.opened k)) (λ k is. rw same.opened is) ids these.1,
+    ) in
     rw append-nil here
 opens_more {s} {t} {u} {ids} (Some j) these opens =
     let one = opens.one j refl in
     let apart : All (λ k. j ≢ k) ids =
-      All-weaker (λ k. IsOpen Reads (t.opened k)) (λ k. j ≢ k) (λ k is same. let some = IsOpen-some Reads (t.opened k) is in let closed = ap t.opened (sym same) ∙ one.was in cc) ids these.1 in
-    (record {
-      closed = All-push (λ k. s.opened k ≡ None) ids j these.0.closed (sym (these.0.others j apart) ∙ one.was);
-      others = λ k all.
-          let parts = All-pop (λ other. k ≢ other) (ids ++ j ∷ []) ids (Some j) refl all in
-          one.others k parts.1 ∙ these.0.others k parts.0;
-      count = omega (arith, these.0.count, one.one_more, length_push ids j);
-    }, All-push (λ k. IsOpen Reads (u.opened k)) ids j
-      (All-weaker (λ k. IsOpen Reads (t.opened k)) (λ k. IsOpen Reads (u.opened k)) (λ k is. rw (open_stays (Some j) k opens is) is) ids these.1) one.now)
+    All-weaker (λ k. IsOpen Reads (t.opened k)) (λ k. j ≢ k) (λ k is same. let some = IsOpen-some Reads (t.opened k) is in let closed = ap t.opened (sym same) ∙ one.was in cc) ids these.1 in (
+      record {
+        closed = All-push (λ k. s.opened k ≡ None) ids j these.0.closed (sym (these.0.others j apart) ∙ one.was);
+        others = λ k all.
+            let parts = All-pop (λ other. k ≢ other) (ids ++ j ∷ []) ids (Some j) refl all in
+            one.others k parts.1 ∙ these.0.others k parts.0;
+        count = omega (arith, these.0.count, one.one_more, length_push ids j);
+      },
+      All-push (λ k. IsOpen Reads (u.opened k)) ids j
+          (All-weaker (λ k. IsOpen Reads (t.opened k)) (λ k. IsOpen Reads (u.opened k)) (λ k is. rw (open_stays (Some j) k opens is) is) ids these.1) one.now,
+    )
 
 -- what comes in under a name stays where what can be read does
 ComesIn-before : {s t : Disk} (name : List ℕ) (stream : Stream) → ReadKeeps s t → ComesIn t name stream → ComesIn s name stream
@@ -145,11 +148,15 @@ opening-none s = record {
     ports = refl;
     opens = (differs-none s, All-nil (λ id. IsOpen Reads (s.opened id)));
     readable = All-nil (λ i. IsReadable s i.reader.id);
-    comes = λ told. ([], record { ports = refl; each = λ port name at. absurd cc }, record {
-      ports = refl;
-      still = λ port input at. absurd cc;
-      none = All-nil (λ i. (i.waits ≡ false) × (i.reader.count ≡ 0));
-    });
+    comes = λ told. (
+      [],
+      record { ports = refl; each = λ port name at. absurd cc },
+      record {
+        ports = refl;
+        still = λ port input at. absurd cc;
+        none = All-nil (λ i. (i.waits ≡ false) × (i.reader.count ≡ 0));
+      },
+    );
     closed = tt;
     refused = tt;
   };
@@ -159,17 +166,19 @@ opening-none s = record {
 
 -- one more id differs from those that are open
 apart-more : {t u : Disk} {inputs : List Input} (reader : Reader) → AreApart inputs → AreReadable t inputs → OpensAtMost t u reader.id → AreApart (inputs ++ opened_input reader ∷ [])
-apart-more {t} {u} {inputs} reader apart readable opens = record { places = λ p q a b id at-a at-b is-a is-b.
-    ⊎_elim
-    (λ (x : slice_get inputs p ≡ Some a). ⊎_elim
-    (λ (y : slice_get inputs q ≡ Some b). apart.places p q a b id x y is-a is-b)
-    (λ (y : (q ≡ length inputs) × (b ≡ opened_input reader)). absurd (fresh p a id x is-a (sym (ap (λ (i : Input). i.reader.id) y.1) ∙ is-b)))
-    (at_push inputs (opened_input reader) q b at-b))
-    (λ (x : (p ≡ length inputs) × (a ≡ opened_input reader)). ⊎_elim
-    (λ (y : slice_get inputs q ≡ Some b). absurd (fresh q b id y is-b (sym (ap (λ (i : Input). i.reader.id) x.1) ∙ is-a)))
-    (λ (y : (q ≡ length inputs) × (b ≡ opened_input reader)). x.0 ∙ sym y.0)
-    (at_push inputs (opened_input reader) q b at-b))
-    (at_push inputs (opened_input reader) p a at-a) }
+apart-more {t} {u} {inputs} reader apart readable opens = record {
+  places = λ p q a b id at-a at-b is-a is-b.
+      ⊎_elim
+      (λ (x : slice_get inputs p ≡ Some a). ⊎_elim
+      (λ (y : slice_get inputs q ≡ Some b). apart.places p q a b id x y is-a is-b)
+      (λ (y : (q ≡ length inputs) × (b ≡ opened_input reader)). absurd (fresh p a id x is-a (sym (ap (λ (i : Input). i.reader.id) y.1) ∙ is-b)))
+      (at_push inputs (opened_input reader) q b at-b))
+      (λ (x : (p ≡ length inputs) × (a ≡ opened_input reader)). ⊎_elim
+      (λ (y : slice_get inputs q ≡ Some b). absurd (fresh q b id y is-b (sym (ap (λ (i : Input). i.reader.id) x.1) ∙ is-a)))
+      (λ (y : (q ≡ length inputs) × (b ≡ opened_input reader)). x.0 ∙ sym y.0)
+      (at_push inputs (opened_input reader) q b at-b))
+      (at_push inputs (opened_input reader) p a at-a);
+}
   where
     fresh : (p : ℕ) (x : Input) (id : ℕ) → slice_get inputs p ≡ Some x → x.reader.id ≡ Some id → reader.id ≡ Some id → ⊥
     fresh p x id at is new =
@@ -229,10 +238,11 @@ opening-more {s} {t} {u} {names} {inputs} {reader} name opening one =
             (opens_readable reader.id opens);
         comes = λ told.
             let first = before.comes told in
-            let here = one.comes (rw before.keeps.held.tells_held told) in
-            (first.0 ++ here.0 ∷ [],
-            names-more name here.0 first.1 (ComesIn-before name here.0 before.keeps here.1),
-            come-more here.0 first.2 before.readable one.keeps opens here.2 one.fresh);
+            let here = one.comes (rw before.keeps.held.tells_held told) in (
+              first.0 ++ here.0 ∷ [],
+              names-more name here.0 first.1 (ComesIn-before name here.0 before.keeps here.1),
+              come-more here.0 first.2 before.readable one.keeps opens here.2 one.fresh,
+            );
         closed = tt;
         refused = tt;
       };
@@ -276,18 +286,22 @@ opening-refused {s} {t} {u} {v} {names} {inputs} {fault} {result} name more port
           (λ other. ⊎_elim
           (λ (memory : fault ≡ faults.Memory). inr (inl memory))
           (λ (bad : (field : HeaderField) × (fault ≡ faults.Header field) × (IsTrue t.tells_held → HasBadHeader t name field)).
-          inr (inr (bad.0, bad.1, λ told.
-          let told_t : IsTrue t.tells_held = rw before.keeps.held.tells_held told in
-          record {
-            name = name;
-            at = ap (λ k. slice_get (names ++ name ∷ more) k) is ∙ slice_get-append_next names more name;
-            bad = HasBadHeader-before name bad.0 before.keeps (bad.2 told_t);
-            first = λ earlier other lt at.
-                let within : earlier < length names = omega arith in
-                let all = before.comes told in
-                let there : slice_get names earlier ≡ Some other = sym (slice_get-append_within names (name ∷ more) earlier within) ∙ at in
-                (stream_at all.0 earlier, all.1.each earlier other there);
-          })))
+          inr (inr (
+            bad.0,
+            bad.1,
+            λ told.
+                let told_t : IsTrue t.tells_held = rw before.keeps.held.tells_held told in
+                record {
+                  name = name;
+                  at = ap (λ k. slice_get (names ++ name ∷ more) k) is ∙ slice_get-append_next names more name;
+                  bad = HasBadHeader-before name bad.0 before.keeps (bad.2 told_t);
+                  first = λ earlier other lt at.
+                      let within : earlier < length names = omega arith in
+                      let all = before.comes told in
+                      let there : slice_get names earlier ≡ Some other = sym (slice_get-append_within names (name ∷ more) earlier within) ∙ at in
+                      (stream_at all.0 earlier, all.1.each earlier other there);
+                },
+          )))
           other)
           one.refused;
     }
@@ -299,3 +313,46 @@ opened_inputs {s} {t} {names} {inputs} few opening = record {
   apart = opening.apart;
   sound = All-weaker (λ i. i.waits ≡ false) IsSound (λ i idle waits. absurd cc) inputs opening.idle;
 }
+
+-- ---- the next of the names
+
+-- there are no more ids than inputs
+pub few_ids : (inputs : List Input) → length (ids_of inputs) ≤ length inputs
+few_ids [] = omega arith
+few_ids (x ∷ inputs) = one x.reader.id (ids_of inputs) (few_ids inputs)
+  where
+    one : (id : Option ℕ) (ids : List ℕ) → length ids ≤ length inputs → length (cons_option id ids) ≤ suc (length inputs)
+    one None ids le = omega arith
+    one (Some j) ids le = omega arith
+
+-- the name at a place, among all
+split_at : (names : List (List ℕ)) (k : ℕ) (name : List ℕ) → k < length names → name ≡ get_or names k name → names ≡ take k names ++ name ∷ drop (k + 1) names
+split_at names k name lt is = sym (take-append-drop k names) ∙ ap (λ l. take k names ++ l) (drop_more names k name lt ∙ ap (λ n. n ∷ drop (k + 1) names) (sym is))
+
+pub opening-next : {s t u : Disk} {old : List Input} (names : List (List ℕ)) (k : ℕ) (name : List ℕ) (new : List Input) → k < length names → name ≡ get_or names k name → Opening s t (take k names) old → OpensPort t u name old new (Ok tt) → Opening s u (take (k + 1) names) new
+opening-next {s} {t} {u} {old} names k name new lt is opening opens =
+    let one = opening-more name opening opens.2 in
+    let all : take (k + 1) names ≡ take k names ++ name ∷ [] = take_more names k name lt ∙ ap (λ n. take k names ++ n ∷ []) (sym is) in
+    subst (λ (l : List (List ℕ)). Opening s u l new) (sym all) (subst (λ (l : List Input). Opening s u (take k names ++ name ∷ []) l) (sym opens.1) one)
+
+-- where one is refused, those before can be closed
+pub opening-stands : {s t u : Disk} {names : List (List ℕ)} {old : List Input} (name : List ℕ) (new : List Input) (fault : CaptureFault) → Opening s t names old → OpensPort t u name old new (Err fault) → AreReadable u new × AreApart new
+opening-stands {s} {t} {u} {names} {old} name new fault opening opens =
+    let same = opens.1.closed in
+    let readable : AreReadable u old = All-weaker (λ i. IsReadable t i.reader.id) (λ i. IsReadable u i.reader.id)
+    (λ i r. IsReadable-stays i.reader.id r (same_id i.reader.id same)) old opening.starts.readable in
+    (subst (λ (l : List Input). AreReadable u l) (sym opens.0) readable, subst AreApart (sym opens.0) opening.apart)
+  where
+    same_id : (id : Option ℕ) → SameIds t u → SameId t u id
+    same_id id same = record { stands = λ j is. ap (λ f. f j) same.opened }
+
+pub opening-stops : {s t u v : Disk} {names : List (List ℕ)} {k : ℕ} {old new : List Input} {result : Result (Unit {0}) Failed} (name : List ℕ) (fault : CaptureFault) → k < length names → name ≡ get_or names k name → Opening s t (take k names) old → OpensPort t u name old new (Err fault) → ClosesInputs u v new result →
+    StartsMerge s v names (Err (record { port = k; fault = fault }))
+opening-stops {s} {t} {u} {v} {names} {k} {old} {new} {result} name fault lt is opening opens closes =
+    let closes_old : ClosesInputs u v old result = subst (λ (l : List Input). ClosesInputs u v l result) opens.0 closes in
+    let port : k ≡ length (take k names) = sym (length-take-le k names (omega arith)) in
+    subst (λ (l : List (List ℕ)). StartsMerge s v l (Err (record { port = k; fault = fault }))) (sym (split_at names k name lt is))
+    (opening-refused name (drop (k + 1) names) k opening opens.1 closes_old port)
+
+pub opening-all : {s t : Disk} {names : List (List ℕ)} {k : ℕ} {inputs : List Input} → length names ≤ k → Opening s t (take k names) inputs → Opening s t names inputs
+opening-all {s} {t} {names} {k} {inputs} le opening = subst (λ (l : List (List ℕ)). Opening s t l inputs) (take_all k names le) opening

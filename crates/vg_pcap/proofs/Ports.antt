@@ -1,15 +1,14 @@
 -- Reading the next record of one of several inputs.
-use Rattle.std.proofs.Common.{◌≡◌, ◌≢◌, ℕ, ◌<◌, ◌≤◌, ◌⊎◌, inl, inr, ⊎_elim, refl, ◌∙◌, sym, ap, subst, List, [], ◌∷◌, length, set, All, slice_get, filter_map, Ok, Err, Some, None, Option, Result, arith, length-set}
+use Rattle.std.proofs.Common.{◌≡◌, ◌≢◌, ℕ, ◌<◌, ◌⊎◌, inl, inr, ⊎_elim, refl, ◌∙◌, sym, ap, List, length, set, All, slice_get, Ok, Err, Some, Result, arith, length-set}
 use Rattle.std.proofs.lemmas.Bool.{cases_eq}
 use Rattle.std.proofs.lemmas.List.Elements.{All-set}
 use Rattle.std.proofs.lemmas.Option.{same_Some}
-use Rattle.vg_base.specs.Files.{Disk, ReadKeeps}
+use Rattle.vg_base.specs.Files.{Disk}
 use Rattle.vg_base.proofs.Disks.{ReadKeeps-trans}
 use Rattle.vg_pcap.specs.declared.faults.CaptureFault.{CaptureFault}
-use Rattle.vg_pcap.specs.declared.faults.CaptureFault.TheVariants as faults
 use Rattle.vg_pcap.specs.declared.merge.MergeFault.{MergeFault}
 use Rattle.vg_pcap.specs.Reader.{IsReadable}
-use Rattle.vg_pcap.specs.Merge.{Input, AreReadable, ids_of, HasMergeCause, ReadsInputs}
+use Rattle.vg_pcap.specs.Merge.{Input, AreReadable, ids_of, ReadsInputs}
 use Rattle.vg_pcap.specs.Inputs.{AreApart, AreInputs, IsSound, Refills, RefillsAt}
 use Rattle.vg_pcap.proofs.Refilling.{cause_at, no_cause}
 use Rattle.vg_pcap.proofs.Arriving.{slice_get-set_same, slice_get-set_other, filter_map-same, All-from_places, All-at_place}
@@ -26,17 +25,19 @@ at_set xs i y p x lt at =
 
 -- the ids of an input that is read stay
 pub apart-set : {inputs : List Input} {port : ℕ} {was : Input} (now : Input) → port < length inputs → slice_get inputs port ≡ Some was → now.reader.id ≡ was.reader.id → AreApart inputs → AreApart (set inputs port now)
-apart-set {inputs} {port} {was} now lt at same apart = record { places = λ p q a b id at-a at-b is-a is-b.
-    ⊎_elim
-    (λ here. ⊎_elim
-    (λ there. here.0 ∙ sym there.0)
-    (λ there. here.0 ∙ apart.places port q was b id at there.1 (sym same ∙ (ap (λ x. x.reader.id) (sym here.1) ∙ is-a)) is-b)
-    (at_set inputs port now q b lt at-b))
-    (λ here. ⊎_elim
-    (λ there. apart.places p port a was id here.1 at is-a (sym same ∙ (ap (λ x. x.reader.id) (sym there.1) ∙ is-b)) ∙ sym there.0)
-    (λ there. apart.places p q a b id here.1 there.1 is-a is-b)
-    (at_set inputs port now q b lt at-b))
-    (at_set inputs port now p a lt at-a) }
+apart-set {inputs} {port} {was} now lt at same apart = record {
+  places = λ p q a b id at-a at-b is-a is-b.
+      ⊎_elim
+      (λ here. ⊎_elim
+      (λ there. here.0 ∙ sym there.0)
+      (λ there. here.0 ∙ apart.places port q was b id at there.1 (sym same ∙ (ap (λ x. x.reader.id) (sym here.1) ∙ is-a)) is-b)
+      (at_set inputs port now q b lt at-b))
+      (λ here. ⊎_elim
+      (λ there. apart.places p port a was id here.1 at is-a (sym same ∙ (ap (λ x. x.reader.id) (sym there.1) ∙ is-b)) ∙ sym there.0)
+      (λ there. apart.places p q a b id here.1 there.1 is-a is-b)
+      (at_set inputs port now q b lt at-b))
+      (at_set inputs port now p a lt at-a);
+}
 
 pub inputs-set : {s t : Disk} {inputs : List Input} {port : ℕ} {was now : Input} {result : Result (Unit {0}) CaptureFault} → port < length inputs → slice_get inputs port ≡ Some was → Refills s t was now result → AreInputs inputs → AreInputs (set inputs port now)
 inputs-set {inputs = inputs} {port = port} {was = was} {now = now} lt at r i = record {

@@ -1,13 +1,10 @@
 -- Reading the next record of an input, from what its reader does.
-use Rattle.std.proofs.Common.{◌≡◌, ℕ, ◌+◌, ◌≤◌, ◌⊎◌, refl, ◌∙◌, sym, ap, List, [], ◌∷◌, Bool, true, false, Ok, Err, Some, None, Result, arith, true≢false}
+use Rattle.std.proofs.Common.{◌≡◌, ℕ, ◌+◌, refl, sym, ap, Bool, true, false, Ok, Err, arith, true≢false}
 use Rattle.vg_base.specs.Files.{Disk}
 use Rattle.vg_pcap.specs.declared.faults.CaptureFault.{CaptureFault}
-use Rattle.vg_pcap.specs.declared.faults.CaptureFault.TheVariants as faults
-use Rattle.vg_pcap.specs.declared.merge.MergeFault.{MergeFault}
-use Rattle.vg_pcap.specs.Frames.{Stream}
-use Rattle.vg_pcap.specs.Reader.{Reader, StillComes, HasReadCause, ReadsNext, number_after}
-use Rattle.vg_pcap.specs.Merge.{Input, InputComes, HasMergeCause}
-use Rattle.vg_pcap.specs.Inputs.{IsLastFrame, Refills}
+use Rattle.vg_pcap.specs.Reader.{Reader, HasReadCause, ReadsNext, number_after}
+use Rattle.vg_pcap.specs.Merge.{HasMergeCause}
+use Rattle.vg_pcap.specs.Inputs.{Refills}
 
 -- the number of the record behind one more
 pub number_after-next : (count next : ℕ) → next ≡ number_after count → number_after next ≡ number_after (count + 1)

@@ -1,9 +1,9 @@
 -- What is still to come stays where the files that are read stay as they are.
-use Rattle.std.proofs.Common.{◌≡◌, ◌≢◌, ℕ, zero, suc, ◌≤◌, ◌<◌, refl, ◌∙◌, sym, ap, subst, List, [], ◌∷◌, ◌++◌, length, drop, All, slice_get, filter_map, Bool, true, false, IsTrue, Some, None, Option, arith}
-use Rattle.std.proofs.lemmas.List.Elements.{All-nil, All-cons, All-head, All-tail}
+use Rattle.std.proofs.Common.{◌≡◌, ℕ, zero, suc, refl, ◌∙◌, ap, List, [], ◌∷◌, All, slice_get, filter_map, Some, None, Option}
+use Rattle.std.proofs.lemmas.List.Elements.{All-head, All-tail}
 use Rattle.std.specs.List.{cons_option}
-use Rattle.vg_base.specs.Files.{Disk, Opened, Mode, Reads, Writes, reading, IsOpen, SameHeld, WriteKeeps, OpensOne, ClosesOne}
-use Rattle.vg_pcap.specs.Frames.{Stream, frames_after}
+use Rattle.vg_base.specs.Files.{Disk}
+use Rattle.vg_pcap.specs.Frames.{Stream}
 use Rattle.vg_pcap.specs.Arrivals.{Arrival}
 use Rattle.vg_pcap.specs.Reader.{Reader, IsBefore, StillComes, IsReadable}
 use Rattle.vg_pcap.specs.Merge.{Input, InputComes, Comes, AreToCome, AreReadable, ids_of}

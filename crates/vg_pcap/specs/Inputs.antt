@@ -1,14 +1,13 @@
 -- What a merge keeps true of its inputs, and what reading or opening a single one does. No public clause rests on this file.
-use Rattle.std.specs.Prelude.{ℕ, ◌+◌, ◌<◌, ◌≤◌, ◌≡◌, ◌≢◌, ◌⊎◌, List, [], ◌∷◌, ◌++◌, length, Bool, true, false, Option, Some, None, Result, Ok, Err, IfErr, OnOk, slice_get, All}
+use Rattle.std.specs.Prelude.{ℕ, ◌+◌, ◌<◌, ◌≤◌, ◌≡◌, ◌≢◌, ◌⊎◌, List, [], ◌∷◌, ◌++◌, length, true, false, Option, Some, None, Result, Ok, Err, IfErr, OnOk, slice_get, All}
 use Rattle.vg_base.specs.Files.{Disk, ReadKeeps}
 use Rattle.vg_pcap.specs.declared.faults.CaptureFault.{CaptureFault}
 use Rattle.vg_pcap.specs.declared.faults.CaptureFault.TheVariants as faults
-use Rattle.vg_pcap.specs.declared.merge.MergeFault.{MergeFault}
 use Rattle.vg_pcap.specs.Captures.{Damage, Refused}
-use Rattle.vg_pcap.specs.Frames.{Framed, Stream, Fits}
-use Rattle.vg_pcap.specs.Arrivals.{Arrival, Precedes}
+use Rattle.vg_pcap.specs.Frames.{Stream, Fits}
+use Rattle.vg_pcap.specs.Arrivals.{Precedes}
 use Rattle.vg_pcap.specs.Reader.{Reader, StillComes, IsReadable, HasReadCause, Starts, fault_of, number_after, IsReadOrRecord}
-use Rattle.vg_pcap.specs.Merge.{Input, InputComes, ReadsInputs, waiting_at, waiting_count}
+use Rattle.vg_pcap.specs.Merge.{Input, InputComes, waiting_at, waiting_count}
 
 -- ---- what stays true
 

@@ -1,4 +1,3 @@
-use Rattle.std.proofs.Common.{length}
 use Rattle.vg_pcap.proofs.Closing.{Closing}
 use Rattle.vg_pcap.proofs.merge.close_all.Given as goal
 

@@ -1,5 +1,4 @@
-use Rattle.std.proofs.Common.{◌≡◌, ◌≤◌, ◌<◌, length, ap, arith}
-use Rattle.vg_pcap.specs.Merge.{Input}
+use Rattle.std.proofs.Common.{◌≡◌, ◌≤◌, length, ap, arith}
 use Rattle.vg_pcap.proofs.Filling.{filling-none, filling-more, filling-all, filling-refused}
 use Rattle.vg_pcap.proofs.merge.Merge.fill.Goals as goal
 

@@ -1,4 +1,4 @@
-use Rattle.std.proofs.Common.{◌≡◌, ◌≤◌, length, arith}
+use Rattle.std.proofs.Common.{◌≤◌, length, arith}
 use Rattle.vg_pcap.proofs.Merging.{next_of_all, none_of_all, end_of_all, next_fits}
 use Rattle.vg_pcap.proofs.merge.Merge.next_port.Goals as goal
 

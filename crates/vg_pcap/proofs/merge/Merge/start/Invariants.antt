@@ -1,11 +1,7 @@
-use Rattle.std.proofs.Common.{◌≡◌, ◌<◌, ◌≤◌, ◌+◌, ℕ, map, length, List, Some, IfSome, IfNone, All, slice_get, true, false, string_bytes, ◌-◌, ◌*◌}
-use Rattle.vg_base.specs.Files.{Disk}
-use Rattle.vg_pcap.specs.Frames.{Framed, Stream, Fits}
-use Rattle.vg_pcap.specs.Arrivals.{Arrival, AllCome}
-use Rattle.vg_pcap.specs.Reader.{IsReadable}
-use Rattle.vg_pcap.specs.Merge.{Input, AreReadable, IsNext, IsChanged, Comes, StartsMerge, Fills, Advances, ClosesInputs}
-use Rattle.vg_pcap.specs.Inputs.{AreApart, IsLeastBelow, Refills, RefillsAt, OpensPort}
+use Rattle.std.proofs.Common.{map, take, string_bytes, Global}
+use Rattle.vg_pcap.proofs.Opening.{Opening}
 use Rattle.vg_pcap.proofs.merge.Merge.start.Given as goal
 
 abbrev pub invariant-loop-port : goal.invariant-loop-port
-invariant-loop-port g l = ?
+invariant-loop-port g l =
+    Opening (g.F.Files.disk l.initial.files) (g.F.Files.disk l.files) (take l.port (map (string_bytes {Z = Global}) l.ins)) l.inputs.items

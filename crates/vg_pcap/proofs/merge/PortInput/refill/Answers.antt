@@ -1,4 +1,3 @@
-use Rattle.std.proofs.Common.{◌≡◌}
 use Rattle.vg_pcap.proofs.Refilling.{refilled, refill_refused}
 use Rattle.vg_pcap.proofs.merge.PortInput.refill.Goals as goal
 
