@@ -23,12 +23,8 @@ impl Model for CaptureReader {
     ghost Value = { Reader };
 
     ghost view = { λ r. record {
-      id = None;
-      ahead = [];
-      encoding = record { order = Little; resolution = Nanoseconds };
-      latest = 0;
-      count = 0;
-      frame = record { time = 0; original = 0; bytes = r.frame.items };
+        id = None; ahead = []; encoding = record { order = Little; resolution = Nanoseconds }; latest = 0; count = 0;
+        frame = record { time = 0; original = 0; bytes = r.frame.items };
     } };
 }
 
