@@ -295,7 +295,7 @@ refuses_more {s} {t} {came} {old} {new} {streams} {past} {a} {fault} changed sou
 
 -- ---- the port of the next frame
 
-Precedes-antisym : (a b : Arrival) → Precedes a b → Precedes b a → a.port ≡ b.port
+pub Precedes-antisym : (a b : Arrival) → Precedes a b → Precedes b a → a.port ≡ b.port
 Precedes-antisym a b (inl lt) (inl gt) = absurd (omega arith)
 Precedes-antisym a b (inl lt) (inr ge) = let time = ge.0 in absurd (omega arith)
 Precedes-antisym a b (inr le) (inl gt) = let time = le.0 in absurd (omega arith)
