@@ -6,4 +6,3 @@ pub mod Merging
 pub mod Filling
 pub mod Closing
 pub mod Opening
-pub mod Orders
