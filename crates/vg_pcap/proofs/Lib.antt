@@ -6,3 +6,4 @@ pub mod Merging
 pub mod Filling
 pub mod Closing
 pub mod Opening
+pub mod Orders

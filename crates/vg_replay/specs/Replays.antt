@@ -1,0 +1,178 @@
+-- What a replay does: which frames it handles, what it leaves in the files, and why it stops.
+use Rattle.std.specs.Prelude.{ℕ, ◌+◌, ◌-◌, ◌<◌, ◌≤◌, ◌^◌, ◌≡◌, ◌≢◌, ◌⊎◌, List, [], ◌∷◌, ◌++◌, length, take, IsTrue, Some, Result, IfOk, IfErr, All, AllPairs, Contains, slice_get}
+use Rattle.vg_base.specs.Files.{Disk, Rose, SameHeld, SameIds}
+use Rattle.vg_core.specs.declared.small.Small.{Small}
+use Rattle.vg_core.specs.declared.small.Test.{Test}
+use Rattle.vg_core.specs.declared.small.Lang.TheVariants.{C}
+use Rattle.vg_core.specs.Spelling.{Spells}
+use Rattle.vg_pcap.specs.declared.faults.CaptureFault.{CaptureFault}
+use Rattle.vg_pcap.specs.declared.faults.CaptureFault.TheVariants as faults
+use Rattle.vg_pcap.specs.declared.faults.HeaderField.{HeaderField}
+use Rattle.vg_pcap.specs.Captures.{Damage}
+use Rattle.vg_pcap.specs.Frames.{Stream}
+use Rattle.vg_pcap.specs.Arrivals.{Arrival, stream_at, ComeFirst, AllCome, ComeUpTo, IsAtDamage}
+use Rattle.vg_pcap.specs.Reader.{fault_of}
+use Rattle.vg_pcap.specs.Merge.{AllComeIn, IsFirstBadHeader}
+use Rattle.vg_replay.specs.declared.totals.Totals.{Totals}
+use Rattle.vg_replay.specs.declared.stop.RunStop.{RunStop}
+use Rattle.vg_replay.specs.declared.stop.RunStop.TheVariants as stops
+use Rattle.vg_replay.specs.Outputs.{handled_by, capture_to, log_of, totals_of}
+
+-- ---- names
+
+-- the files of a replay: the captures that come in and go out, by port, and the log
+pub record ReplayFiles : Type 0 where
+  pub log : List ℕ
+  pub ins : List (List ℕ)
+  pub outs : List (List ℕ)
+
+-- a name is none of these
+abbrev pub IsNoneOf : List (List ℕ) → List ℕ → Type 0
+IsNoneOf others name = All (λ other. name ≢ other) others
+
+-- each file that is written has a name of its own, and there are as many captures out as in
+pub record AreReplayFiles (n : ReplayFiles) : Type 0 where
+  pub ports : length n.ins ≡ length n.outs
+  pub log : IsNoneOf (n.ins ++ n.outs) n.log
+  pub outs : All (IsNoneOf n.ins) n.outs
+  pub apart : AllPairs ◌≢◌ n.outs
+
+-- ---- the function
+
+-- a value is the number of a port
+pub record SendsBelow (ports : ℕ) (f : Small) : Type 0 where
+  pub tests : All (λ (t : Test). t.value < ports) f.tests
+  pub last : f.last < ports
+
+-- a C text spells the function
+abbrev pub IsOfText : Small → Type 0
+IsOfText f = (text : List ℕ) × (length text < 2 ^ 31) × Spells C text f
+
+-- ---- what stands in the files
+
+-- no file but the outputs was changed
+abbrev pub KeepsOthers : Disk → Disk → ReplayFiles → Type 0
+KeepsOthers s t n = (name : List ℕ) → IsNoneOf (n.log ∷ n.outs) name → t.made name ≡ s.made name
+
+-- each output holds what it should of these frames
+pub record WroteAll (s t : Disk) (n : ReplayFiles) (f : Small) (frames : List Arrival) : Type 0 where
+  pub outs : (port : ℕ) (name : List ℕ) → slice_get n.outs port ≡ Some name → t.made name ≡ Some (capture_to port (handled_by f frames))
+  pub log : t.made n.log ≡ Some (log_of (handled_by f frames))
+
+-- a file was left as it was, or it was created and holds no more than first bytes of these
+abbrev pub IsPart : Disk → Disk → List ℕ → List ℕ → Type 0
+IsPart s t name whole =
+    (t.made name ≡ s.made name) ⊎ ((part : List ℕ) × (rest : List ℕ) × (t.made name ≡ Some part) × (whole ≡ part ++ rest))
+
+-- a file begins with these bytes
+abbrev pub Holds : Disk → List ℕ → List ℕ → Type 0
+Holds t name bytes = (more : List ℕ) × (t.made name ≡ Some (bytes ++ more))
+
+-- Each output holds no more than first bytes of what it should of these frames. The log follows the captures: it has no byte of a line but those of
+-- these first frames, and where there are such, every capture holds them whole.
+pub record WroteParts (s t : Disk) (n : ReplayFiles) (f : Small) (frames : List Arrival) : Type 0 where
+  pub outs : (port : ℕ) (name : List ℕ) → slice_get n.outs port ≡ Some name → IsPart s t name (capture_to port (handled_by f frames))
+  pub lined : List Arrival
+  pub others : List Arrival
+  pub frames_are : frames ≡ lined ++ others
+  pub log : IsPart s t n.log (log_of (handled_by f lined))
+  pub captures : (lined ≡ [])
+      ⊎ ((port : ℕ) (name : List ℕ) → slice_get n.outs port ≡ Some name → Holds t name (capture_to port (handled_by f lined)))
+
+-- ---- which frames are handled
+
+-- the most frames of a replay
+abbrev pub most_frames : ℕ
+most_frames = 2 ^ 32 - 1
+
+-- the frames are first ones of what comes in under these names, in order
+abbrev pub AreFirst : Disk → List (List ℕ) → List Arrival → Type 0
+AreFirst s ins frames = (streams : List Stream) × (left : List Stream) × AllComeIn s ins streams × ComeFirst streams frames left
+
+-- they are all of them
+abbrev pub AreAll : Disk → List (List ℕ) → List Arrival → Type 0
+AreAll s ins frames = (streams : List Stream) × AllComeIn s ins streams × AllCome streams frames × (length frames ≤ most_frames)
+
+-- they are those up to a refused record of a port; the fault tells its number in its file
+abbrev pub AreUpTo : Disk → List (List ℕ) → List Arrival → ℕ → CaptureFault → Type 0
+AreUpTo s ins frames port fault =
+    (streams : List Stream) × (damage : Damage) × AllComeIn s ins streams × ComeUpTo streams frames port damage
+    × (fault ≡ fault_of damage (length (stream_at streams port).frames + 1)) × (length frames ≤ most_frames)
+
+-- they are the most that there may be, and another is next
+abbrev pub AreTooMany : Disk → List (List ℕ) → List Arrival → Type 0
+AreTooMany s ins frames =
+    (streams : List Stream) × (left : List Stream) × AllComeIn s ins streams × ComeFirst streams frames left
+    × (length frames ≡ most_frames)
+    × ((port : ℕ) × ((stream_at left port).frames ≢ []))
+    × ((port : ℕ) (damage : Damage) → IsAtDamage left port damage → ⊥)
+
+-- the frames came in at ports of the replay
+abbrev pub HavePorts : ReplayFiles → List Arrival → Type 0
+HavePorts n frames = All (λ a. a.port < length n.ins) frames
+
+-- ---- how a replay ends
+
+-- no fault was counted but in closing what was read
+pub record NoFault (s t : Disk) : Type 0 where
+  pub read_faults : t.read_faults ≡ s.read_faults
+  pub write_faults : t.write_faults ≡ s.write_faults
+
+-- all frames were handled
+pub record HasReplayed (s t : Disk) (n : ReplayFiles) (f : Small) (totals : Totals) : Type 0 where
+  pub frames : List Arrival
+  pub ports : HavePorts n frames
+  pub all : IsTrue s.tells_held → AreAll s n.ins frames
+  pub totals_are : totals ≡ totals_of (handled_by f frames)
+  pub wrote : IsTrue s.tells_made → WroteAll s t n f frames
+  pub no_fault : NoFault s t
+
+-- the header of a capture is refused, and nothing was created
+pub record StopsAtHeader (s t : Disk) (n : ReplayFiles) (port : ℕ) (fault : CaptureFault) : Type 0 where
+  pub made : t.made ≡ s.made
+  pub header : IsTrue s.tells_held → (field : HeaderField) × (fault ≡ faults.Header field) × IsFirstBadHeader s n.ins port field
+  pub no_fault : NoFault s t
+
+-- a record is refused, and the outputs are those of the frames before it
+pub record StopsAtRecord (s t : Disk) (n : ReplayFiles) (f : Small) (port : ℕ) (fault : CaptureFault) : Type 0 where
+  pub frames : List Arrival
+  pub ports : HavePorts n frames
+  pub up_to : IsTrue s.tells_held → AreUpTo s n.ins frames port fault
+  pub wrote : IsTrue s.tells_made → WroteAll s t n f frames
+  pub no_fault : NoFault s t
+
+-- there are more frames than are handled, and the outputs are those of the first
+pub record StopsAtMost (s t : Disk) (n : ReplayFiles) (f : Small) : Type 0 where
+  pub frames : List Arrival
+  pub ports : HavePorts n frames
+  pub too_many : IsTrue s.tells_held → AreTooMany s n.ins frames
+  pub wrote : IsTrue s.tells_made → WroteAll s t n f frames
+  pub no_fault : NoFault s t
+
+-- outputs were begun, and hold no more than first bytes of what they should
+pub record Began (s t : Disk) (n : ReplayFiles) (f : Small) : Type 0 where
+  pub frames : List Arrival
+  pub ports : HavePorts n frames
+  pub first : IsTrue s.tells_held → AreFirst s n.ins frames
+  pub wrote : IsTrue s.tells_made → WroteParts s t n f frames
+
+-- why a replay stopped, and what it left
+abbrev pub StopsReplay : Disk → Disk → ReplayFiles → Small → RunStop → Type 0
+StopsReplay s t n f (stops.Capture port (faults.Header field)) = StopsAtHeader s t n port (faults.Header field)
+StopsReplay s t n f (stops.Capture port (faults.Cut number)) = StopsAtRecord s t n f port (faults.Cut number)
+StopsReplay s t n f (stops.Capture port (faults.Long number)) = StopsAtRecord s t n f port (faults.Long number)
+StopsReplay s t n f (stops.Capture port (faults.Fraction number)) = StopsAtRecord s t n f port (faults.Fraction number)
+StopsReplay s t n f (stops.Capture port faults.Read) = ⊥
+StopsReplay s t n f (stops.Capture port faults.Memory) = ⊥
+StopsReplay s t n f stops.Read = Rose s.read_faults t.read_faults × (t.write_faults ≡ s.write_faults) × ((t.made ≡ s.made) ⊎ Began s t n f)
+StopsReplay s t n f stops.Write = Rose s.write_faults t.write_faults × (t.read_faults ≡ s.read_faults) × Began s t n f
+StopsReplay s t n f stops.Frames = StopsAtMost s t n f
+StopsReplay s t n f stops.Memory = (t.made ≡ s.made) × NoFault s t
+
+-- what comes in was replayed through a function, or this stopped; whatever happened, no other file was changed, and no id is open that wasn't
+pub record Replays (s t : Disk) (n : ReplayFiles) (f : Small) (result : Result Totals RunStop) : Type 0 where
+  pub held : SameHeld s t
+  pub ids : SameIds s t
+  pub others : IsTrue s.tells_made → KeepsOthers s t n
+  pub done : IfOk result (HasReplayed s t n f)
+  pub stops : IfErr result (StopsReplay s t n f)

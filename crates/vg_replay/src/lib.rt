@@ -1,0 +1,11 @@
+//! Replaying captures through a function: one capture out for each port, and a log.
+#![tactic(auto)]
+
+mod ffi;
+mod replaying;
+mod stop;
+mod totals;
+
+pub use replaying::replay;
+pub use stop::RunStop;
+pub use totals::Totals;
