@@ -1,8 +1,9 @@
 -- What is still to come stays where the files that are read stay as they are.
-use Rattle.std.proofs.Common.{◌≡◌, ℕ, zero, suc, refl, ◌∙◌, ap, List, [], ◌∷◌, All, slice_get, filter_map, Some, None, Option}
-use Rattle.std.proofs.lemmas.List.Elements.{All-head, All-tail}
+use Rattle.std.proofs.Common.{◌≡◌, ◌≢◌, ℕ, zero, suc, refl, ◌∙◌, sym, ap, subst, List, [], ◌∷◌, All, get_or, slice_get, filter_map, Some, None, Option}
+use Rattle.std.proofs.lemmas.List.Elements.{All-nil, All-cons, All-head, All-tail}
 use Rattle.std.specs.List.{cons_option}
-use Rattle.vg_base.specs.Files.{Disk}
+use Rattle.vg_base.specs.Files.{Disk, Mode, Reads, Writes, Opened, IsOpen, SameHeld, SameIds, WriteKeeps, OpensOne, ClosesOne}
+use Rattle.vg_base.specs.Several.{DiffersBy}
 use Rattle.vg_pcap.specs.Frames.{Stream}
 use Rattle.vg_pcap.specs.Arrivals.{Arrival}
 use Rattle.vg_pcap.specs.Reader.{Reader, IsBefore, StillComes, IsReadable}
@@ -85,4 +86,67 @@ AreToCome-stays {s} {t} {inputs} same comes = record {
   ports = comes.ports;
   still = λ port input at. StillComes-stays (comes.still port input at) same.tells_held same.held (SameId-of same port input at);
   none = comes.none;
+}
+
+-- ---- what leaves the files that are read as they are
+
+pub SameReading-refl : (s : Disk) (inputs : List Input) → SameReading s s inputs
+SameReading-refl s inputs = record { tells_held = refl; held = refl; opened = λ k d lt. refl }
+
+pub SameReading-trans : {s t u : Disk} {inputs : List Input} → SameReading s t inputs → SameReading t u inputs → SameReading s u inputs
+SameReading-trans x y = record { tells_held = y.tells_held ∙ x.tells_held; held = y.held ∙ x.held; opened = λ k d lt. y.opened k d lt ∙ x.opened k d lt }
+
+-- the same ids are open
+pub SameReading-ids : {s t : Disk} (inputs : List Input) → SameHeld s t → SameIds s t → SameReading s t inputs
+SameReading-ids inputs held same =
+    record { tells_held = held.tells_held; held = held.held; opened = λ k d lt. ap (λ f. f (get_or (ids_of inputs) k d)) same.opened }
+
+-- something was written
+pub SameReading-writes : {s t : Disk} (inputs : List Input) → WriteKeeps s t → SameReading s t inputs
+SameReading-writes inputs keeps = SameReading-ids inputs keeps.held keeps.ids
+
+-- the ids of inputs that can be read are open for reading
+pub ids_open : (s : Disk) (inputs : List Input) → AreReadable s inputs → All (λ id. IsOpen Reads (s.opened id)) (ids_of inputs)
+ids_open s [] readable = All-nil (λ id. IsOpen Reads (s.opened id))
+ids_open s (x ∷ inputs) readable =
+    one x.reader.id (All-head (λ i. IsReadable s i.reader.id) x inputs readable) (ids_open s inputs (All-tail (λ i. IsReadable s i.reader.id) x inputs readable))
+  where
+    one : (id : Option ℕ) → IsReadable s id → All (λ j. IsOpen Reads (s.opened j)) (ids_of inputs) → All (λ j. IsOpen Reads (s.opened j)) (cons_option id (ids_of inputs))
+    one None is rest = rest
+    one (Some j) is rest = All-cons (λ k. IsOpen Reads (s.opened k)) j (ids_of inputs) is rest
+
+-- what is open for reading differs from an id that isn't
+apart_from : (s t : Disk) (inputs : List Input) (id : ℕ) → AreReadable s inputs → (IsOpen Reads (s.opened id) → ⊥) → ((j : ℕ) → j ≢ id → t.opened j ≡ s.opened j) → All (λ j. t.opened j ≡ s.opened j) (ids_of inputs)
+apart_from s t inputs id readable not others k d lt =
+    others (get_or (ids_of inputs) k d) (λ same. not (subst (λ (j : ℕ). IsOpen Reads (s.opened j)) same (ids_open s inputs readable k d lt)))
+
+-- another file was opened
+pub SameReading-opens : {s t : Disk} {mode : Mode} {id : ℕ} (inputs : List Input) → AreReadable s inputs → SameHeld s t → OpensOne s t mode id → SameReading s t inputs
+SameReading-opens {s} {t} {mode} {id} inputs readable held opens = record {
+  tells_held = held.tells_held;
+  held = held.held;
+  opened = apart_from s t inputs id readable (λ is. rw opens.was at is) opens.others;
+}
+
+-- a file that was written was closed
+pub SameReading-closes : {s t : Disk} {id : ℕ} (inputs : List Input) → AreReadable s inputs → SameHeld s t → IsOpen Writes (s.opened id) → ClosesOne s t id → SameReading s t inputs
+SameReading-closes {s} {t} {id} inputs readable held writes closes = record {
+  tells_held = held.tells_held;
+  held = held.held;
+  opened = apart_from s t inputs id readable (one_mode (s.opened id) writes) closes.others;
+}
+  where
+    one_mode : (o : Option Opened) → IsOpen Writes o → IsOpen Reads o → ⊥
+    one_mode None w r = w
+    one_mode (Some o) w r = let both = sym w ∙ r in cc
+
+-- other files were opened, or several were closed
+pub SameReading-differs : {s t : Disk} {ids : List ℕ} (inputs : List Input) → AreReadable s inputs → SameHeld s t → DiffersBy s t ids → SameReading s t inputs
+SameReading-differs {s} {t} {ids} inputs readable held differs = record {
+  tells_held = held.tells_held;
+  held = held.held;
+  opened = λ k d lt. differs.others (get_or (ids_of inputs) k d)
+      (λ i e within same.
+      let is = ids_open s inputs readable k d lt in
+      rw (ap s.opened same ∙ differs.closed i e within) at is);
 }
