@@ -250,3 +250,6 @@ fn earlier(inputs: &[PortInput], before: Option<u16>, port: u16) -> Option<u16>
         Some(first)
     }
 }
+
+#[cfg(test)]
+mod tests;
