@@ -9,4 +9,12 @@ pub mod Streams
 pub mod Starting
 pub mod Written
 pub mod Laws
+pub mod Refilling
+pub mod Arriving
+pub mod Staying
+pub mod Ports
+pub mod Merging
+pub mod Filling
+pub mod Closing
+pub mod Opening
 pub mod Orders

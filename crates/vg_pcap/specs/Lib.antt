@@ -6,3 +6,4 @@ pub mod Writer
 pub mod Merge
 pub mod Reading
 pub mod Buffered
+pub mod Inputs
