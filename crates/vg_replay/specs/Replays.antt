@@ -139,7 +139,7 @@ pub record StopsAtRecord (s t : Disk) (n : ReplayFiles) (f : Small) (port : ℕ)
   pub ports : HavePorts n frames
   pub up_to : IsTrue s.tells_held → AreUpTo s n.ins frames port fault
   pub wrote : IsTrue s.tells_made → WroteAll s t n f frames
-  pub no_fault : NoFault s t
+  pub read_faults : t.read_faults ≡ s.read_faults
 
 -- there are more frames than are handled, and the outputs are those of the first
 pub record StopsAtMost (s t : Disk) (n : ReplayFiles) (f : Small) : Type 0 where
@@ -147,7 +147,7 @@ pub record StopsAtMost (s t : Disk) (n : ReplayFiles) (f : Small) : Type 0 where
   pub ports : HavePorts n frames
   pub too_many : IsTrue s.tells_held → AreTooMany s n.ins frames
   pub wrote : IsTrue s.tells_made → WroteAll s t n f frames
-  pub no_fault : NoFault s t
+  pub read_faults : t.read_faults ≡ s.read_faults
 
 -- outputs were begun, and hold no more than first bytes of what they should
 pub record Began (s t : Disk) (n : ReplayFiles) (f : Small) : Type 0 where
@@ -164,7 +164,7 @@ StopsReplay s t n f (stops.Capture port (faults.Long number)) = StopsAtRecord s 
 StopsReplay s t n f (stops.Capture port (faults.Fraction number)) = StopsAtRecord s t n f port (faults.Fraction number)
 StopsReplay s t n f (stops.Capture port faults.Read) = ⊥
 StopsReplay s t n f (stops.Capture port faults.Memory) = ⊥
-StopsReplay s t n f stops.Read = Rose s.read_faults t.read_faults × (t.write_faults ≡ s.write_faults) × ((t.made ≡ s.made) ⊎ Began s t n f)
+StopsReplay s t n f stops.Read = Rose s.read_faults t.read_faults × (((t.made ≡ s.made) × (t.write_faults ≡ s.write_faults)) ⊎ Began s t n f)
 StopsReplay s t n f stops.Write = Rose s.write_faults t.write_faults × (t.read_faults ≡ s.read_faults) × Began s t n f
 StopsReplay s t n f stops.Frames = StopsAtMost s t n f
 StopsReplay s t n f stops.Memory = (t.made ≡ s.made) × NoFault s t

@@ -10,6 +10,7 @@ use Rattle.vg_pcap.specs.Frames.{Stream, HoldsStream}
 use Rattle.vg_pcap.specs.Arrivals.{Arrival, no_frames, stream_at, ComeUpTo}
 use Rattle.vg_pcap.specs.Reader.{ComesIn, HasBadHeader, fault_of}
 use Rattle.vg_pcap.specs.Merge.{AllComeIn, IsFirstBadHeader}
+use Rattle.vg_pcap.proofs.Laws.{HoldsStream-same, IsBadHeader-none, IsBadHeader-same}
 use Rattle.vg_pcap.proofs.Orders.{AllCome-same, AllCome-whole, ComeUpTo-same, AllCome-most, ComeUpTo-most}
 use Rattle.vg_replay.specs.Replays.{AreAll, AreUpTo, AreTooMany}
 use Rattle.vg_top.specs.declared.stop.Damage.{Damage}
@@ -69,14 +70,8 @@ damages_apart Fraction Long is = absurd cc
 
 -- ---- one file
 
-holds_same : {file : List ℕ} (a b : Stream) → HoldsStream file a → HoldsStream file b → a ≡ b
-holds_same a b x y = ?
-
 bad_none : (file : List ℕ) (field : HeaderField) (stream : Stream) → IsBadHeader file field → HoldsStream file stream → ⊥
-bad_none file field stream x y = ?
-
-bad_same : (file : List ℕ) (f g : HeaderField) → IsBadHeader file f → IsBadHeader file g → f ≡ g
-bad_same file f g x y = ?
+bad_none file field stream x y = IsBadHeader-none y.1.held.behind field y.1.held.header x
 
 -- ---- under names
 
@@ -87,7 +82,7 @@ module _ (s : Disk) where
   comes_same name a b (inr x) (inl y) = absurd (x.0 y.0)
   comes_same name a b (inr x) (inr y) =
       let file : x.1 ≡ y.1 = some_is (sym x.2 ∙ y.2) in
-      holds_same a b (rw file at x.3) y.3
+      HoldsStream-same y.1 a b (rw file at x.3) y.3
 
   bad_comes : (name : List ℕ) (field : HeaderField) (stream : Stream) → HasBadHeader s name field → ComesIn s name stream → ⊥
   bad_comes name field stream x (inl y) = x.0 y.0
@@ -98,7 +93,7 @@ module _ (s : Disk) where
   bad_bad : (name : List ℕ) (f g : HeaderField) → HasBadHeader s name f → HasBadHeader s name g → f ≡ g
   bad_bad name f g x y =
       let file : x.1 ≡ y.1 = some_is (sym x.2 ∙ y.2) in
-      bad_same y.1 f g (rw file at x.3) y.3
+      IsBadHeader-same y.1 f g (rw file at x.3) y.3
 
   -- the streams under names are one list
 

@@ -21,23 +21,21 @@ pub begins : {words : List (List ℕ)} (s t : Disk) {n : Files} → IsRun words 
 begins s t {n} run b = record { names = n; c = b.c; spec = b.spec; run = run; verified = b.verified; began = b.began; others = b.others }
 
 stops_with : {words : List (List ℕ)} (s t : Disk) {n : Files} (stop : Stop) → IsRun words n → StopsIn s t n stop → StopsWith words s t stop
-stops_with s t {n} stop run x = record { reason = inr (inr (n, run, x.reason)); unwritten = x.unwritten; no_fault = x.no_fault }
+stops_with s t {n} stop run x = record { reason = inr (inr (n, run, x.reason)); unwritten = x.unwritten; read_faults = x.read_faults }
 
 pub leaves : {words : List (List ℕ)} (s t : Disk) {n : Files} (stop : Stop) → IsRun words n → StopsRun s t n stop → Leaves words s t stop
 leaves s t {n} Read run x = record {
   names = n;
   run = run;
   rose = x.0;
-  write_faults = x.1;
-  began = elim x.2 [
+  began = elim x.1 [
     | inl none ↦ inl none
     | inr b ↦ inr (begins s t run b)
   ];
 }
 leaves s t Write run x = record { rose = x.0; read_faults = x.1; began = begins s t run x.2 }
-leaves s t {n} Memory run x = record { names = n; run = run; unwritten = x.0; no_fault = x.1 }
+leaves s t {n} Memory run x = record { names = n; run = run; unwritten = x.0; read_faults = x.1 }
 leaves s t {n} (Record port number damage) run x = record {
-  reason = inr (inr (n, run, record { c = x.c; spec = x.spec; verified = x.verified; captures = λ told. (x.frames, x.handled told) }));
   names = n;
   c = x.c;
   spec = x.spec;
@@ -48,10 +46,9 @@ leaves s t {n} (Record port number damage) run x = record {
   handled = x.handled;
   wrote = x.wrote;
   others = x.others;
-  no_fault = x.no_fault;
+  read_faults = x.read_faults;
 }
 leaves s t {n} Frames run x = record {
-  reason = inr (inr (n, run, record { c = x.c; spec = x.spec; verified = x.verified; captures = λ told. (x.frames, x.handled told) }));
   names = n;
   c = x.c;
   spec = x.spec;
@@ -62,7 +59,7 @@ leaves s t {n} Frames run x = record {
   handled = x.handled;
   wrote = x.wrote;
   others = x.others;
-  no_fault = x.no_fault;
+  read_faults = x.read_faults;
 }
 leaves s t (Header port field) run x = stops_with s t (Header port field) run x
 leaves s t Usage run x = stops_with s t Usage run x
@@ -76,12 +73,12 @@ pub leaves_words : {words : List (List ℕ)} (s : Disk) (stop : Stop) → Refuse
 leaves_words s stop (inl none) = rw none.0 (record {
   reason = inl (refl, none.1);
   unwritten = record { made = refl; write_faults = refl };
-  no_fault = record { read_faults = refl; write_faults = refl };
+  read_faults = refl;
 })
 leaves_words s stop (inr other) = rw other.0 (record {
   reason = inr (inl (refl, other.1));
   unwritten = record { made = refl; write_faults = refl };
-  no_fault = record { read_faults = refl; write_faults = refl };
+  read_faults = refl;
 })
 
 -- what a run that stopped has printed, by its status

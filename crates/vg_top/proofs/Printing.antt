@@ -77,6 +77,7 @@ has_finished s t {n} r run has =
       most = has.steps;
       bounded = bounded has.c has.spec.ports r.steps has.replayed.frames has.steps below;
       reports = rw has.replayed.totals_are refl;
+      no_fault = has.replayed.no_fault;
     }
 
 pub is_done : {words : List (List ℕ)} (s t : Disk) {u v : Flow} {n : Files} {answer : ℕ} (r : Report) → IsRun words n → HasRun s t n r →
@@ -134,8 +135,8 @@ began_after s t {n} run first x = record {
 }
 
 pub outputs_after : {words : List (List ℕ)} (s t : Disk) {n : Files} (stop : Stop) → IsRun words n → StopsRun s t n stop → Unwritten s t ⊎ BeganReplay words s t
-outputs_after s t Read run (_, _, inl none) = inl none
-outputs_after s t Read run (_, _, inr b) = inr (begins s t run b)
+outputs_after s t Read run (_, inl none) = inl none
+outputs_after s t Read run (_, inr b) = inr (begins s t run b)
 outputs_after s t Write run x = inr (begins s t run x.2)
 outputs_after s t Memory run x = inl x.0
 outputs_after s t {n} (Record port number damage) run x = inr (began_after s t run (λ frames up_to. (up_to.0, up_to.3.left, up_to.2, up_to.3.first)) x)

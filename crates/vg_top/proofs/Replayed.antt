@@ -113,7 +113,7 @@ module _ {s t : Disk} (u : Disk) {n : Files} (f : Functions) (x : ReadsFunctions
     handled = λ told. AreUpTo-before (same f x) (y.up_to (held f x told));
     wrote = λ told. WroteAll-before s t u (y.wrote (made f x told));
     others = others_before keeps;
-    no_fault = record { read_faults = y.no_fault.read_faults ∙ x.reads.same; write_faults = y.no_fault.write_faults ∙ x.reads.keeps.write_faults };
+    read_faults = y.read_faults ∙ x.reads.same;
   }
 
   at_header : (port : ℕ) (field : HeaderField) → StopsAtHeader t u (replay_files n) port (faults.Header field) → StopsIn s u n (Header port field)
@@ -128,7 +128,7 @@ module _ {s t : Disk} (u : Disk) {n : Files} (f : Functions) (x : ReadsFunctions
         rw is at (header_before {s = s} {t = t} (same f x) bad.2);
     };
     unwritten = unwritten y.made y.no_fault.write_faults;
-    no_fault = record { read_faults = y.no_fault.read_faults ∙ x.reads.same; write_faults = y.no_fault.write_faults ∙ x.reads.keeps.write_faults };
+    read_faults = y.no_fault.read_faults ∙ x.reads.same;
   }
 
   pub replay_stops : (e : RunStop) → (IsTrue t.tells_made → KeepsOthers t u (replay_files n)) → StopsReplay t u (replay_files n) f.c e → StopsRun s u n (stop_of e)
@@ -139,8 +139,8 @@ module _ {s t : Disk} (u : Disk) {n : Files} (f : Functions) (x : ReadsFunctions
   replay_stops (stops.Capture port faults.Read) keeps y = absurd y
   replay_stops (stops.Capture port faults.Memory) keeps y = absurd y
   replay_stops stops.Read keeps y =
-      (rw x.reads.same at y.0, y.1 ∙ x.reads.keeps.write_faults, elim y.2 [
-        | inl m ↦ inl (unwritten m y.1)
+      (rw x.reads.same at y.0, elim y.1 [
+        | inl m ↦ inl (unwritten m.0 m.1)
         | inr b ↦ inr (began_before keeps b)
       ])
   replay_stops stops.Write keeps y = (rw x.reads.keeps.write_faults at y.0, y.1 ∙ x.reads.same, began_before keeps y.2)
@@ -153,10 +153,10 @@ module _ {s t : Disk} (u : Disk) {n : Files} (f : Functions) (x : ReadsFunctions
     handled = λ told. AreTooMany-before (same f x) (y.too_many (held f x told));
     wrote = λ told. WroteAll-before s t u (y.wrote (made f x told));
     others = others_before keeps;
-    no_fault = record { read_faults = y.no_fault.read_faults ∙ x.reads.same; write_faults = y.no_fault.write_faults ∙ x.reads.keeps.write_faults };
+    read_faults = y.read_faults ∙ x.reads.same;
   }
   replay_stops stops.Memory keeps y =
-      (unwritten y.0 y.1.write_faults, record { read_faults = y.1.read_faults ∙ x.reads.same; write_faults = y.1.write_faults ∙ x.reads.keeps.write_faults })
+      (unwritten y.0 y.1.write_faults, y.1.read_faults ∙ x.reads.same)
 
   pub replay_done : (r : Report) → IsPathCount f.c f.spec r.paths → IsMostSteps f.c f.spec.ports r.steps → (IsTrue t.tells_made → KeepsOthers t u (replay_files n)) →
       HasReplayed t u (replay_files n) f.c r.totals → HasRun s u n r

@@ -6,7 +6,7 @@ use Rattle.vg_command.specs.Commands.{Files}
 use Rattle.vg_core.specs.declared.small.Small.{Small}
 use Rattle.vg_pcap.specs.Arrivals.{Arrival}
 use Rattle.vg_replay.specs.Outputs.{handled_by, capture_to, log_of, totals_of}
-use Rattle.vg_replay.specs.Replays.{ReplayFiles, KeepsOthers, WroteAll, AreAll, AreUpTo, AreTooMany, HavePorts, Began}
+use Rattle.vg_replay.specs.Replays.{ReplayFiles, KeepsOthers, WroteAll, AreAll, AreUpTo, AreTooMany, HavePorts, Began, NoFault}
 use Rattle.vg_top.specs.declared.stop.Damage.{Damage}
 use Rattle.vg_top.specs.declared.stop.Stop.{Stop}
 use Rattle.vg_top.specs.declared.stop.Stop.TheVariants.{Wrong, Usage, Header, Record, Read, Write, Memory, Limit, Frames, NotBuilt}
@@ -23,11 +23,6 @@ pub record Unwritten (s t : Disk) : Type 0 where
   pub made : t.made ≡ s.made
   pub write_faults : t.write_faults ≡ s.write_faults
 
--- no fault was counted at reading or writing
-pub record NoFault (s t : Disk) : Type 0 where
-  pub read_faults : t.read_faults ≡ s.read_faults
-  pub write_faults : t.write_faults ≡ s.write_faults
-
 -- The replay of these words began, through the functions that the files hold: each output holds no more than first bytes of what it should of
 -- first frames, the log no further than the captures, and no other file was changed.
 pub record BeganReplay (words : List (List ℕ)) (s t : Disk) : Type 0 where
@@ -42,7 +37,7 @@ pub record BeganReplay (words : List (List ℕ)) (s t : Disk) : Type 0 where
 -- ---- a run that was done
 
 -- The run was done: the two functions agree, the frames are all that came in, the captures are those of the specification, the log is that of the C
--- function, no frame took more steps than are reported, and the reported totals are those of the log.
+-- function, no frame took more steps than are reported, the reported totals are those of the log, and no fault was counted.
 pub record Finished (words : List (List ℕ)) (s t : Disk) (report : List ℕ) : Type 0 where
   pub names : Files
   pub c : Small
@@ -61,6 +56,7 @@ pub record Finished (words : List (List ℕ)) (s t : Disk) (report : List ℕ) :
   pub most : IsMostSteps c spec.ports steps
   pub bounded : All (λ h. h.steps ≤ steps) (handled_by c frames)
   pub reports : report ≡ verified_line paths steps ++ totals_line (totals_of (handled_by c frames))
+  pub no_fault : NoFault s t
 
 -- ---- a run that stopped
 
@@ -68,11 +64,11 @@ pub record Finished (words : List (List ℕ)) (s t : Disk) (report : List ℕ) :
 pub record StopsWith (words : List (List ℕ)) (s t : Disk) (stop : Stop) : Type 0 where
   pub reason : ComesTo s words (Stopped stop)
   pub unwritten : Unwritten s t
-  pub no_fault : NoFault s t
+  pub read_faults : t.read_faults ≡ s.read_faults
 
--- The replay came to an end before the frames did, for a reason that holds of the frames that were handled: the outputs are exactly theirs.
-pub record StopsBehind (words : List (List ℕ)) (s t : Disk) (stop : Stop) (Reason : Files → List Arrival → Type 0) : Type 0 where
-  pub reason : ComesTo s words (Stopped stop)
+-- The replay came to an end before the frames did, for a reason that holds of the frames that were handled: the outputs are exactly theirs. A fault in
+-- closing an output then is counted, and changes nothing.
+pub record StopsBehind (words : List (List ℕ)) (s t : Disk) (Reason : Files → List Arrival → Type 0) : Type 0 where
   pub names : Files
   pub c : Small
   pub spec : Small
@@ -83,14 +79,13 @@ pub record StopsBehind (words : List (List ℕ)) (s t : Disk) (stop : Stop) (Rea
   pub handled : IsTrue s.tells_held → Reason names frames
   pub wrote : IsTrue s.tells_made → WroteAll s t (replay_files names) c frames
   pub others : IsTrue s.tells_made → KeepsOthers s t (replay_files names)
-  pub no_fault : NoFault s t
+  pub read_faults : t.read_faults ≡ s.read_faults
 
 -- a file of the run couldn't be read, before anything was written or in the replay
 pub record FailsReading (words : List (List ℕ)) (s t : Disk) : Type 0 where
   pub names : Files
   pub run : IsRun words names
   pub rose : Rose s.read_faults t.read_faults
-  pub write_faults : t.write_faults ≡ s.write_faults
   pub began : Unwritten s t ⊎ BeganReplay words s t
 
 -- an output of the replay couldn't be written
@@ -104,7 +99,7 @@ pub record WantsMemory (words : List (List ℕ)) (s t : Disk) : Type 0 where
   pub names : Files
   pub run : IsRun words names
   pub unwritten : Unwritten s t
-  pub no_fault : NoFault s t
+  pub read_faults : t.read_faults ≡ s.read_faults
 
 -- why a run stopped, and what it left in the files
 abbrev pub Leaves : List (List ℕ) → Disk → Disk → Stop → Type 0
@@ -112,8 +107,8 @@ Leaves words s t Read = FailsReading words s t
 Leaves words s t Write = FailsWriting words s t
 Leaves words s t Memory = WantsMemory words s t
 Leaves words s t (Record port number damage) =
-    StopsBehind words s t (Record port number damage) (λ names frames. AreUpTo s names.ins frames port (fault_of_record damage number))
-Leaves words s t Frames = StopsBehind words s t Frames (λ names frames. AreTooMany s names.ins frames)
+    StopsBehind words s t (λ names frames. AreUpTo s names.ins frames port (fault_of_record damage number))
+Leaves words s t Frames = StopsBehind words s t (λ names frames. AreTooMany s names.ins frames)
 Leaves words s t Usage = StopsWith words s t Usage
 Leaves words s t (Header port field) = StopsWith words s t (Header port field)
 Leaves words s t (Wrong at port) = StopsWith words s t (Wrong at port)
@@ -134,10 +129,9 @@ pub record FailsSaying (u v : Flow) (text : List ℕ) : Type 0 where
 
 -- ---- both
 
--- no fault was counted at reading, writing or printing
+-- no fault was counted at reading or printing
 pub record IsQuiet (s t : Disk) (u v : Flow) : Type 0 where
   pub read_faults : t.read_faults ≡ s.read_faults
-  pub write_faults : t.write_faults ≡ s.write_faults
   pub faults : v.faults ≡ u.faults
 
 -- the run was done, and its report was printed

@@ -10,7 +10,7 @@ use Rattle.vg_top.specs.declared.report.Report.{Report}
 use Rattle.vg_top.specs.declared.stop.Stop.{Stop}
 use Rattle.vg_top.specs.declared.stop.Stop.TheVariants.{Wrong, Usage, Header, Record, Read, Write, Memory, Limit, Frames, NotBuilt}
 use Rattle.vg_top.specs.Agreement.{IsPathCount, IsMostSteps}
-use Rattle.vg_top.specs.Effects.{Unwritten, NoFault, Says, FailsSaying}
+use Rattle.vg_top.specs.Effects.{Unwritten, Says, FailsSaying}
 use Rattle.vg_top.specs.Endings.{Stopped, EndsIn, AreVerified}
 use Rattle.vg_top.specs.Records.{fault_of_record}
 use Rattle.vg_top.specs.Runs.{replay_files}
@@ -29,7 +29,7 @@ pub record HasRun (s t : Disk) (n : Files) (r : Report) : Type 0 where
 pub record StopsIn (s t : Disk) (n : Files) (stop : Stop) : Type 0 where
   pub reason : EndsIn s n (Stopped stop)
   pub unwritten : Unwritten s t
-  pub no_fault : NoFault s t
+  pub read_faults : t.read_faults ≡ s.read_faults
 
 -- the replay of a run on these files began
 pub record BeginsIn (s t : Disk) (n : Files) : Type 0 where
@@ -49,13 +49,13 @@ pub record StopsAfter (s t : Disk) (n : Files) (Reason : List Arrival → Type 0
   pub handled : IsTrue s.tells_held → Reason frames
   pub wrote : IsTrue s.tells_made → WroteAll s t (replay_files n) c frames
   pub others : IsTrue s.tells_made → KeepsOthers s t (replay_files n)
-  pub no_fault : NoFault s t
+  pub read_faults : t.read_faults ≡ s.read_faults
 
 -- why a run on these files stopped, and what it left
 abbrev pub StopsRun : Disk → Disk → Files → Stop → Type 0
-StopsRun s t n Read = Rose s.read_faults t.read_faults × (t.write_faults ≡ s.write_faults) × (Unwritten s t ⊎ BeginsIn s t n)
+StopsRun s t n Read = Rose s.read_faults t.read_faults × (Unwritten s t ⊎ BeginsIn s t n)
 StopsRun s t n Write = Rose s.write_faults t.write_faults × (t.read_faults ≡ s.read_faults) × BeginsIn s t n
-StopsRun s t n Memory = Unwritten s t × NoFault s t
+StopsRun s t n Memory = Unwritten s t × (t.read_faults ≡ s.read_faults)
 StopsRun s t n (Record port number damage) = StopsAfter s t n (λ frames. AreUpTo s n.ins frames port (fault_of_record damage number))
 StopsRun s t n Frames = StopsAfter s t n (λ frames. AreTooMany s n.ins frames)
 StopsRun s t n (Header port field) = StopsIn s t n (Header port field)
