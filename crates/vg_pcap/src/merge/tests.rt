@@ -121,3 +121,27 @@ fn the_port_of_a_short_header_is_told(rt: HostRuntime) -> Result<(), Fail> {
     assert_eq!(rt; Merge::start(alloc, &mut files, &ins).err(), Some(refused));
     Ok(())
 }
+
+#[test]
+fn a_fault_at_reading_is_told(rt: HostRuntime) -> Result<(), Fail> {
+    let alloc = rt.alloc();
+    let ins = [
+        String::from_str(alloc, "in0")?,
+        String::from_str(alloc, "in1")?,
+    ];
+    let mut held = Vec::new(alloc);
+    held.push((ins[0].clone()?, capture(alloc, &[(5, 1)])?))?;
+    held.push((ins[1].clone()?, capture(alloc, &[(7, 4)])?))?;
+    // Each file is opened and read whole; the fifth call looks for more of the first.
+    let fails = Vec::from_slice(alloc, &[5])?;
+    let mut files = MemFiles::new(alloc, held, 2, 0, fails)?;
+    let mut merge = Merge::start(alloc, &mut files, &ins)?;
+    merge.fill(&mut files)?;
+    let fault = MergeFault {
+        port: 0,
+        fault: CaptureFault::Read,
+    };
+    assert_eq!(rt; next(&mut merge, &mut files), Err(fault));
+    assert_eq!(rt; merge.close(&mut files), Ok(()));
+    Ok(())
+}
