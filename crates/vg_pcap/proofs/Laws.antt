@@ -236,24 +236,27 @@ frames_after-written latest (f ∷ frames) later rising =
 
 -- what is written for frames whose times don't fall is a whole capture of these frames
 pub HoldsStream-written : (frames : List Framed) → All Fits frames → IsNonDecreasingBy (λ f. f.time) frames → HoldsStream (capture_of frames) (record { frames = frames; end = Whole })
-HoldsStream-written frames fits rising = (written_encoding, record {
-  records = map written_record frames;
-  held = record {
-    behind = flat_map record_of frames;
-    header = record {
-      ignored = number_bytes Little 4 0 ++ number_bytes Little 4 0 ++ number_bytes Little 4 longest;
-      ignored_size = refl;
-      whole = refl;
+HoldsStream-written frames fits rising = (
+  written_encoding,
+  record {
+    records = map written_record frames;
+    held = record {
+      behind = flat_map record_of frames;
+      header = record {
+        ignored = number_bytes Little 4 0 ++ number_bytes Little 4 0 ++ number_bytes Little 4 longest;
+        ignored_size = refl;
+        whole = refl;
+      };
+      records_are = record {
+        good = all_good frames fits;
+        rest = [];
+        whole = flat_map-written frames ∙ sym (append-nil (flat_map (record_bytes written_encoding) (map written_record frames)));
+        ends = refl;
+      };
     };
-    records_are = record {
-      good = all_good frames fits;
-      rest = [];
-      whole = flat_map-written frames ∙ sym (append-nil (flat_map (record_bytes written_encoding) (map written_record frames)));
-      ends = refl;
-    };
-  };
-  are = sym (frames_after-written 0 frames (λ k d h. omega arith) rising);
-})
+    are = sym (frames_after-written 0 frames (λ k d h. omega arith) rising);
+  },
+)
 
 -- what is written for the frames of a stream is a whole capture of the same frames
 pub HoldsStream-copied : (file : List ℕ) (stream : Stream) → HoldsStream file stream → HoldsStream (capture_of stream.frames) (record { frames = stream.frames; end = Whole })

@@ -38,6 +38,7 @@ starts_empty s name r encoding is fresh = record {
   empty = λ same. (fresh.id, record { opened = refl; open_count = refl });
   empty_refused = λ same. tt;
   file = λ other. absurd (other is);
+  readable = rw fresh.id tt;
   fresh = fresh.count;
   comes = λ told. (
     no_frames,
@@ -74,8 +75,7 @@ bytes_behind {encoding} {file} behind is small =
 -- what stands behind a header is a stream
 pub stream_behind : {file : List ℕ} (encoding : Encoding) (behind : List ℕ) → HasHeader encoding file behind → AreBytes file → (stream : Stream) × HoldsStream file stream
 stream_behind encoding behind header small =
-    let all = records_of encoding behind (bytes_behind behind header small) in
-    (
+    let all = records_of encoding behind (bytes_behind behind header small) in (
       record { frames = frames_after encoding 0 all.0; end = all.1 },
       (encoding, record { records = all.0; held = record { behind = behind; header = header; records_are = all.2 }; are = refl }),
     )
@@ -86,8 +86,7 @@ streams : {t : Disk} {file : List ℕ} (r : Reader) (behind : List ℕ) (encodin
 unfolding stream_behind
 streams r behind encoding header small told before written early =
     let all = records_of encoding behind (bytes_behind behind header small) in
-    let stream = stream_behind encoding behind header small in
-    (
+    let stream = stream_behind encoding behind header small in (
       stream.0,
       stream.1,
       record { told = told; bytes = behind; before = before; records = all.0; are = rw written all.2; frames = rw (written, early) refl },
@@ -123,6 +122,7 @@ starts_file {s} {m} {t} {name} {id} {a} {b} {e} r other opens opened none takes 
       one_more = takes.stays.open_count ∙ opens.opens.one_more;
     },
   );
+  readable = rw fresh.id takes.stays.readable;
   fresh = fresh.count;
   comes = λ told.
       let file = file_of opens told in
@@ -154,6 +154,7 @@ starts_refused {s} {m} {t} {u} {name} {id} {a} {b} {fault} closed other opens op
       empty = λ is. tt;
       empty_refused = λ is. absurd (other is);
       file = λ ne. tt;
+      readable = tt;
       fresh = tt;
       comes = λ told. tt;
       closed = record {

@@ -12,6 +12,8 @@ mod merge;
 mod reader;
 mod reading;
 mod records;
+#[cfg(test)]
+mod tests;
 mod writer;
 
 pub use faults::{CaptureFault, HeaderField};

@@ -58,6 +58,7 @@ impl CaptureWriter {
         requires open { IsOpen Writes ((F.disk files.old).opened self.old) }
         requires fits { Fits (record { time = time; original = original; bytes = frame.now }) }
         ensures same { self.new ≡ self.old }
+        ensures open { IsOpen Writes ((F.disk files.new).opened self.new) }
         ensures writes { WritesAll (F.disk files.old) (F.disk files.new) self.old
             (record_of (record { time = time; original = original; bytes = frame.now })) result }
     {
