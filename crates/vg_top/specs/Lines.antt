@@ -28,7 +28,7 @@ unfoldable pub wrong_text : ℕ → ℕ → List ℕ
 wrong_text at port =
     codes "wrong at byte " ++ decimal at ++ codes ": verdict\nwrong-run 1\nport " ++ decimal port ++ codes "\nnow 0\nframe -\n"
 
--- printed where the words are those of no command
+-- printed where the words are those of no command, or name captures of another number of ports
 abbrev pub usage_line : List ℕ
 usage_line = codes "usage: run|verify|check|replay|try|rerun|show|bench\n"
 

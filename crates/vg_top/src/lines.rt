@@ -157,7 +157,7 @@ fn line_of_two(first: &str, second: &str) -> ArrayString<200>
     line
 }
 
-// What is printed where the words are those of no command.
+// What is printed where the words are those of no command, or name captures of another number of ports.
 fn usage_line() -> ArrayString<200>
     ensures { result.bytes ≡ usage_line }
 {

@@ -12,7 +12,7 @@ use vg_replay::RunStop;
 pub enum Unbuilt {
     /// A command other than `run`, or a `run` with a configuration.
     Words,
-    /// A text that isn't of the small form.
+    /// A text that isn't of the small form, or a C text that sends to a port that the specification doesn't declare.
     Text(Lang),
 }
 
@@ -21,7 +21,7 @@ pub enum Unbuilt {
 pub enum Damage {
     /// The file ends inside it.
     Cut,
-    /// More than 262,144 bytes of it were captured.
+    /// It says that more than 262,144 bytes of it were captured.
     Long,
     /// The fraction of its time is a second or more.
     Fraction,
@@ -37,7 +37,8 @@ pub enum Stop {
     Usage,
     /// The header of this port's capture is refused. Nothing was created.
     Header { port: u16, field: HeaderField },
-    /// A record of this port's capture is refused; records are counted from 1. The frames before it were handled.
+    /// A record of this port's capture is refused; records are counted from 1. The frames up to the port's last good one were
+    /// handled, and none where its first record is refused.
     Record {
         port: u16,
         number: u64,

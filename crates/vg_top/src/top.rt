@@ -96,16 +96,17 @@ pub fn refuse<O: Sink>(out: &mut O, stop: Stop) -> Status
 ///
 /// The words are `run C SPEC - LOG IN.. OUT..`, with an IN and an OUT for each of 1 to 16 ports. The C function in the file C is verified against the
 /// specification in SPEC, each of at most 1,048,576 bytes. Then the frames of the captures IN are handled one by one, in the order of their times, then of
-/// their ports, then of their places: each is written where the specification sends it, into the captures OUT, and LOG gets the C function's line. The first
-/// `-` is a configuration without text, and `-` for an IN is a port at which nothing comes in. A name that is written equals no other name of the line, byte
-/// for byte; two names of one file aren't noticed.
+/// their ports, then of their places; a frame's time is the latest of a record so far in its capture. Each frame is written where the specification sends
+/// it, into the captures OUT, and LOG gets the C function's line. The first `-` is a configuration without text, and `-` for an IN is a port at which
+/// nothing comes in. A name that is written equals no other name of the line, byte for byte; two names of one file aren't noticed.
 ///
 /// The status is 0 where all was done; 1 where the function does something else than its specification, with a run that shows it; 2 where the words are
 /// those of no command, or name captures of another number of ports than the specification declares; 5 where a capture is refused, at its header, and then
-/// nothing was created, or at a record, and then the outputs are those of the frames before it; 6 where a file couldn't be read; 7 where an output couldn't
-/// be written, or nothing could be printed; 8 where memory ran out, before any output was created; 11 where a text is too long, or there are more than
-/// 4,294,967,295 frames; and 12 where the command or a text is of a form that isn't built. One line says which. Nothing is created before both texts and the
-/// headers of all captures were found good.
+/// nothing was created, or at a record, and then the outputs are those of the frames up to the port's last good one; 6 where a file couldn't be read; 7
+/// where an output couldn't be written, or the text couldn't be printed whole; 8 where memory ran out, before any output was created; 11 where a text is
+/// too long, or there are more than 4,294,967,295 frames, and then the outputs are those of so many first ones; and 12 where the command isn't built, or a
+/// text is of a form that isn't, or the C function sends to a port that the specification doesn't declare. One line says which. Nothing is created before
+/// both texts and the headers of all captures were found good.
 pub fn run<F: Files, O: Sink>(alloc: Global, words: &[String], files: &mut F, out: &mut O) -> Status
     requires { (F.disk files.old).open_count + 33 ≤ MAX_OPEN }
     ensures known { IsStatus result.0 }
