@@ -3,7 +3,7 @@ use Rattle.std.proofs.Common.{◌≡◌, ◌≢◌, ◌<◌, ◌⊎◌, inl, inr
 use Rattle.std.proofs.lemmas.Bool.{cases_lt}
 use Rattle.std.proofs.Math.Nat.{eq-or-lt_of_le}
 use Rattle.vg_base.specs.Files.{Disk}
-use Rattle.vg_command.specs.Commands as commands
+use Rattle.vg_command.proofs.Decoding as commands
 use Rattle.vg_command.specs.Commands.{Files, Command, Run}
 use Rattle.vg_core.specs.declared.small.Small.{Small}
 use Rattle.vg_core.specs.declared.small.Lang.TheVariants.{C, Spec}
@@ -198,15 +198,12 @@ at_long_c e f told (inr x) (inr y) = at_long_spec e f told (rw (same_bytes told 
 
 -- ---- the words
 
-commands_unique : (words : List (List ℕ)) (a b : Command) → commands.Spells words a → commands.Spells words b → a ≡ b
-commands_unique words a b x y = ?
-
 same_files : (n m : Files) → Run n ≡ Run m → n ≡ m
 same_files n m e = cc
 
 -- words of a run are not those of a command that isn't built
 not_unbuilt : {words : List (List ℕ)} {n : Files} → IsUnbuilt words → IsRun words n → ⊥
-not_unbuilt {words} {n} x run = x.other (rw (← commands_unique words (Run n) x.command run.spells x.spells) run.no_conf)
+not_unbuilt {words} {n} x run = x.other (rw (← commands.Spells-unique words (Run n) x.command run.spells x.spells) run.no_conf)
 
 -- words that are those of a run on files, and files that tell what they hold, come to one thing
 pub ComesTo-same : (s : Disk) (words : List (List ℕ)) (e f : Ending) → IsTrue s.tells_held → ComesTo s words e → ComesTo s words f → e ≡ f
@@ -219,5 +216,5 @@ ComesTo-same s words e f told (inr (inl x)) (inr (inl y)) = x.0 ∙ sym y.0
 ComesTo-same s words e f told (inr (inl x)) (inr (inr y)) = absurd (not_unbuilt x.1 y.1)
 ComesTo-same s words e f told (inr (inr x)) (inr (inl y)) = absurd (not_unbuilt y.1 x.1)
 ComesTo-same s words e f told (inr (inr x)) (inr (inr y)) =
-    let names : x.0 ≡ y.0 = same_files x.0 y.0 (commands_unique words (Run x.0) (Run y.0) x.1.spells y.1.spells) in
+    let names : x.0 ≡ y.0 = same_files x.0 y.0 (commands.Spells-unique words (Run x.0) (Run y.0) x.1.spells y.1.spells) in
     at_long_c e f told (decided s y.0 e told (rw names at x.2)) (decided s y.0 f told y.2)
