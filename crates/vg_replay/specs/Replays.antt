@@ -107,6 +107,10 @@ AreTooMany s ins frames =
     × ((port : ℕ) × ((stream_at left port).frames ≢ []))
     × ((port : ℕ) (damage : Damage) → IsAtDamage left port damage → ⊥)
 
+-- the frames came in at ports of the replay
+abbrev pub HavePorts : ReplayFiles → List Arrival → Type 0
+HavePorts n frames = All (λ a. a.port < length n.ins) frames
+
 -- ---- how a replay ends
 
 -- no fault was counted but in closing what was read
@@ -117,6 +121,7 @@ pub record NoFault (s t : Disk) : Type 0 where
 -- all frames were handled
 pub record HasReplayed (s t : Disk) (n : ReplayFiles) (f : Small) (totals : Totals) : Type 0 where
   pub frames : List Arrival
+  pub ports : HavePorts n frames
   pub all : IsTrue s.tells_held → AreAll s n.ins frames
   pub totals_are : totals ≡ totals_of (handled_by f frames)
   pub wrote : IsTrue s.tells_made → WroteAll s t n f frames
@@ -131,24 +136,27 @@ pub record StopsAtHeader (s t : Disk) (n : ReplayFiles) (port : ℕ) (fault : Ca
 -- a record is refused, and the outputs are those of the frames before it
 pub record StopsAtRecord (s t : Disk) (n : ReplayFiles) (f : Small) (port : ℕ) (fault : CaptureFault) : Type 0 where
   pub frames : List Arrival
+  pub ports : HavePorts n frames
   pub up_to : IsTrue s.tells_held → AreUpTo s n.ins frames port fault
   pub wrote : IsTrue s.tells_made → WroteAll s t n f frames
-  pub no_fault : NoFault s t
+  pub read_faults : t.read_faults ≡ s.read_faults
 
 -- there are more frames than are handled, and the outputs are those of the first
 pub record StopsAtMost (s t : Disk) (n : ReplayFiles) (f : Small) : Type 0 where
   pub frames : List Arrival
+  pub ports : HavePorts n frames
   pub too_many : IsTrue s.tells_held → AreTooMany s n.ins frames
   pub wrote : IsTrue s.tells_made → WroteAll s t n f frames
-  pub no_fault : NoFault s t
+  pub read_faults : t.read_faults ≡ s.read_faults
 
 -- outputs were begun, and hold no more than first bytes of what they should
 pub record Began (s t : Disk) (n : ReplayFiles) (f : Small) : Type 0 where
   pub frames : List Arrival
+  pub ports : HavePorts n frames
   pub first : IsTrue s.tells_held → AreFirst s n.ins frames
   pub wrote : IsTrue s.tells_made → WroteParts s t n f frames
 
--- why a replay stopped, and what it left
+-- why a replay stopped, and what it left; a fault in closing an output then is counted among those at writing, and changes nothing
 abbrev pub StopsReplay : Disk → Disk → ReplayFiles → Small → RunStop → Type 0
 StopsReplay s t n f (stops.Capture port (faults.Header field)) = StopsAtHeader s t n port (faults.Header field)
 StopsReplay s t n f (stops.Capture port (faults.Cut number)) = StopsAtRecord s t n f port (faults.Cut number)
@@ -156,7 +164,7 @@ StopsReplay s t n f (stops.Capture port (faults.Long number)) = StopsAtRecord s 
 StopsReplay s t n f (stops.Capture port (faults.Fraction number)) = StopsAtRecord s t n f port (faults.Fraction number)
 StopsReplay s t n f (stops.Capture port faults.Read) = ⊥
 StopsReplay s t n f (stops.Capture port faults.Memory) = ⊥
-StopsReplay s t n f stops.Read = Rose s.read_faults t.read_faults × (t.write_faults ≡ s.write_faults) × ((t.made ≡ s.made) ⊎ Began s t n f)
+StopsReplay s t n f stops.Read = Rose s.read_faults t.read_faults × ((t.made ≡ s.made) ⊎ Began s t n f)
 StopsReplay s t n f stops.Write = Rose s.write_faults t.write_faults × (t.read_faults ≡ s.read_faults) × Began s t n f
 StopsReplay s t n f stops.Frames = StopsAtMost s t n f
 StopsReplay s t n f stops.Memory = (t.made ≡ s.made) × NoFault s t

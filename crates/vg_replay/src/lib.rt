@@ -2,6 +2,9 @@
 #![tactic(auto)]
 
 mod ffi;
+mod handled;
+mod lines;
+mod outputs;
 mod replaying;
 mod stop;
 mod totals;

@@ -1,0 +1,4 @@
+pub mod Places
+pub mod Ids
+pub mod Growing
+pub mod Creating
