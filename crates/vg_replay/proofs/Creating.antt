@@ -12,7 +12,8 @@ use Rattle.vg_pcap.specs.Writer.{StartsWriting, IsBegun}
 use Rattle.vg_replay.proofs.Places.{All-at, All-last, differ_at, at_left, at_end}
 use Rattle.vg_replay.proofs.Ids.{DiffersBy-none, DiffersBy-append, opens_one, closes_one, closed_again, AreWritable-none, AreWritable-push, AreWritable-same}
 use Rattle.vg_replay.specs.Replays.{IsNoneOf, IsPart}
-use Rattle.vg_replay.specs.Writing.{AreWritable, AreNamed, HasCreated, HasFailed, CreatesCaptures, ClosesWritten, HasCreatedAll, HasFailedAll}
+use Rattle.vg_replay.specs.UnderWay.{AreWritable, AreNamed}
+use Rattle.vg_replay.specs.Writing.{HasCreated, HasFailed, CreatesCaptures, ClosesWritten, HasCreatedAll, HasFailedAll}
 
 some_is : {A : Type 0} {x y : A} → Some x ≡ Some y → x ≡ y
 some_is e = cc

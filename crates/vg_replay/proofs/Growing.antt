@@ -8,7 +8,8 @@ use Rattle.vg_base.specs.declared.faults.Failed.{Failed}
 use Rattle.vg_base.specs.Files.{Disk, Contents, Appends, WritesAll, WriteKeeps, writing}
 use Rattle.vg_replay.proofs.Places.{at_place, differ_at, All-at}
 use Rattle.vg_replay.specs.Replays.{IsNoneOf}
-use Rattle.vg_replay.specs.Writing.{AreNamed, AreTold, Puts, HaveGrown, HaveBegun, piece_below}
+use Rattle.vg_replay.specs.UnderWay.{AreNamed}
+use Rattle.vg_replay.specs.Writing.{AreTold, Puts, HaveGrown, HaveBegun, piece_below}
 
 -- a failure has one value
 pub failed_is : {A : Type 0} (r : Result A Failed) → IsErr r → r ≡ Err (record {})

@@ -8,7 +8,7 @@ use Rattle.vg_base.specs.Files.{Disk, Opened, Mode, Reads, Writes, IsOpen, SameI
 use Rattle.vg_base.specs.Several.{DiffersBy, AreOpen}
 use Rattle.std.proofs.lemmas.Option.{slice_get-get_or}
 use Rattle.vg_replay.proofs.Places.{All-left, AllPairs-left, differ_at, at_left, at_end}
-use Rattle.vg_replay.specs.Writing.{AreWritable}
+use Rattle.vg_replay.specs.UnderWay.{AreWritable}
 
 -- an id is none of these, or one of them
 pub none_or_one : (id : ℕ) (ids : List ℕ) → All (λ other. id ≢ other) ids ⊎ Contains ids id

@@ -2,21 +2,13 @@
 use Rattle.std.specs.Prelude.{ℕ, ◌+◌, ◌<◌, ◌≤◌, ◌≡◌, ◌≢◌, ◌⊎◌, List, [], ◌∷◌, ◌++◌, length, Bool, nat_lt, if◌then◌else◌, IsTrue, Some, None, Result, Ok, Err, IfOk, OnOk, OnErr, All, AllPairs, slice_get}
 use Rattle.vg_base.specs.declared.faults.Failed.{Failed}
 use Rattle.vg_base.specs.Files.{Disk, Writes, writing, Rose, Counts, WriteKeeps, WritesAll, SameHeld, SameIds}
-use Rattle.vg_base.specs.Several.{DiffersBy, AreOpen}
+use Rattle.vg_base.specs.Several.{DiffersBy}
 use Rattle.vg_pcap.specs.Frames.{header}
 use Rattle.vg_replay.specs.Outputs.{Handled, piece_to, line_of}
 use Rattle.vg_replay.specs.Replays.{IsNoneOf, IsPart, NoFault}
-
--- different ids, open for writing
-pub record AreWritable (t : Disk) (ids : List ℕ) : Type 0 where
-  pub opened : AreOpen t Writes ids
-  pub apart : AllPairs ◌≢◌ ids
+use Rattle.vg_replay.specs.UnderWay.{AreWritable, AreNamed}
 
 -- ---- writing a frame
-
--- each id writes to the file of its port's name
-abbrev pub AreNamed : Disk → List ℕ → List (List ℕ) → Type 0
-AreNamed t ids names = (port id : ℕ) (name : List ℕ) → slice_get ids port ≡ Some id → slice_get names port ≡ Some name → t.opened id ≡ writing name
 
 -- what is written is told, and the ids write to the different files of these names
 pub record AreTold (s : Disk) (ids : List ℕ) (names : List (List ℕ)) : Type 0 where

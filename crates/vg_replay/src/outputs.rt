@@ -5,7 +5,8 @@ ghost use Rattle.vg_base.specs.Several.{AreOpen};
 ghost use Rattle.vg_pcap.specs.Frames.{Fits};
 ghost use Rattle.vg_replay.specs.Outputs.{goes_to, piece_to};
 ghost use Rattle.vg_replay.specs.View.{view};
-ghost use Rattle.vg_replay.specs.Writing.{AreWritable, Puts, pieces_of, WritesFrame, CreatesCaptures, ClosesWritten, HasCreatedAll, HasFailedAll};
+ghost use Rattle.vg_replay.specs.UnderWay.{AreWritable};
+ghost use Rattle.vg_replay.specs.Writing.{Puts, pieces_of, WritesFrame, CreatesCaptures, ClosesWritten, HasCreatedAll, HasFailedAll};
 
 use crate::handled::HandledFrame;
 use crate::lines::log_line;

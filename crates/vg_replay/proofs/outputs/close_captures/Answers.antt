@@ -2,7 +2,7 @@ use Rattle.std.proofs.Common.{◌≡◌, [], ◌∷◌, ◌++◌, IsErr, rules}
 use Rattle.vg_replay.proofs.Growing.{failed_is, ok_is}
 use Rattle.vg_replay.proofs.Ids.{AreWritable-pop}
 use Rattle.vg_replay.proofs.Creating.{ClosesWritten-next, ClosesWritten-fails, popped, last_open}
-use Rattle.vg_replay.specs.Writing.{AreWritable}
+use Rattle.vg_replay.specs.UnderWay.{AreWritable}
 use Rattle.vg_replay.proofs.outputs.close_captures.Goals as goal
 
 pub loop-capture-preserved-then-is_err : goal.loop-capture-preserved-then-is_err

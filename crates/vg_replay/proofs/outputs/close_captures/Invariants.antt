@@ -1,5 +1,6 @@
 use Rattle.std.proofs.Common.{◌≡◌, ◌++◌, ℕ, List}
-use Rattle.vg_replay.specs.Writing.{AreWritable, ClosesWritten}
+use Rattle.vg_replay.specs.UnderWay.{AreWritable}
+use Rattle.vg_replay.specs.Writing.{ClosesWritten}
 use Rattle.vg_replay.proofs.outputs.close_captures.Given as goal
 
 abbrev pub invariant-loop-capture : goal.invariant-loop-capture
