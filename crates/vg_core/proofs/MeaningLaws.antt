@@ -7,12 +7,12 @@ use Rattle.vg_core.specs.declared.small.Test.{Test}
 use Rattle.vg_core.specs.Spelling.{IsTest}
 use Rattle.vg_core.specs.Meaning.{value_at, steps_at, sides_at}
 
--- each value is below 2 where those of the tests are
-pub value_at-below : (ts : List Test) (last port : ℕ) → All IsTest ts → last < 2 → value_at ts last port < 2
-value_at-below [] last port all below = below
-value_at-below (t ∷ ts) last port all below = elim (cases_Bool (eqb port t.port)) [
-  | inl holds ↦ rw holds ((All-head IsTest t ts all).value)
-  | inr fails ↦ rw fails (value_at-below ts last port (All-tail IsTest t ts all) below)
+-- each value is below a bound where those of the tests are
+pub value_at-below : (bound : ℕ) (ts : List Test) (last port : ℕ) → All (IsTest bound) ts → last < bound → value_at ts last port < bound
+value_at-below bound [] last port all below = below
+value_at-below bound (t ∷ ts) last port all below = elim (cases_Bool (eqb port t.port)) [
+  | inl holds ↦ rw holds ((All-head (IsTest bound) t ts all).value)
+  | inr fails ↦ rw fails (value_at-below bound ts last port (All-tail (IsTest bound) t ts all) below)
 ]
 
 -- two steps for each test at most, and the return

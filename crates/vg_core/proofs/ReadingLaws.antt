@@ -9,8 +9,8 @@ use Rattle.vg_core.specs.declared.small.SmallFault.{SmallFault}
 use Rattle.vg_core.specs.declared.small.SmallFault.TheVariants as faults
 use Rattle.vg_core.specs.declared.small.Lang.{Lang}
 use Rattle.vg_core.specs.Words.{Placed, spelled, IsCut}
-use Rattle.vg_core.specs.Spelling.{head_words, ports_of, name_at, Spells, SpellsNone}
-use Rattle.vg_core.specs.Reader.{◌>>=◌, texts, placed_word, placed, after, body_of, small_of, Fails, Gives}
+use Rattle.vg_core.specs.Spelling.{value_bound, name_at, Spells, SpellsNone}
+use Rattle.vg_core.specs.Reader.{◌>>=◌, texts, placed_word, placed, head_of, body_of, small_of, Fails, Gives}
 use Rattle.vg_core.proofs.SpellingLaws.{small_of-sound, small_of-complete}
 
 -- a call that gives what the reader reads from a text's words gives what the text spells, or finds that it spells nothing
@@ -33,20 +33,20 @@ module _ (lang : Lang) (words : List Word) where
   texts-are : spelled (placed words) ≡ texts words
   texts-are = map-map (λ (w : Placed). w.bytes) placed_word words
 
-  pub small_of-no_head : after (head_words lang) (texts words) ≡ None → small_of lang (placed words) ≡ None
+  pub small_of-no_head : head_of lang (texts words) ≡ None → small_of lang (placed words) ≡ None
   unfolding small_of
   small_of-no_head none = rw (texts-are, none) refl
 
-  module _ (rest : List Word) (head : after (head_words lang) (texts words) ≡ Some (texts rest)) where
+  module _ (ports : ℕ) (rest : List Word) (head : head_of lang (texts words) ≡ Some (ports, texts rest)) where
     -- words with a head are what their body is
-    small_of-body : small_of lang (placed words) ≡ (body_of lang (length rest) (texts rest) >>= λ b. Some (record { ports = ports_of lang; at = name_at lang (placed words); tests = b.0; last = b.1 }))
+    small_of-body : small_of lang (placed words) ≡ (body_of lang (value_bound lang ports) (length rest) (texts rest) >>= λ b. Some (record { ports = ports; at = name_at lang (placed words); tests = b.0; last = b.1 }))
     unfolding small_of
     small_of-body = rw (texts-are, head, length-map) refl
 
-    pub Fails-body : (e : SmallFault) → Fails e (body_of lang (length rest) (texts rest)) → Fails e (small_of lang (placed words))
+    pub Fails-body : (e : SmallFault) → Fails e (body_of lang (value_bound lang ports) (length rest) (texts rest)) → Fails e (small_of lang (placed words))
     Fails-body faults.Memory fails = tt
     Fails-body faults.Form none = small_of-body ∙ rw none refl
 
-    pub small_of-some : (tests : List Test) (last : ℕ) → body_of lang (length rest) (texts rest) ≡ Some (tests, last) →
-        small_of lang (placed words) ≡ Some (record { ports = ports_of lang; at = name_at lang (placed words); tests = tests; last = last })
+    pub small_of-some : (tests : List Test) (last : ℕ) → body_of lang (value_bound lang ports) (length rest) (texts rest) ≡ Some (tests, last) →
+        small_of lang (placed words) ≡ Some (record { ports = ports; at = name_at lang (placed words); tests = tests; last = last })
     small_of-some tests last is = small_of-body ∙ rw is refl

@@ -56,24 +56,24 @@ number_ends (w ∷ ws) {x} e =
     bind_ends (w ∷ ws) (number_of w) (λ n. Some (n, ws)) x (λ y. y.1) e
     (λ n is got. let same : ws ≡ x.1 = ap (λ (p : ℕ × List (List ℕ)). p.1) (some_is got) in Ends-cons (Ends-is same))
 
-pub value_ends : (ws : List (List ℕ)) {x : ℕ × List (List ℕ)} → value_after ws ≡ Some x → Ends ws x.1
-value_ends ws {x} e =
-    bind_ends ws (number_after ws) (λ n. cond (nat_lt n.0 2) (Some n) None) x (λ y. y.1) e
-    (λ n is got. let same : n ≡ x = some_is (chosen (nat_lt n.0 2) got).1 in rw (← same) (number_ends ws is))
+pub value_ends : (bound : ℕ) (ws : List (List ℕ)) {x : ℕ × List (List ℕ)} → value_after bound ws ≡ Some x → Ends ws x.1
+value_ends bound ws {x} e =
+    bind_ends ws (number_after ws) (λ n. cond (nat_lt n.0 bound) (Some n) None) x (λ y. y.1) e
+    (λ n is got. let same : n ≡ x = some_is (chosen (nat_lt n.0 bound) got).1 in rw (← same) (number_ends ws is))
 
-pub test_ends : (lang : Lang) (ws : List (List ℕ)) (x : Test × List (List ℕ)) → test_of lang ws ≡ Some x → Ends ws x.1
+pub test_ends : (lang : Lang) (bound : ℕ) (ws : List (List ℕ)) (x : Test × List (List ℕ)) → test_of lang bound ws ≡ Some x → Ends ws x.1
 unfolding test_of
-test_ends lang ws x e =
+test_ends lang bound ws x e =
     bind_ends ws (after (if_words lang) ws) _ x (λ y. y.1) e λ a is_a e_a.
     bind_ends ws (number_after a) _ x (λ y. y.1) e_a λ b is_b e_b.
     bind_ends ws (after (then_words lang) b.1) _ x (λ y. y.1) e_b λ c is_c e_c.
-    bind_ends ws (value_after c) _ x (λ y. y.1) e_c λ d is_d e_d.
+    bind_ends ws (value_after bound c) _ x (λ y. y.1) e_c λ d is_d e_d.
     bind_ends ws (after (end_words lang) d.1) _ x (λ y. y.1) e_d λ f is_f e_f.
     let same : f ≡ x.1 = ap (λ (p : Test × List (List ℕ)). p.1) (some_is e_f) in
     Ends-trans (after_ends (if_words lang) ws is_a)
     (Ends-trans (number_ends a is_b)
     (Ends-trans (after_ends (then_words lang) b.1 is_c)
-    (Ends-trans (value_ends c is_d) (Ends-trans (after_ends (end_words lang) d.1 is_f) (Ends-is same)))))
+    (Ends-trans (value_ends bound c is_d) (Ends-trans (after_ends (end_words lang) d.1 is_f) (Ends-is same)))))
 
 pub drop-some : {A : Type 0} (xs : List A) (i : ℕ) → i < length xs → (x : A) × (drop i xs ≡ x ∷ drop (suc i) xs)
 drop-some [] i h = absurd (omega arith)
@@ -85,40 +85,40 @@ regroup : (front : List Test) (t : Test) (read : Option (List Test × ℕ)) → 
 regroup front t None = refl
 regroup front t (Some b) = ap (λ (ts : List Test). Some (ts, b.1)) (simp append_assoc)
 
-module _ (lang : Lang) (front : List Test) (count i : ℕ) (ws : List (List ℕ)) (total : Option (List Test × ℕ)) (lt : i < count) (so_far : with_front front (body_of lang (count - i) ws) ≡ total) where
-  pub goes_on : (t : Test) (rest : List (List ℕ)) → begins_if ws ≡ true → test_of lang ws ≡ Some (t, rest) → with_front (front ++ t ∷ []) (body_of lang (count - (i + 1)) rest) ≡ total
+module _ (lang : Lang) (bound : ℕ) (front : List Test) (count i : ℕ) (ws : List (List ℕ)) (total : Option (List Test × ℕ)) (lt : i < count) (so_far : with_front front (body_of lang bound (count - i) ws) ≡ total) where
+  pub goes_on : (t : Test) (rest : List (List ℕ)) → begins_if ws ≡ true → test_of lang bound ws ≡ Some (t, rest) → with_front (front ++ t ∷ []) (body_of lang bound (count - (i + 1)) rest) ≡ total
   unfolding body_of
   goes_on t rest test is =
       let k : count - i ≡ suc (count - (i + 1)) = omega arith in
-      let one : with_front front (body_of lang (count - i) ws) ≡ with_front (front ++ t ∷ []) (body_of lang (count - (i + 1)) rest) = rw (k, test, is) (regroup front t (body_of lang (count - (i + 1)) rest)) in
+      let one : with_front front (body_of lang bound (count - i) ws) ≡ with_front (front ++ t ∷ []) (body_of lang bound (count - (i + 1)) rest) = rw (k, test, is) (regroup front t (body_of lang bound (count - (i + 1)) rest)) in
       sym one ∙ so_far
 
-  pub no_test : begins_if ws ≡ true → test_of lang ws ≡ None → total ≡ None
+  pub no_test : begins_if ws ≡ true → test_of lang bound ws ≡ None → total ≡ None
   unfolding body_of
   no_test test is =
       let k : count - i ≡ suc (count - (i + 1)) = omega arith in
-      let one : with_front front (body_of lang (count - i) ws) ≡ None = rw (k, test, is) refl in
+      let one : with_front front (body_of lang bound (count - i) ws) ≡ None = rw (k, test, is) refl in
       sym so_far ∙ one
 
-  pub no_last : begins_if ws ≡ false → last_of lang ws ≡ None → total ≡ None
+  pub no_last : begins_if ws ≡ false → last_of lang bound ws ≡ None → total ≡ None
   unfolding body_of
   no_last test is =
       let k : count - i ≡ suc (count - (i + 1)) = omega arith in
-      let one : with_front front (body_of lang (count - i) ws) ≡ None = rw (k, test, is) refl in
+      let one : with_front front (body_of lang bound (count - i) ws) ≡ None = rw (k, test, is) refl in
       sym so_far ∙ one
 
-  pub with_last : (last : ℕ) → begins_if ws ≡ false → last_of lang ws ≡ Some last → total ≡ Some (front, last)
+  pub with_last : (last : ℕ) → begins_if ws ≡ false → last_of lang bound ws ≡ Some last → total ≡ Some (front, last)
   unfolding body_of
   with_last last test is =
       let k : count - i ≡ suc (count - (i + 1)) = omega arith in
-      let one : with_front front (body_of lang (count - i) ws) ≡ Some (front, last) = rw (k, test, is) (ap (λ (ts : List Test). Some (ts, last)) (append-nil front)) in
+      let one : with_front front (body_of lang bound (count - i) ws) ≡ Some (front, last) = rw (k, test, is) (ap (λ (ts : List Test). Some (ts, last)) (append-nil front)) in
       sym so_far ∙ one
 
-pub no_more : (lang : Lang) (front : List Test) (count i : ℕ) (ws : List (List ℕ)) (total : Option (List Test × ℕ)) → count ≤ i → with_front front (body_of lang (count - i) ws) ≡ total → total ≡ None
+pub no_more : (lang : Lang) (bound : ℕ) (front : List Test) (count i : ℕ) (ws : List (List ℕ)) (total : Option (List Test × ℕ)) → count ≤ i → with_front front (body_of lang bound (count - i) ws) ≡ total → total ≡ None
 unfolding body_of
-no_more lang front count i ws total le so_far =
+no_more lang bound front count i ws total le so_far =
     let k : count - i ≡ 0 = omega arith in
-    let one : with_front front (body_of lang (count - i) ws) ≡ None = rw k refl in
+    let one : with_front front (body_of lang bound (count - i) ws) ≡ None = rw k refl in
     sym so_far ∙ one
 
 -- where a rest begins in the whole list

@@ -1,10 +1,10 @@
 -- How the reader goes through words: what the private functions of reading answer. It mirrors their code, and no public
 -- contract cites it: what a small text is stands in Spelling.
-use Rattle.std.specs.Prelude.{ℕ, zero, suc, ◌+◌, ◌-◌, ◌*◌, ◌≡◌, List, [], ◌∷◌, map, codes, length, is_some, Bool, ◌||◌, nat_lt, ◌==◌, if◌then◌else◌, Option, Some, None, Result, Ok, Err}
+use Rattle.std.specs.Prelude.{ℕ, zero, suc, ◌+◌, ◌-◌, ◌*◌, ◌≡◌, List, [], ◌∷◌, map, codes, length, is_some, Bool, ◌||◌, ◌&&◌, nat_lt, nat_le, ◌==◌, if◌then◌else◌, Option, Some, None, Result, Ok, Err}
 use Rattle.std.specs.Str.{bytes_eq}
 use Rattle.vg_core.specs.Words.{Placed, spelled}
 use Rattle.vg_core.specs.declared.words.Word.{Word}
-use Rattle.vg_core.specs.Spelling.{head_words, ports_of, name_at}
+use Rattle.vg_core.specs.Spelling.{head_words, value_bound, name_at}
 use Rattle.vg_core.specs.declared.small.Test.{Test}
 use Rattle.vg_core.specs.declared.small.Small.{Small}
 use Rattle.vg_core.specs.declared.small.SmallFault.{SmallFault}
@@ -56,9 +56,25 @@ abbrev pub number_after : List (List ℕ) → Option (ℕ × List (List ℕ))
 number_after [] = None
 number_after (w ∷ ws) = number_of w >>= λ n. Some (n, ws)
 
--- a value, which is 0 or 1, and the words after it
-abbrev pub value_after : List (List ℕ) → Option (ℕ × List (List ℕ))
-value_after ws = number_after ws >>= λ n. if nat_lt n.0 2 then Some n else None
+-- a number of ports, 1 to 16, and the words after it
+abbrev pub ports_after : List (List ℕ) → Option (ℕ × List (List ℕ))
+ports_after ws = number_after ws >>= λ n. if nat_le 1 n.0 && nat_le n.0 16 then Some n else None
+
+-- a value below a bound, and the words after it
+abbrev pub value_after : ℕ → List (List ℕ) → Option (ℕ × List (List ℕ))
+value_after bound ws = number_after ws >>= λ n. if nat_lt n.0 bound then Some n else None
+
+-- the words round the number of ports of a specification
+abbrev pub ports_words : List (List ℕ)
+ports_words = codes "ports" ∷ []
+
+abbrev pub step_words : List (List ℕ)
+step_words = codes ";" ∷ codes "step" ∷ codes "{" ∷ []
+
+-- the number of ports that a head declares, 0 in C, and the words after the head
+abbrev pub head_of : Lang → List (List ℕ) → Option (ℕ × List (List ℕ))
+head_of C ws = after (head_words C 0) ws >>= λ ws. Some (0, ws)
+head_of Spec ws = after ports_words ws >>= λ ws. ports_after ws >>= λ n. after step_words n.1 >>= λ ws. Some (n.0, ws)
 
 -- the words round the numbers of a test, and before the last value
 abbrev pub if_words : Lang → List (List ℕ)
@@ -78,20 +94,20 @@ answer_words C = codes "return" ∷ []
 answer_words Spec = codes "send" ∷ []
 
 -- a test, and the words after it
-unfoldable pub test_of : Lang → List (List ℕ) → Option (Test × List (List ℕ))
-test_of lang ws = do
+unfoldable pub test_of : Lang → ℕ → List (List ℕ) → Option (Test × List (List ℕ))
+test_of lang bound ws = do
   ws ← after (if_words lang) ws
   port ← number_after ws
   ws ← after (then_words lang) port.1
-  value ← value_after ws
+  value ← value_after bound ws
   ws ← after (end_words lang) value.1
   Some (record { port = port.0; value = value.0 }, ws)
 
 -- the last value, after which no word stands
-unfoldable pub last_of : Lang → List (List ℕ) → Option ℕ
-last_of lang ws = do
+unfoldable pub last_of : Lang → ℕ → List (List ℕ) → Option ℕ
+last_of lang bound ws = do
   ws ← after (answer_words lang) ws
-  value ← value_after ws
+  value ← value_after bound ws
   ws ← after (codes ";" ∷ codes "}" ∷ []) value.1
   if length ws == 0 then Some value.0 else None
 
@@ -100,18 +116,18 @@ abbrev pub begins_if : List (List ℕ) → Bool
 begins_if ws = is_some (after (codes "if" ∷ []) ws)
 
 -- the tests and the last value, of fewer than n tests
-unfoldable pub body_of : Lang → ℕ → List (List ℕ) → Option (List Test × ℕ)
-body_of lang zero ws = None
-body_of lang (suc n) ws =
-    if begins_if ws then (test_of lang ws >>= λ t. body_of lang n t.1 >>= λ b. Some (t.0 ∷ b.0, b.1))
-    else (last_of lang ws >>= λ last. Some ([], last))
+unfoldable pub body_of : Lang → ℕ → ℕ → List (List ℕ) → Option (List Test × ℕ)
+body_of lang bound zero ws = None
+body_of lang bound (suc n) ws =
+    if begins_if ws then (test_of lang bound ws >>= λ t. body_of lang bound n t.1 >>= λ b. Some (t.0 ∷ b.0, b.1))
+    else (last_of lang bound ws >>= λ last. Some ([], last))
 
 -- the small function that is read from words
 unfoldable pub small_of : Lang → List Placed → Option Small
 small_of lang words = do
-  ws ← after (head_words lang) (spelled words)
-  b ← body_of lang (length ws) ws
-  Some (record { ports = ports_of lang; at = name_at lang words; tests = b.0; last = b.1 })
+  head ← head_of lang (spelled words)
+  b ← body_of lang (value_bound lang head.0) (length head.1) head.1
+  Some (record { ports = head.0; at = name_at lang words; tests = b.0; last = b.1 })
 
 -- a call gives what reading gives, unless memory ran out
 abbrev pub Fails : {Y : Type 0} → SmallFault → Option Y → Type 0

@@ -1,29 +1,44 @@
 //! The fixed words of the small form, in each language.
 ghost use Rattle.std.specs.Prelude.{◌≡◌, map};
-ghost use Rattle.vg_core.specs.Spelling.{head_words, ports_of};
-ghost use Rattle.vg_core.specs.Reader.{if_words, then_words, end_words, answer_words};
+ghost use Rattle.vg_core.specs.Spelling.{head_words, value_bound};
+ghost use Rattle.vg_core.specs.Reader.{ports_words, step_words, if_words, then_words, end_words, answer_words};
+ghost use Rattle.vg_core.specs.declared.small.Lang.TheVariants.{C};
 
 use crate::small::Lang;
 
-/// What a text begins with.
-pub fn head(lang: Lang) -> &'static [&'static str]
-    ensures { map (λ e. e.now) result.now ≡ head_words lang }
+/// The most ports that there can be.
+pub const MOST_PORTS: u16 = 16;
+
+/// What a C text begins with, up to its first statement.
+pub fn c_head() -> &'static [&'static str]
+    ensures { map (λ e. e.now) result.now ≡ head_words C 0 }
 {
-    match lang {
-        Lang::C => &[
-            "int",
-            "nf_process",
-            "(",
-            "uint16_t",
-            "port",
-            ",",
-            "uint64_t",
-            "now",
-            ")",
-            "{",
-        ],
-        Lang::Spec => &["ports", "2", ";", "step", "{"],
-    }
+    &[
+        "int",
+        "nf_process",
+        "(",
+        "uint16_t",
+        "port",
+        ",",
+        "uint64_t",
+        "now",
+        ")",
+        "{",
+    ]
+}
+
+/// What a specification begins with, up to its number of ports.
+pub fn before_ports() -> &'static [&'static str]
+    ensures { map (λ e. e.now) result.now ≡ ports_words }
+{
+    &["ports"]
+}
+
+/// What stands between a specification's number of ports and its first statement.
+pub fn after_ports() -> &'static [&'static str]
+    ensures { map (λ e. e.now) result.now ≡ step_words }
+{
+    &[";", "step", "{"]
 }
 
 /// What a test begins with, up to its port.
@@ -66,12 +81,12 @@ pub fn before_last(lang: Lang) -> &'static [&'static str]
     }
 }
 
-/// The number of ports that the head declares, and 0 where it declares none.
-pub fn ports(lang: Lang) -> u16
-    ensures { result ≡ ports_of lang }
+/// What each value is below, where the head declares this many ports.
+pub fn value_bound_of(lang: Lang, ports: u16) -> u16
+    ensures { result ≡ value_bound lang ports }
 {
     match lang {
-        Lang::C => 0,
-        Lang::Spec => 2,
+        Lang::C => MOST_PORTS,
+        Lang::Spec => ports,
     }
 }

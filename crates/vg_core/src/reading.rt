@@ -1,7 +1,7 @@
 //! Reading a small function from its words.
 ghost use Rattle.std.specs.Prelude.{◌≡◌, ◌<◌, ◌^◌, length, map, option_map, IfOk, IsErrOf};
 ghost use Rattle.vg_core.specs.Spelling.{Spells, SpellsNone, name_at};
-ghost use Rattle.vg_core.specs.Reader.{after, number_after, value_after, test_of, last_of, begins_if, body_of, small_of, texts, placed, Gives};
+ghost use Rattle.vg_core.specs.Reader.{after, number_after, ports_after, head_of, value_after, test_of, last_of, begins_if, body_of, small_of, texts, placed, Gives};
 ghost use Rattle.vg_core.specs.declared.small.SmallFault.TheVariants as faults;
 
 use crate::form;
@@ -27,12 +27,13 @@ pub fn read_small(alloc: Global, text: &[u8], lang: Lang) -> Result<Small, Small
 fn read(alloc: Global, words: &[Word<'_>], lang: Lang) -> Result<Small, SmallFault>
     ensures { Gives result (small_of lang (placed words.now)) }
 {
-    let Some(rest) = strip(words, form::head(lang)) else {
+    let Some((ports, rest)) = head(words, lang) else {
         return Err(SmallFault::Form);
     };
-    let (tests, last) = body(alloc, rest, lang)?;
+    let bound = form::value_bound_of(lang, ports);
+    let (tests, last) = body(alloc, rest, lang, bound)?;
     Ok(Small {
-        ports: form::ports(lang),
+        ports,
         at: place(words, lang),
         tests,
         last,
@@ -67,34 +68,64 @@ fn number<'a, 'b>(words: &'b [Word<'a>]) -> Option<(u16, &'b [Word<'a>])>
     Some((n, rest))
 }
 
-// A value, which is 0 or 1, and the words after it.
-fn value<'a, 'b>(words: &'b [Word<'a>]) -> Option<(u16, &'b [Word<'a>])>
-    ensures { option_map (λ x. (x.0, texts x.1.now)) result ≡ value_after (texts words.now) }
+// A number of ports, 1 to 16, and the words after it.
+fn ports<'a, 'b>(words: &'b [Word<'a>]) -> Option<(u16, &'b [Word<'a>])>
+    ensures { option_map (λ x. (x.0, texts x.1.now)) result ≡ ports_after (texts words.now) }
 {
     let (n, rest) = number(words)?;
-    if n < 2 { Some((n, rest)) } else { None }
+    if 1 <= n && n <= form::MOST_PORTS {
+        Some((n, rest))
+    } else {
+        None
+    }
+}
+
+// The number of ports that the head declares, 0 where it declares none, and the words after the head.
+fn head<'a, 'b>(words: &'b [Word<'a>], lang: Lang) -> Option<(u16, &'b [Word<'a>])>
+    ensures { option_map (λ x. (x.0, texts x.1.now)) result ≡ head_of lang (texts words.now) }
+{
+    match lang {
+        Lang::C => {
+            let rest = strip(words, form::c_head())?;
+            Some((0, rest))
+        }
+        Lang::Spec => {
+            let rest = strip(words, form::before_ports())?;
+            let (n, rest) = ports(rest)?;
+            let rest = strip(rest, form::after_ports())?;
+            Some((n, rest))
+        }
+    }
+}
+
+// A value below a bound, and the words after it.
+fn value<'a, 'b>(words: &'b [Word<'a>], bound: u16) -> Option<(u16, &'b [Word<'a>])>
+    ensures { option_map (λ x. (x.0, texts x.1.now)) result ≡ value_after bound (texts words.now) }
+{
+    let (n, rest) = number(words)?;
+    if n < bound { Some((n, rest)) } else { None }
 }
 
 // A test, and the words after it.
 #[tactic(auto, unfolding(crate::specs::Reader::test_of))]
-fn test<'a, 'b>(words: &'b [Word<'a>], lang: Lang) -> Option<(Test, &'b [Word<'a>])>
-    ensures { option_map (λ x. (x.0, texts x.1.now)) result ≡ test_of lang (texts words.now) }
+fn test<'a, 'b>(words: &'b [Word<'a>], lang: Lang, bound: u16) -> Option<(Test, &'b [Word<'a>])>
+    ensures { option_map (λ x. (x.0, texts x.1.now)) result ≡ test_of lang bound (texts words.now) }
 {
     let rest = strip(words, form::before_port(lang))?;
     let (port, rest) = number(rest)?;
     let rest = strip(rest, form::before_value(lang))?;
-    let (value, rest) = value(rest)?;
+    let (value, rest) = value(rest, bound)?;
     let rest = strip(rest, form::after_value(lang))?;
     Some((Test { port, value }, rest))
 }
 
 // The last value, after which no word stands.
 #[tactic(auto, unfolding(crate::specs::Reader::last_of))]
-fn last(words: &[Word<'_>], lang: Lang) -> Option<u16>
-    ensures { result ≡ last_of lang (texts words.now) }
+fn last(words: &[Word<'_>], lang: Lang, bound: u16) -> Option<u16>
+    ensures { result ≡ last_of lang bound (texts words.now) }
 {
     let rest = strip(words, form::before_last(lang))?;
-    let (value, rest) = value(rest)?;
+    let (value, rest) = value(rest, bound)?;
     let rest = strip(rest, &[";", "}"])?;
     if rest.is_empty() { Some(value) } else { None }
 }
@@ -107,20 +138,25 @@ fn has_test(words: &[Word<'_>]) -> bool
 }
 
 // The tests and the last value.
-fn body(alloc: Global, words: &[Word<'_>], lang: Lang) -> Result<(Tests, u16), SmallFault>
-    ensures { Gives result (body_of lang (length words.now) (texts words.now)) }
+fn body(
+    alloc: Global,
+    words: &[Word<'_>],
+    lang: Lang,
+    bound: u16,
+) -> Result<(Tests, u16), SmallFault>
+    ensures { Gives result (body_of lang bound (length words.now) (texts words.now)) }
 {
     let mut tests = Vec::new(alloc);
     let mut at = 0;
     for _ in 0..words.len() {
         let (_, rest) = words.split_at(at);
         if !has_test(rest) {
-            let Some(last) = last(rest, lang) else {
+            let Some(last) = last(rest, lang, bound) else {
                 return Err(SmallFault::Form);
             };
             return Ok((Tests::new(tests), last));
         }
-        let Some((next, after)) = test(rest, lang) else {
+        let Some((next, after)) = test(rest, lang, bound) else {
             return Err(SmallFault::Form);
         };
         tests.push(next)?;

@@ -13,7 +13,7 @@ use thiserror::Error;
 #[derive(Clone, Copy, Debug, PartialEq, Eq)]
 pub struct Test {
     pub port: u16,
-    /// The port that frames are sent to, 0 or 1 where a text was read.
+    /// The port that frames are sent to; where a text was read, it is below the number of ports, or below 16 in C.
     pub value: u16,
 }
 
@@ -51,7 +51,7 @@ impl Tests {
 /// A function of the port: the value of the first test that names it, or the last value.
 #[derive(Debug, Drop)]
 pub struct Small {
-    /// How many ports the specification declares; 0 for a C text.
+    /// How many ports the specification declares, 1 to 16; 0 for a C text.
     pub ports: u16,
     /// The place of the name `nf_process`, in bytes; 0 for a specification.
     pub at: u32,

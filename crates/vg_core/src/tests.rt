@@ -87,7 +87,16 @@ fn reads_specifications_of_the_form_alone(rt: HostRuntime) -> Result<(), Fail> {
         ("ports 2; step { if port==0 { send 1; } send 2; }", false),
         ("ports 2; step { send 0; } ;", false),
         ("ports 2; step { send 0;", false),
-        ("ports 3; step { send 0; }", false),
+        ("ports 3; step { send 2; }", true),
+        ("ports 3; step { send 3; }", false),
+        ("ports 3; step { if port==3 { send 2; } send 0; }", true),
+        ("ports 3; step { if port==0 { send 3; } send 0; }", false),
+        ("ports 0; step { send 0; }", false),
+        ("ports 1; step { send 0; }", true),
+        ("ports 02; step { send 0; }", false),
+        ("ports 16; step { send 15; }", true),
+        ("ports 17; step { send 0; }", false),
+        ("ports; step { send 0; }", false),
         ("ports2; step { send 0; }", false),
         ("", false),
         (SWAP_C, false),
@@ -120,6 +129,14 @@ fn reads_c_texts_of_the_form_alone(rt: HostRuntime) -> Result<(), Fail> {
             "int nf_process(uint16_t port,uint64_t now){return 0;}}",
             false,
         ),
+        (
+            "int nf_process(uint16_t port,uint64_t now){return 15;}",
+            true,
+        ),
+        (
+            "int nf_process(uint16_t port,uint64_t now){return 16;}",
+            false,
+        ),
         ("int nf_process(uint16_t port){return 0;}", false),
         (
             "/* swap */ int nf_process(uint16_t port,uint64_t now){return 0;}",
@@ -129,5 +146,15 @@ fn reads_c_texts_of_the_form_alone(rt: HostRuntime) -> Result<(), Fail> {
     ] {
         assert_eq!(rt; is_small(rt.alloc(), text, Lang::C)?, want, "{text}");
     }
+    Ok(())
+}
+
+#[test]
+fn answers_the_ports_that_are_declared(rt: HostRuntime) -> Result<(), Fail> {
+    let text = b"ports 12; step { if port == 0 { send 11; } send 3; }";
+    let small = read_small(rt.alloc(), text, Lang::Spec)?;
+    assert_eq!(rt; small.ports, 12);
+    assert_eq!(rt; small.verdict(0), Verdict::Send(11));
+    assert_eq!(rt; small.verdict(11), Verdict::Send(3));
     Ok(())
 }

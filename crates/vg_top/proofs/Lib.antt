@@ -1,10 +1,8 @@
-pub mod NamesApart
-pub mod Growing
-pub mod Counting
-pub mod Replaying
-pub mod Nine
-pub mod Stopping
-pub mod Unique
-pub mod Printing
-pub mod Leaving
-pub mod Ordering
+mod Agreeing
+mod NamesApart
+mod Replayed
+mod Verifying
+mod Captures
+mod Unique
+mod Leaving
+mod Printing

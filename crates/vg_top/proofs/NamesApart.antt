@@ -1,28 +1,19 @@
--- Names that are none of some others.
-use Rattle.std.proofs.Common.{◌≡◌, ◌≢◌, ◌<◌, ◌+◌, ◌↔◌, ℕ, List, map, drop, length, get_or, sym, drop-cons, add-one}
-use Rattle.vg_top.specs.Commands.{RunFiles, IsNoneOf, AreOwn}
-use Rattle.vg_top.specs.Writing.{AreDistinct}
+-- The files of a run are those of a replay.
+use Rattle.std.proofs.Common.{◌≢◌, ◌∷◌, ◌++◌, ℕ, List, All}
+use Rattle.std.proofs.lemmas.List.Elements.{All-tail}
+use Rattle.vg_command.specs.Commands.{Files, AreFiles, IsNoneOf}
+use Rattle.vg_replay.specs.Replays.{AreReplayFiles}
+use Rattle.vg_top.specs.Runs.{replay_files}
 
--- the outputs' names differ
-pub own_distinct : (n : RunFiles) → AreOwn n → AreDistinct n
-own_distinct n own = record {
-  outs = own.out0.1.1.1.0;
-  first = λ e. own.log.1.1.1.0 (sym e);
-  second = λ e. own.log.1.1.1.1.0 (sym e);
+-- a name that is none of these is none of those behind the first three
+behind_three : (a b c : List ℕ) (names : List (List ℕ)) (name : List ℕ) → IsNoneOf (a ∷ b ∷ c ∷ names) name → IsNoneOf names name
+behind_three a b c names name none =
+    All-tail (λ other. name ≢ other) c names (All-tail (λ other. name ≢ other) b (c ∷ names) (All-tail (λ other. name ≢ other) a (b ∷ c ∷ names) none))
+
+pub are_replay_files : {n : Files} → AreFiles n → AreReplayFiles (replay_files n)
+are_replay_files {n} are = record {
+  ports = are.ports;
+  log = behind_three _ _ _ _ _ are.own_log;
+  outs = λ k d within. behind_three _ _ _ _ _ (are.own_outs k d within);
+  apart = are.apart;
 }
-
--- the names from one place on are one name and those behind it
-none_of-drop : {A : Type 0} (f : A → List ℕ) (xs : List A) (i : ℕ) (d : A) (name : List ℕ) → i < length xs →
-    IsNoneOf (map f (drop i xs)) name ↔ ((name ≢ f (get_or xs i d)) × IsNoneOf (map f (drop (i + 1) xs)) name)
-none_of-drop f xs i d name within = rw (drop-cons xs i d within, add-one i) ((λ none. none), (λ none. none))
-
--- a name of some stands at a place of them
-pub none_of-found : {A : Type 0} (f : A → List ℕ) (xs : List A) (i : ℕ) (d : A) (name : List ℕ) {P : Type 0} → i < length xs → (P → IsNoneOf (map f (drop i xs)) name) → name ≡ f (get_or xs i d) → P → ⊥
-none_of-found f xs i d name within all is p = ((none_of-drop f xs i d name within).0 (all p)).0 is
-
--- a name that is not the one at a place
-pub none_of-next : {A : Type 0} (f : A → List ℕ) (xs : List A) (i : ℕ) (d : A) (name : List ℕ) {P : Type 0} → i < length xs → name ≢ f (get_or xs i d) →
-    (P ↔ IsNoneOf (map f (drop i xs)) name) → P ↔ IsNoneOf (map f (drop (i + 1) xs)) name
-none_of-next f xs i d name within differs all =
-    let at = none_of-drop f xs i d name within in
-    ((λ p. (at.0 (all.0 p)).1), (λ none. all.1 (at.1 (differs, none))))

@@ -1,23 +1,28 @@
 -- What a run answers and leaves, once it has printed.
-use Rattle.std.proofs.Common.{◌≡◌, ◌≤◌, ◌⊎◌, inl, inr, ◌∙◌, ◌++◌, ℕ, List, [], IsTrue, Some, refl, sym, ap, append-nil, All, arith}
-use Rattle.std.proofs.lemmas.List.Elements.{All-map}
+use Rattle.std.proofs.Common.{◌≡◌, ◌<◌, ◌≤◌, ◌⊎◌, inl, inr, ◌∙◌, ◌++◌, ◌∷◌, ℕ, List, [], length, IsTrue, if◌then◌else◌, Some, refl, sym, ap, append-nil, All, arith}
+use Rattle.std.specs.List.{flat_map}
+use Rattle.std.proofs.lemmas.List.Elements.{All-map, All-head, All-tail}
 use Rattle.vg_base.specs.Files.{Disk}
 use Rattle.vg_base.specs.Sink.{Flow}
+use Rattle.vg_command.specs.Commands.{Files}
 use Rattle.vg_core.specs.declared.small.Small.{Small}
-use Rattle.vg_core.specs.Meaning.{steps_at}
-use Rattle.vg_pcap.specs.Frames.{Framed}
+use Rattle.vg_pcap.specs.Frames.{header, record_of}
+use Rattle.vg_pcap.specs.Arrivals.{Arrival}
+use Rattle.vg_core.specs.declared.verdict.Verdict.{Verdict}
+use Rattle.vg_replay.specs.Outputs.{goes_to, handle_at, handled_by, piece_to, capture_to, totals_of}
+use Rattle.vg_replay.specs.Replays.{ReplayFiles, IsPart, WroteAll, WroteParts, HavePorts, Began, AreFirst, AreAll, AreUpTo, AreTooMany}
 use Rattle.vg_top.specs.declared.report.Report.{Report}
 use Rattle.vg_top.specs.declared.stop.Stop.{Stop}
-use Rattle.vg_top.specs.declared.stop.Stop.TheVariants.{Wrong, NotBuilt, Limit, Read, Write, Memory}
-use Rattle.vg_top.specs.Agreement.{most_steps}
-use Rattle.vg_top.specs.Commands.{RunFiles, IsRun}
-use Rattle.vg_top.specs.Effects.{IsPart, BeganReplay, Finished, IsDone}
+use Rattle.vg_top.specs.declared.stop.Stop.TheVariants.{Wrong, Usage, Header, Record, Read, Write, Memory, Limit, Frames, NotBuilt}
+use Rattle.vg_top.specs.Agreement.{Agree, IsMostSteps}
+use Rattle.vg_top.specs.Effects.{Unwritten, BeganReplay, Finished, IsDone}
 use Rattle.vg_top.specs.Endings.{Ending, Stopped, Done, ComesTo}
 use Rattle.vg_top.specs.Lines.{verified_line, totals_line}
-use Rattle.vg_top.specs.Outputs.{handle_at, handled_by}
-use Rattle.vg_top.specs.Running.{HasRun, StopsRun, Prints}
+use Rattle.vg_top.specs.Records.{fault_of_record}
+use Rattle.vg_top.specs.Runs.{IsRun, RefusesWords, replay_files}
+use Rattle.vg_top.specs.Running.{HasRun, StopsRun, StopsAfter, Prints}
 use Rattle.vg_top.specs.Statuses.{status_of, status_at, IsStatus, IsFaultOrMemory}
-use Rattle.vg_top.proofs.Ordering.{follows-all}
+use Rattle.vg_top.proofs.Leaving.{begins}
 use Rattle.vg_top.proofs.Unique.{ComesTo-same}
 
 -- ---- statuses
@@ -33,29 +38,48 @@ known_done (inr failed) = inr (Write, failed.0)
 -- ---- a run that was done
 
 -- no frame takes more than the greatest number of steps
-steps_within : (c : Small) → steps_at c.tests 0 ≤ most_steps c
-unfolding most_steps
-steps_within c = omega arith
+bounded : (c : Small) (ports most : ℕ) (frames : List Arrival) → IsMostSteps c ports most → All (λ a. a.port < ports) frames → All (λ h. h.steps ≤ most) (handled_by c frames)
+bounded c ports most frames steps below = All-map (λ h. h.steps ≤ most) (handle_at c) frames (λ i d within. steps.bound _ (below i d within))
 
-bounded : (c : Small) (frames : List Framed) → All (λ h. h.steps ≤ most_steps c) (handled_by c frames)
-bounded c frames = All-map (λ h. h.steps ≤ most_steps c) (handle_at c) frames (λ i d within. steps_within c)
+-- what two functions that agree put into a capture is the same
+module _ (c spec : Small) (agree : Agree c spec) (to : ℕ) where
+  same_piece : (a : Arrival) → a.port < spec.ports → piece_to to (handle_at c a) ≡ piece_to to (handle_at spec a)
+  unfolding piece_to
+  same_piece a below = ap (λ (v : Verdict). if goes_to v a.port to then record_of a.frame else []) (agree a.port below)
 
-pub has_finished : {words : List (List ℕ)} (s t : Disk) {n : RunFiles} (r : Report) → IsRun words n → HasRun s t n r → Finished words s t (verified_line r.paths r.steps ++ totals_line r.totals)
-has_finished s t {n} r run has = record {
-  names = n;
-  c = has.c;
-  spec = has.spec;
-  frames = has.frames;
-  run = run;
-  input = has.input;
-  wrote = has.wrote;
-  paths = r.paths;
-  counted = has.paths;
-  bounded = bounded has.c has.frames;
-  reports = rw (has.steps, has.totals) refl;
-}
+  same_pieces : (frames : List Arrival) → All (λ a. a.port < spec.ports) frames → flat_map (piece_to to) (handled_by c frames) ≡ flat_map (piece_to to) (handled_by spec frames)
+  same_pieces [] below = refl
+  same_pieces (a ∷ frames) below =
+      rw (same_piece a (All-head (λ a. a.port < spec.ports) a frames below), same_pieces frames (All-tail (λ a. a.port < spec.ports) a frames below)) refl
 
-pub is_done : {words : List (List ℕ)} (s t : Disk) {u v : Flow} {n : RunFiles} {answer : ℕ} (r : Report) → IsRun words n → HasRun s t n r →
+  same_capture : (frames : List Arrival) → All (λ a. a.port < spec.ports) frames → capture_to to (handled_by c frames) ≡ capture_to to (handled_by spec frames)
+  unfolding capture_to
+  same_capture frames below = ap (λ (bytes : List ℕ). header ++ bytes) (same_pieces frames below)
+
+pub has_finished : {words : List (List ℕ)} (s t : Disk) {n : Files} (r : Report) → IsRun words n → HasRun s t n r → Finished words s t (verified_line r.paths r.steps ++ totals_line r.totals)
+has_finished s t {n} r run has =
+    let ports : length n.ins ≡ has.spec.ports = has.verified.functions.ports in
+    let below : All (λ a. a.port < has.spec.ports) has.replayed.frames = rw ports at has.replayed.ports in
+    record {
+      names = n;
+      c = has.c;
+      spec = has.spec;
+      run = run;
+      verified = has.verified;
+      frames = has.replayed.frames;
+      all = has.replayed.all;
+      captures = λ told port name at. (has.replayed.wrote told).outs port name at ∙ ap Some (same_capture has.c has.spec has.verified.agree port has.replayed.frames below);
+      log = λ told. (has.replayed.wrote told).log;
+      others = has.others;
+      paths = r.paths;
+      counted = has.paths;
+      steps = r.steps;
+      most = has.steps;
+      bounded = bounded has.c has.spec.ports r.steps has.replayed.frames has.steps below;
+      reports = rw has.replayed.totals_are refl;
+    }
+
+pub is_done : {words : List (List ℕ)} (s t : Disk) {u v : Flow} {n : Files} {answer : ℕ} (r : Report) → IsRun words n → HasRun s t n r →
     Prints u v (verified_line r.paths r.steps ++ totals_line r.totals) 0 answer → answer ≡ 0 → IsDone words s t u v
 is_done s t r run has (inl printed) is = record {
   report = verified_line r.paths r.steps ++ totals_line r.totals;
@@ -64,33 +88,71 @@ is_done s t r run has (inl printed) is = record {
 }
 is_done s t r run has (inr failed) is = absurd (omega (arith, failed.0, is))
 
-whole_part : (s t : Disk) (name : List ℕ) (whole : List ℕ) → t.made name ≡ Some whole → IsPart s t name whole
-whole_part s t name whole made = inr (whole, made, ([], sym (append-nil whole)))
+-- ---- outputs that are whole are begun
 
-pub began_done : {words : List (List ℕ)} (s t : Disk) {n : RunFiles} (r : Report) → IsRun words n → HasRun s t n r → BeganReplay words s t
+whole_part : (s t : Disk) (name : List ℕ) (whole : List ℕ) → t.made name ≡ Some whole → IsPart s t name whole
+whole_part s t name whole made = inr (whole, [], made, sym (append-nil whole))
+
+parts_of_all : (s t : Disk) {n : ReplayFiles} {c : Small} (frames : List Arrival) → WroteAll s t n c frames → WroteParts s t n c frames
+parts_of_all s t frames all = record {
+  outs = λ port name at. whole_part s t name _ (all.outs port name at);
+  lined = frames;
+  others = [];
+  frames_are = sym (append-nil frames);
+  log = whole_part s t _ _ all.log;
+  captures = inr (λ port name at. ([], all.outs port name at ∙ ap Some (sym (append-nil _))));
+}
+
+pub began_done : {words : List (List ℕ)} (s t : Disk) {n : Files} (r : Report) → IsRun words n → HasRun s t n r → BeganReplay words s t
 began_done s t {n} r run has = record {
   names = n;
   c = has.c;
   spec = has.spec;
-  frames = has.frames;
   run = run;
-  input = has.input;
-  wrote = λ told. let all = has.wrote told in record {
-    out0 = whole_part s t n.out0 _ all.out0;
-    out1 = whole_part s t n.out1 _ all.out1;
-    log = whole_part s t n.log _ all.log;
-    others = all.others;
+  verified = has.verified;
+  began = record {
+    frames = has.replayed.frames;
+    ports = has.replayed.ports;
+    first = λ told. let all = has.replayed.all told in (all.0, all.2.left, all.1, all.2.first);
+    wrote = λ told. parts_of_all s t has.replayed.frames (has.replayed.wrote told);
   };
-  follows = λ told. follows-all (has.wrote told);
+  others = has.others;
 }
+
+-- ---- what stands in the outputs after a stop
+
+began_after : {words : List (List ℕ)} (s t : Disk) {n : Files} {Reason : List Arrival → Type 0} → IsRun words n → ((frames : List Arrival) → Reason frames → AreFirst s n.ins frames) →
+    StopsAfter s t n Reason → BeganReplay words s t
+began_after s t {n} run first x = record {
+  names = n;
+  c = x.c;
+  spec = x.spec;
+  run = run;
+  verified = x.verified;
+  began = record { frames = x.frames; ports = x.ports; first = λ told. first x.frames (x.handled told); wrote = λ told. parts_of_all s t x.frames (x.wrote told) };
+  others = x.others;
+}
+
+pub outputs_after : {words : List (List ℕ)} (s t : Disk) {n : Files} (stop : Stop) → IsRun words n → StopsRun s t n stop → Unwritten s t ⊎ BeganReplay words s t
+outputs_after s t Read run (_, _, inl none) = inl none
+outputs_after s t Read run (_, _, inr b) = inr (begins s t run b)
+outputs_after s t Write run x = inr (begins s t run x.2)
+outputs_after s t Memory run x = inl x.0
+outputs_after s t {n} (Record port number damage) run x = inr (began_after s t run (λ frames up_to. (up_to.0, up_to.3.left, up_to.2, up_to.3.first)) x)
+outputs_after s t {n} Frames run x = inr (began_after s t run (λ frames many. (many.0, many.1, many.2, many.3)) x)
+outputs_after s t (Header port field) run x = inl x.unwritten
+outputs_after s t Usage run x = inl x.unwritten
+outputs_after s t (Wrong at port) run x = inl x.unwritten
+outputs_after s t (NotBuilt what) run x = inl x.unwritten
+outputs_after s t (Limit lang) run x = inl x.unwritten
 
 -- ---- the one answer
 
-pub exactly_done : {words : List (List ℕ)} (s t : Disk) {u v : Flow} {text : List ℕ} {n : RunFiles} {answer : ℕ} (r : Report) → IsRun words n → HasRun s t n r → Prints u v text 0 answer →
+pub exactly_done : {words : List (List ℕ)} (s t : Disk) {u v : Flow} {text : List ℕ} {n : Files} {answer : ℕ} (r : Report) → IsRun words n → HasRun s t n r → Prints u v text 0 answer →
     IsTrue s.tells_held → (ending : Ending) → ComesTo s words ending → (answer ≡ status_at ending) ⊎ IsFaultOrMemory answer
 exactly_done {words = words} s t {n = n} r run has (inl printed) told ending comes =
-    let done : ComesTo s words (Done has.c has.spec has.frames) = inr (n, run, has.input) in
-    inl (printed.0 ∙ ap status_at (ComesTo-same s words (Done has.c has.spec has.frames) ending told done comes))
+    let done : ComesTo s words (Done has.c has.spec has.replayed.frames) = inr (inr (n, run, (has.verified, has.replayed.all))) in
+    inl (printed.0 ∙ ap status_at (ComesTo-same s words (Done has.c has.spec has.replayed.frames) ending told done comes))
 exactly_done s t r run has (inr failed) told ending comes = inr (inr (inl failed.0))
 
 -- a run that stopped for a reason
@@ -105,11 +167,22 @@ free_stop : {u v : Flow} {text : List ℕ} {answer : ℕ} (status : ℕ) → IsF
 free_stop status free (inl printed) = rw printed.0 free
 free_stop status free (inr failed) = inr (inl failed.0)
 
-pub exactly_stopped : {words : List (List ℕ)} (s t : Disk) {u v : Flow} {text : List ℕ} {n : RunFiles} {answer : ℕ} (stop : Stop) → IsRun words n → StopsRun s t n stop → Prints u v text (status_of stop) answer →
+pub exactly_stopped : {words : List (List ℕ)} (s t : Disk) {u v : Flow} {text : List ℕ} {n : Files} {answer : ℕ} (stop : Stop) → IsRun words n → StopsRun s t n stop → Prints u v text (status_of stop) answer →
     IsTrue s.tells_held → (ending : Ending) → ComesTo s words ending → (answer ≡ status_at ending) ⊎ IsFaultOrMemory answer
 exactly_stopped s t Read run stops printed told ending comes = inr (free_stop 6 (inl refl) printed)
 exactly_stopped s t Write run stops printed told ending comes = inr (free_stop 7 (inr (inl refl)) printed)
 exactly_stopped s t Memory run stops printed told ending comes = inr (free_stop 8 (inr (inr refl)) printed)
-exactly_stopped s t {n = n} (Wrong at port) run stops printed told ending comes = exactly_reason s (Wrong at port) (inr (n, run, stops.reason)) printed told ending comes
-exactly_stopped s t {n = n} (NotBuilt what) run stops printed told ending comes = exactly_reason s (NotBuilt what) (inr (n, run, stops.reason)) printed told ending comes
-exactly_stopped s t {n = n} (Limit lang) run stops printed told ending comes = exactly_reason s (Limit lang) (inr (n, run, stops.reason)) printed told ending comes
+exactly_stopped s t {n = n} (Record port number damage) run stops printed told ending comes =
+    exactly_reason s (Record port number damage) (inr (inr (n, run, record { c = stops.c; spec = stops.spec; verified = stops.verified; captures = λ held. (stops.frames, stops.handled held) }))) printed told ending comes
+exactly_stopped s t {n = n} Frames run stops printed told ending comes =
+    exactly_reason s Frames (inr (inr (n, run, record { c = stops.c; spec = stops.spec; verified = stops.verified; captures = λ held. (stops.frames, stops.handled held) }))) printed told ending comes
+exactly_stopped s t {n = n} (Header port field) run stops printed told ending comes = exactly_reason s (Header port field) (inr (inr (n, run, stops.reason))) printed told ending comes
+exactly_stopped s t {n = n} Usage run stops printed told ending comes = exactly_reason s Usage (inr (inr (n, run, stops.reason))) printed told ending comes
+exactly_stopped s t {n = n} (Wrong at port) run stops printed told ending comes = exactly_reason s (Wrong at port) (inr (inr (n, run, stops.reason))) printed told ending comes
+exactly_stopped s t {n = n} (NotBuilt what) run stops printed told ending comes = exactly_reason s (NotBuilt what) (inr (inr (n, run, stops.reason))) printed told ending comes
+exactly_stopped s t {n = n} (Limit lang) run stops printed told ending comes = exactly_reason s (Limit lang) (inr (inr (n, run, stops.reason))) printed told ending comes
+
+pub exactly_words : {words : List (List ℕ)} (s : Disk) {u v : Flow} {text : List ℕ} {answer : ℕ} (stop : Stop) → RefusesWords words stop → Prints u v text (status_of stop) answer →
+    IsTrue s.tells_held → (ending : Ending) → ComesTo s words ending → (answer ≡ status_at ending) ⊎ IsFaultOrMemory answer
+exactly_words s stop (inl none) printed = exactly_reason s stop (inl (ap Stopped none.0, none.1)) printed
+exactly_words s stop (inr other) printed = exactly_reason s stop (inr (inl (ap Stopped other.0, other.1))) printed

@@ -1,78 +1,112 @@
 -- A run comes to one thing, where the files tell what they hold.
-use Rattle.std.proofs.Common.{◌≡◌, ◌<◌, ◌⊎◌, inl, inr, ◌∙◌, ℕ, List, length, IsTrue, Some, refl, sym, ap, arith}
+use Rattle.std.proofs.Common.{◌≡◌, ◌≢◌, ◌<◌, ◌⊎◌, inl, inr, ◌∙◌, ℕ, List, length, IsTrue, Some, refl, sym, ap, arith}
 use Rattle.std.proofs.lemmas.Bool.{cases_lt}
 use Rattle.std.proofs.Math.Nat.{eq-or-lt_of_le}
 use Rattle.vg_base.specs.Files.{Disk}
+use Rattle.vg_command.specs.Commands as commands
+use Rattle.vg_command.specs.Commands.{Files, Command, Run}
 use Rattle.vg_core.specs.declared.small.Small.{Small}
 use Rattle.vg_core.specs.declared.small.Lang.TheVariants.{C, Spec}
 use Rattle.vg_core.specs.Spelling.{Spells, SpellsNone}
 use Rattle.vg_core.proofs.SpellingLaws.{Spells-unique}
-use Rattle.vg_pcap.specs.Frames.{Framed, HoldsFrames}
-use Rattle.vg_pcap.proofs.Laws.{HoldsFrames-same}
-use Rattle.vg_top.specs.declared.limits.TheConstants.{MAX_TEXT, MAX_INPUT}
-use Rattle.vg_top.specs.declared.stop.Stop.TheVariants.{Wrong, NotBuilt, Limit, Read, Write, Memory}
-use Rattle.vg_top.specs.declared.stop.Unbuilt.TheVariants.{Words, Text, Capture}
+use Rattle.vg_pcap.specs.declared.faults.HeaderField.{HeaderField}
+use Rattle.vg_pcap.specs.Arrivals.{Arrival}
+use Rattle.vg_pcap.specs.Merge.{IsFirstBadHeader}
+use Rattle.vg_replay.specs.Replays.{SendsBelow, AreAll, AreUpTo, AreTooMany}
+use Rattle.vg_top.specs.declared.limits.TheConstants.{MAX_TEXT}
+use Rattle.vg_top.specs.declared.stop.Damage.{Damage}
+use Rattle.vg_top.specs.declared.stop.Stop.TheVariants.{Wrong, Usage, Header, Record, Read, Write, Memory, Limit, Frames, NotBuilt}
+use Rattle.vg_top.specs.declared.stop.Unbuilt.TheVariants.{Words, Text}
 use Rattle.vg_top.specs.Agreement.{Agree, IsFirstDifference}
-use Rattle.vg_top.specs.Commands.{RunFiles, words_of}
-use Rattle.vg_top.specs.Endings.{Ending, Stopped, Done, EndsIn, ComesTo, IsLonger, IsWithin, IsDamaged}
+use Rattle.vg_top.specs.Endings.{Ending, Stopped, Done, EndsIn, ComesTo, IsLonger, IsWithin}
+use Rattle.vg_top.specs.Records.{fault_of_record}
+use Rattle.vg_top.specs.Runs.{IsRun, IsUnbuilt, IsBuilt}
+use Rattle.vg_top.proofs.Captures.{same_header_port, same_header_field, header_all, header_up_to, header_many, same_all, all_up_to, all_many, same_up_to, up_to_many}
 
 -- ---- the decisions of a run, one after another
 
--- the input is no capture, or it holds frames
-pub record HasFrames (s : Disk) (n : RunFiles) (frames : List Framed) : Type 0 where
-  pub input : List ℕ
-  pub read : IsWithin s n.in0 MAX_INPUT input
-  pub holds : HoldsFrames input frames
-
-abbrev AtInput : Disk → RunFiles → Small → Small → Ending → Type 0
-AtInput s n c spec e =
-    ((e ≡ Stopped (NotBuilt Capture)) × (IsLonger s n.in0 MAX_INPUT ⊎ IsDamaged s n.in0))
-    ⊎ ((frames : List Framed) × HasFrames s n frames × (e ≡ Done c spec frames))
+-- a header is refused, or frames are handled: up to a record, or the most, or all
+data AtCaptures (s : Disk) (n : Files) (c spec : Small) (e : Ending) : Type 0 where
+  header : (port : ℕ) (field : HeaderField) → e ≡ Stopped (Header port field) → IsFirstBadHeader s n.ins port field → AtCaptures s n c spec e
+  up_to : (port number : ℕ) (damage : Damage) (frames : List Arrival) → e ≡ Stopped (Record port number damage) → AreUpTo s n.ins frames port (fault_of_record damage number) → AtCaptures s n c spec e
+  many : (frames : List Arrival) → e ≡ Stopped Frames → AreTooMany s n.ins frames → AtCaptures s n c spec e
+  all : (frames : List Arrival) → e ≡ Done c spec frames → AreAll s n.ins frames → AtCaptures s n c spec e
 
 -- the functions differ, or they agree
-abbrev AtPorts : Disk → RunFiles → Small → Small → Ending → Type 0
-AtPorts s n c spec e = ((port : ℕ) × IsFirstDifference c spec port × (e ≡ Stopped (Wrong c.at port))) ⊎ (Agree c spec × AtInput s n c spec e)
+abbrev AtPorts : Disk → Files → Small → Small → Ending → Type 0
+AtPorts s n c spec e = ((port : ℕ) × IsFirstDifference c spec port × (e ≡ Stopped (Wrong c.at port))) ⊎ (Agree c spec × AtCaptures s n c spec e)
+
+-- the words name captures of other ports, or of those
+abbrev AtCount : Disk → Files → Small → Small → Ending → Type 0
+AtCount s n c spec e = ((e ≡ Stopped Usage) × (length n.ins ≢ spec.ports)) ⊎ ((length n.ins ≡ spec.ports) × AtPorts s n c spec e)
+
+-- the C function sends beyond the ports, or it doesn't
+abbrev AtValues : Disk → Files → Small → Small → Ending → Type 0
+AtValues s n c spec e = ((e ≡ Stopped (NotBuilt (Text C))) × (SendsBelow spec.ports c → ⊥)) ⊎ (SendsBelow spec.ports c × AtCount s n c spec e)
 
 -- the specification spells no small function, or it spells one
-abbrev AtSpec : Disk → RunFiles → List ℕ → Small → Ending → Type 0
+abbrev AtSpec : Disk → Files → List ℕ → Small → Ending → Type 0
 AtSpec s n spec_text c e =
-    ((e ≡ Stopped (NotBuilt (Text Spec))) × SpellsNone Spec spec_text) ⊎ ((spec : Small) × Spells Spec spec_text spec × AtPorts s n c spec e)
+    ((e ≡ Stopped (NotBuilt (Text Spec))) × SpellsNone Spec spec_text) ⊎ ((spec : Small) × Spells Spec spec_text spec × AtValues s n c spec e)
 
 -- the C text spells no small function, or it spells one
-abbrev AtC : Disk → RunFiles → List ℕ → List ℕ → Ending → Type 0
+abbrev AtC : Disk → Files → List ℕ → List ℕ → Ending → Type 0
 AtC s n c_text spec_text e =
     ((e ≡ Stopped (NotBuilt (Text C))) × SpellsNone C c_text) ⊎ ((c : Small) × Spells C c_text c × AtSpec s n spec_text c e)
 
 -- the specification is too long, or it isn't
-abbrev AtLongSpec : Disk → RunFiles → List ℕ → Ending → Type 0
+abbrev AtLongSpec : Disk → Files → List ℕ → Ending → Type 0
 AtLongSpec s n c_text e =
     ((e ≡ Stopped (Limit Spec)) × IsLonger s n.spec MAX_TEXT) ⊎ ((spec_text : List ℕ) × IsWithin s n.spec MAX_TEXT spec_text × AtC s n c_text spec_text e)
 
 -- the C text is too long, or it isn't
-abbrev AtLongC : Disk → RunFiles → Ending → Type 0
+abbrev AtLongC : Disk → Files → Ending → Type 0
 AtLongC s n e =
     ((e ≡ Stopped (Limit C)) × IsLonger s n.c MAX_TEXT) ⊎ ((c_text : List ℕ) × IsWithin s n.c MAX_TEXT c_text × AtLongSpec s n c_text e)
 
-decided : (s : Disk) (n : RunFiles) (e : Ending) → EndsIn s n e → AtLongC s n e
-decided s n (Stopped (Limit C)) x = inl (refl, x)
-decided s n (Stopped (Limit Spec)) x = inr (x.c_text, x.c, inl (refl, x.spec))
-decided s n (Stopped (NotBuilt (Text C))) x = inr (x.c_text, x.texts.c, inr (x.spec_text, x.texts.spec, inl (refl, x.c_spells)))
-decided s n (Stopped (NotBuilt (Text Spec))) x =
+decided : (s : Disk) (n : Files) (e : Ending) → IsTrue s.tells_held → EndsIn s n e → AtLongC s n e
+decided s n (Stopped (Limit C)) told x = inl (refl, x)
+decided s n (Stopped (Limit Spec)) told x = inr (x.c_text, x.c, inl (refl, x.spec))
+decided s n (Stopped (NotBuilt (Text C))) told (inl x) = inr (x.c_text, x.texts.c, inr (x.spec_text, x.texts.spec, inl (refl, x.c_spells)))
+decided s n (Stopped (NotBuilt (Text C))) told (inr x) =
+    let f = x.functions in
+    inr (f.c_text, f.texts.c, inr (f.spec_text, f.texts.spec, inr (x.c, f.c_spells, inr (x.spec, f.spec_spells, inl (refl, x.beyond)))))
+decided s n (Stopped (NotBuilt (Text Spec))) told x =
     inr (x.c_text, x.texts.c, inr (x.spec_text, x.texts.spec, inr (x.c, x.c_spells, inl (refl, x.spec_spells))))
-decided s n (Stopped (Wrong at port)) x =
+decided s n (Stopped Usage) told x =
     let f = x.functions in
-    inr (f.c_text, f.texts.c, inr (f.spec_text, f.texts.spec, inr (x.c, f.c_spells, inr (x.spec, f.spec_spells, inl (port, x.difference, ap (λ (k : ℕ). Stopped (Wrong k port)) x.place)))))
-decided s n (Stopped (NotBuilt Capture)) x =
-    let f = x.functions in
-    inr (f.c_text, f.texts.c, inr (f.spec_text, f.texts.spec, inr (x.c, f.c_spells, inr (x.spec, f.spec_spells, inr (x.agree, inl (refl, x.input))))))
-decided s n (Done c spec frames) x =
-    let f = x.functions in
-    let has : HasFrames s n frames = record { input = x.input; read = x.read; holds = x.holds } in
-    inr (f.c_text, f.texts.c, inr (f.spec_text, f.texts.spec, inr (c, f.c_spells, inr (spec, f.spec_spells, inr (x.agree, inr (frames, has, refl))))))
-decided s n (Stopped (NotBuilt Words)) x = absurd x
-decided s n (Stopped Read) x = absurd x
-decided s n (Stopped Write) x = absurd x
-decided s n (Stopped Memory) x = absurd x
+    inr (f.c_text, f.texts.c, inr (f.spec_text, f.texts.spec, inr (x.c, f.c_spells, inr (x.spec, f.spec_spells, inr (x.below, inl (refl, x.ports))))))
+decided s n (Stopped (Wrong at port)) told x =
+    let p = x.functions in
+    let f = p.functions in
+    inr (f.c_text, f.texts.c, inr (f.spec_text, f.texts.spec, inr (x.c, f.c_spells, inr (x.spec, f.spec_spells, inr (p.below, inr (p.ports,
+        inl (port, x.difference, ap (λ (k : ℕ). Stopped (Wrong k port)) x.place)))))))
+decided s n (Stopped (Header port field)) told x =
+    let p = x.verified.functions in
+    let f = p.functions in
+    inr (f.c_text, f.texts.c, inr (f.spec_text, f.texts.spec, inr (x.c, f.c_spells, inr (x.spec, f.spec_spells, inr (p.below, inr (p.ports,
+        inr (x.verified.agree, header port field refl (x.captures told))))))))
+decided s n (Stopped (Record port number damage)) told x =
+    let p = x.verified.functions in
+    let f = p.functions in
+    let handled = x.captures told in
+    inr (f.c_text, f.texts.c, inr (f.spec_text, f.texts.spec, inr (x.c, f.c_spells, inr (x.spec, f.spec_spells, inr (p.below, inr (p.ports,
+        inr (x.verified.agree, up_to port number damage handled.0 refl handled.1)))))))
+decided s n (Stopped Frames) told x =
+    let p = x.verified.functions in
+    let f = p.functions in
+    let handled = x.captures told in
+    inr (f.c_text, f.texts.c, inr (f.spec_text, f.texts.spec, inr (x.c, f.c_spells, inr (x.spec, f.spec_spells, inr (p.below, inr (p.ports,
+        inr (x.verified.agree, many handled.0 refl handled.1)))))))
+decided s n (Done c spec frames) told x =
+    let p = x.0.functions in
+    let f = p.functions in
+    inr (f.c_text, f.texts.c, inr (f.spec_text, f.texts.spec, inr (c, f.c_spells, inr (spec, f.spec_spells, inr (p.below, inr (p.ports,
+        inr (x.0.agree, all frames refl (x.1 told))))))))
+decided s n (Stopped (NotBuilt Words)) told x = absurd x
+decided s n (Stopped Read) told x = absurd x
+decided s n (Stopped Write) told x = absurd x
+decided s n (Stopped Memory) told x = absurd x
 
 -- ---- each decision is made in one way
 
@@ -102,43 +136,61 @@ same_port p q x y =
       ]
     ]
 
-no_frames : {s : Disk} {n : RunFiles} {frames : List Framed} → IsTrue s.tells_held → IsLonger s n.in0 MAX_INPUT ⊎ IsDamaged s n.in0 → HasFrames s n frames → ⊥
-no_frames told (inl long) y = not_longer told long y.read
-no_frames {frames = frames} told (inr damaged) y = damaged.frames frames (rw (same_bytes told y.read damaged.read) at y.holds)
+at_captures : (s : Disk) {n : Files} {c spec : Small} (e f : Ending) → AtCaptures s n c spec e → AtCaptures s n c spec f → e ≡ f
+at_captures s e f (header p g is x) (header q h js y) = is ∙ rw (same_header_port s p q x y, same_header_field s g h x y) refl ∙ sym js
+at_captures s e f (header p g is x) (up_to q m d b js y) = absurd (header_up_to s m d x y)
+at_captures s e f (header p g is x) (many b js y) = absurd (header_many s x y)
+at_captures s e f (header p g is x) (all b js y) = absurd (header_all s x y)
+at_captures s e f (up_to p m d a is x) (header q h js y) = absurd (header_up_to s m d y x)
+at_captures s e f (up_to p m d a is x) (up_to q k g b js y) = let same = same_up_to s a b m k d g x y in is ∙ rw (same.0, same.1, same.2) refl ∙ sym js
+at_captures s e f (up_to p m d a is x) (many b js y) = absurd (up_to_many s a b m d x y)
+at_captures s e f (up_to p m d a is x) (all b js y) = absurd (all_up_to s m d y x)
+at_captures s e f (many a is x) (header q h js y) = absurd (header_many s y x)
+at_captures s e f (many a is x) (up_to q k g b js y) = absurd (up_to_many s b a k g y x)
+at_captures s e f (many a is x) (many b js y) = is ∙ sym js
+at_captures s e f (many a is x) (all b js y) = absurd (all_many s b a y x)
+at_captures s e f (all a is x) (header q h js y) = absurd (header_all s y x)
+at_captures s e f (all a is x) (up_to q k g b js y) = absurd (all_up_to s k g x y)
+at_captures s e f (all a is x) (many b js y) = absurd (all_many s a b x y)
+at_captures s {c = c} {spec = spec} e f (all a is x) (all b js y) = is ∙ ap (Done c spec) (same_all s a b x y) ∙ sym js
 
-at_input : {s : Disk} {n : RunFiles} {c spec : Small} (e f : Ending) → IsTrue s.tells_held → AtInput s n c spec e → AtInput s n c spec f → e ≡ f
-at_input e f told (inl x) (inl y) = x.0 ∙ sym y.0
-at_input e f told (inl x) (inr y) = absurd (no_frames told x.1 y.1)
-at_input e f told (inr x) (inl y) = absurd (no_frames told y.1 x.1)
-at_input {c = c} {spec = spec} e f told (inr x) (inr y) =
-    let holds = rw (same_bytes told x.1.read y.1.read) at x.1.holds in
-    x.2 ∙ ap (Done c spec) (HoldsFrames-same x.0 y.0 holds y.1.holds) ∙ sym y.2
+at_ports : {s : Disk} {n : Files} {c spec : Small} (e f : Ending) → AtPorts s n c spec e → AtPorts s n c spec f → e ≡ f
+at_ports {c = c} e f (inl x) (inl y) = x.2 ∙ ap (λ (port : ℕ). Stopped (Wrong c.at port)) (same_port x.0 y.0 x.1 y.1) ∙ sym y.2
+at_ports e f (inl x) (inr y) = absurd (no_first x.1 y.0)
+at_ports e f (inr x) (inl y) = absurd (no_first y.1 x.0)
+at_ports {s = s} e f (inr x) (inr y) = at_captures s e f x.1 y.1
 
-at_ports : {s : Disk} {n : RunFiles} {c spec : Small} (e f : Ending) → IsTrue s.tells_held → AtPorts s n c spec e → AtPorts s n c spec f → e ≡ f
-at_ports {c = c} e f told (inl x) (inl y) = x.2 ∙ ap (λ (port : ℕ). Stopped (Wrong c.at port)) (same_port x.0 y.0 x.1 y.1) ∙ sym y.2
-at_ports e f told (inl x) (inr y) = absurd (no_first x.1 y.0)
-at_ports e f told (inr x) (inl y) = absurd (no_first y.1 x.0)
-at_ports e f told (inr x) (inr y) = at_input e f told x.1 y.1
+at_count : {s : Disk} {n : Files} {c spec : Small} (e f : Ending) → AtCount s n c spec e → AtCount s n c spec f → e ≡ f
+at_count e f (inl x) (inl y) = x.0 ∙ sym y.0
+at_count e f (inl x) (inr y) = absurd (x.1 y.0)
+at_count e f (inr x) (inl y) = absurd (y.1 x.0)
+at_count e f (inr x) (inr y) = at_ports e f x.1 y.1
 
-at_spec : {s : Disk} {n : RunFiles} {spec_text : List ℕ} {c : Small} (e f : Ending) → IsTrue s.tells_held → AtSpec s n spec_text c e → AtSpec s n spec_text c f → e ≡ f
-at_spec e f told (inl x) (inl y) = x.0 ∙ sym y.0
-at_spec e f told (inl x) (inr y) = absurd (x.1 y.0 y.1)
-at_spec e f told (inr x) (inl y) = absurd (y.1 x.0 x.1)
-at_spec {spec_text = spec_text} e f told (inr x) (inr y) = at_ports e f told (rw (Spells-unique Spec spec_text x.0 y.0 x.1 y.1) at x.2) y.2
+at_values : {s : Disk} {n : Files} {c spec : Small} (e f : Ending) → AtValues s n c spec e → AtValues s n c spec f → e ≡ f
+at_values e f (inl x) (inl y) = x.0 ∙ sym y.0
+at_values e f (inl x) (inr y) = absurd (x.1 y.0)
+at_values e f (inr x) (inl y) = absurd (y.1 x.0)
+at_values e f (inr x) (inr y) = at_count e f x.1 y.1
 
-at_c : {s : Disk} {n : RunFiles} {c_text spec_text : List ℕ} (e f : Ending) → IsTrue s.tells_held → AtC s n c_text spec_text e → AtC s n c_text spec_text f → e ≡ f
-at_c e f told (inl x) (inl y) = x.0 ∙ sym y.0
-at_c e f told (inl x) (inr y) = absurd (x.1 y.0 y.1)
-at_c e f told (inr x) (inl y) = absurd (y.1 x.0 x.1)
-at_c {c_text = c_text} e f told (inr x) (inr y) = at_spec e f told (rw (Spells-unique C c_text x.0 y.0 x.1 y.1) at x.2) y.2
+at_spec : {s : Disk} {n : Files} {spec_text : List ℕ} {c : Small} (e f : Ending) → AtSpec s n spec_text c e → AtSpec s n spec_text c f → e ≡ f
+at_spec e f (inl x) (inl y) = x.0 ∙ sym y.0
+at_spec e f (inl x) (inr y) = absurd (x.1 y.0 y.1)
+at_spec e f (inr x) (inl y) = absurd (y.1 x.0 x.1)
+at_spec {spec_text = spec_text} e f (inr x) (inr y) = at_values e f (rw (Spells-unique Spec spec_text x.0 y.0 x.1 y.1) at x.2) y.2
 
-at_long_spec : {s : Disk} {n : RunFiles} {c_text : List ℕ} (e f : Ending) → IsTrue s.tells_held → AtLongSpec s n c_text e → AtLongSpec s n c_text f → e ≡ f
+at_c : {s : Disk} {n : Files} {c_text spec_text : List ℕ} (e f : Ending) → AtC s n c_text spec_text e → AtC s n c_text spec_text f → e ≡ f
+at_c e f (inl x) (inl y) = x.0 ∙ sym y.0
+at_c e f (inl x) (inr y) = absurd (x.1 y.0 y.1)
+at_c e f (inr x) (inl y) = absurd (y.1 x.0 x.1)
+at_c {c_text = c_text} e f (inr x) (inr y) = at_spec e f (rw (Spells-unique C c_text x.0 y.0 x.1 y.1) at x.2) y.2
+
+at_long_spec : {s : Disk} {n : Files} {c_text : List ℕ} (e f : Ending) → IsTrue s.tells_held → AtLongSpec s n c_text e → AtLongSpec s n c_text f → e ≡ f
 at_long_spec e f told (inl x) (inl y) = x.0 ∙ sym y.0
 at_long_spec e f told (inl x) (inr y) = absurd (not_longer told x.1 y.1)
 at_long_spec e f told (inr x) (inl y) = absurd (not_longer told y.1 x.1)
-at_long_spec e f told (inr x) (inr y) = at_c e f told (rw (same_bytes told x.1 y.1) at x.2) y.2
+at_long_spec e f told (inr x) (inr y) = at_c e f (rw (same_bytes told x.1 y.1) at x.2) y.2
 
-at_long_c : {s : Disk} {n : RunFiles} (e f : Ending) → IsTrue s.tells_held → AtLongC s n e → AtLongC s n f → e ≡ f
+at_long_c : {s : Disk} {n : Files} (e f : Ending) → IsTrue s.tells_held → AtLongC s n e → AtLongC s n f → e ≡ f
 at_long_c e f told (inl x) (inl y) = x.0 ∙ sym y.0
 at_long_c e f told (inl x) (inr y) = absurd (not_longer told x.1 y.1)
 at_long_c e f told (inr x) (inl y) = absurd (not_longer told y.1 x.1)
@@ -146,22 +198,26 @@ at_long_c e f told (inr x) (inr y) = at_long_spec e f told (rw (same_bytes told 
 
 -- ---- the words
 
-same_names : (n m : RunFiles) → words_of n ≡ words_of m → n ≡ m
-same_names n m e =
-    let c : n.c ≡ m.c = cc in
-    let spec : n.spec ≡ m.spec = cc in
-    let log : n.log ≡ m.log = cc in
-    let in0 : n.in0 ≡ m.in0 = cc in
-    let out0 : n.out0 ≡ m.out0 = cc in
-    let out1 : n.out1 ≡ m.out1 = cc in
-    let same : record { c = n.c; spec = n.spec; log = n.log; in0 = n.in0; out0 = n.out0; out1 = n.out1 } ≡ m = rw (c, spec, log, in0, out0, out1) refl in
-    same
+commands_unique : (words : List (List ℕ)) (a b : Command) → commands.Spells words a → commands.Spells words b → a ≡ b
+commands_unique words a b x y = ?
+
+same_files : (n m : Files) → Run n ≡ Run m → n ≡ m
+same_files n m e = cc
+
+-- words of a run are not those of a command that isn't built
+not_unbuilt : {words : List (List ℕ)} {n : Files} → IsUnbuilt words → IsRun words n → ⊥
+not_unbuilt {words} {n} x run = x.other (rw (← commands_unique words (Run n) x.command run.spells x.spells) run.no_conf)
 
 -- words that are those of a run on files, and files that tell what they hold, come to one thing
 pub ComesTo-same : (s : Disk) (words : List (List ℕ)) (e f : Ending) → IsTrue s.tells_held → ComesTo s words e → ComesTo s words f → e ≡ f
 ComesTo-same s words e f told (inl x) (inl y) = x.0 ∙ sym y.0
-ComesTo-same s words e f told (inl x) (inr y) = absurd (x.1 y.0 y.1)
-ComesTo-same s words e f told (inr x) (inl y) = absurd (y.1 x.0 x.1)
-ComesTo-same s words e f told (inr x) (inr y) =
-    let names : x.0 ≡ y.0 = same_names x.0 y.0 (sym x.1.words_are ∙ y.1.words_are) in
-    at_long_c e f told (decided s y.0 e (rw names at x.2)) (decided s y.0 f y.2)
+ComesTo-same s words e f told (inl x) (inr (inl y)) = absurd (x.1 y.1.command y.1.spells)
+ComesTo-same s words e f told (inl x) (inr (inr y)) = absurd (x.1 (Run y.0) y.1.spells)
+ComesTo-same s words e f told (inr (inl x)) (inl y) = absurd (y.1 x.1.command x.1.spells)
+ComesTo-same s words e f told (inr (inr x)) (inl y) = absurd (y.1 (Run x.0) x.1.spells)
+ComesTo-same s words e f told (inr (inl x)) (inr (inl y)) = x.0 ∙ sym y.0
+ComesTo-same s words e f told (inr (inl x)) (inr (inr y)) = absurd (not_unbuilt x.1 y.1)
+ComesTo-same s words e f told (inr (inr x)) (inr (inl y)) = absurd (not_unbuilt y.1 x.1)
+ComesTo-same s words e f told (inr (inr x)) (inr (inr y)) =
+    let names : x.0 ≡ y.0 = same_files x.0 y.0 (commands_unique words (Run x.0) (Run y.0) x.1.spells y.1.spells) in
+    at_long_c e f told (decided s y.0 e told (rw names at x.2)) (decided s y.0 f told y.2)

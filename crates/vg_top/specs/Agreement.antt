@@ -1,14 +1,10 @@
 -- What a C text and its specification have to agree on.
-use Rattle.std.specs.Prelude.{ℕ, ◌≡◌, ◌≢◌, ◌<◌, max, List, Bool}
+use Rattle.std.specs.Prelude.{ℕ, zero, suc, ◌+◌, ◌≡◌, ◌≢◌, ◌<◌, ◌≤◌, ◌⊎◌, List, Bool}
 use Rattle.vg_core.specs.declared.small.Small.{Small}
-use Rattle.vg_core.specs.declared.verdict.Verdict.{Verdict}
-use Rattle.vg_core.specs.Meaning.{verdict_at, steps_at, sides_at}
+use Rattle.vg_core.specs.Meaning.{steps_at, sides_at}
+use Rattle.vg_replay.specs.Outputs.{verdict_by}
 
--- what a function does with a frame of this port
-abbrev pub verdict_by : Small → ℕ → Verdict
-verdict_by f port = verdict_at f.tests f.last port
-
--- two functions do the same with it
+-- two functions do the same with a frame of this port
 abbrev pub AgreeAt : Small → Small → ℕ → Type 0
 AgreeAt c spec port = verdict_by c port ≡ verdict_by spec port
 
@@ -27,11 +23,22 @@ pub record IsFirstDifference (c spec : Small) (port : ℕ) : Type 0 where
 abbrev pub sides : Small → Small → ℕ → List Bool × List Bool
 sides c spec port = (sides_at c.tests port, sides_at spec.tests port)
 
--- how many different ways the frames of ports 0 and 1 take through the tests of both texts
-pub record IsPathCount (c spec : Small) (count : ℕ) : Type 0 where
-  pub one : sides c spec 0 ≡ sides c spec 1 → count ≡ 1
-  pub two : sides c spec 0 ≢ sides c spec 1 → count ≡ 2
+-- the frames of a port go another way through the tests of both texts than those of each lower port
+abbrev pub GoesNewWay : Small → Small → ℕ → Type 0
+GoesNewWay c spec port = (lower : ℕ) → lower < port → sides c spec lower ≢ sides c spec port
 
--- the most steps that a frame takes: the greater number, of ports 0 and 1
-unfoldable pub most_steps : Small → ℕ
-most_steps c = max (steps_at c.tests 0) (steps_at c.tests 1)
+-- how many ways the frames of the ports below one take: that of each port that goes a new way
+abbrev pub CountsWays : Small → Small → ℕ → ℕ → Type 0
+CountsWays c spec zero count = count ≡ 0
+CountsWays c spec (suc port) count =
+    (before : ℕ) × CountsWays c spec port before
+    × ((GoesNewWay c spec port × (count ≡ before + 1)) ⊎ ((GoesNewWay c spec port → ⊥) × (count ≡ before)))
+
+-- how many ways the frames of all ports take
+abbrev pub IsPathCount : Small → Small → ℕ → Type 0
+IsPathCount c spec count = CountsWays c spec spec.ports count
+
+-- the most steps that a frame takes, of so many ports
+pub record IsMostSteps (c : Small) (ports : ℕ) (most : ℕ) : Type 0 where
+  pub bound : (port : ℕ) → port < ports → steps_at c.tests port ≤ most
+  pub taken : (port : ℕ) × (port < ports) × (steps_at c.tests port ≡ most)

@@ -1,16 +1,20 @@
 -- What a run leaves: in the files, and in the sink that it prints to.
-use Rattle.std.specs.Prelude.{ℕ, ◌≡◌, ◌≤◌, ◌⊎◌, List, [], ◌∷◌, ◌++◌, take, length, IsTrue, Some, All}
+use Rattle.std.specs.Prelude.{ℕ, ◌≡◌, ◌≤◌, ◌⊎◌, List, ◌++◌, take, length, IsTrue, Some, All, slice_get}
 use Rattle.vg_base.specs.Files.{Disk, Rose}
 use Rattle.vg_base.specs.Sink.{Flow}
+use Rattle.vg_command.specs.Commands.{Files}
 use Rattle.vg_core.specs.declared.small.Small.{Small}
-use Rattle.vg_pcap.specs.Frames.{Framed}
+use Rattle.vg_pcap.specs.Arrivals.{Arrival}
+use Rattle.vg_replay.specs.Outputs.{handled_by, capture_to, log_of, totals_of}
+use Rattle.vg_replay.specs.Replays.{ReplayFiles, KeepsOthers, WroteAll, AreAll, AreUpTo, AreTooMany, HavePorts, Began}
+use Rattle.vg_top.specs.declared.stop.Damage.{Damage}
 use Rattle.vg_top.specs.declared.stop.Stop.{Stop}
-use Rattle.vg_top.specs.declared.stop.Stop.TheVariants.{Wrong, NotBuilt, Limit, Read, Write, Memory}
-use Rattle.vg_top.specs.Agreement.{IsPathCount, most_steps}
-use Rattle.vg_top.specs.Commands.{RunFiles, IsNoneOf, IsRun}
-use Rattle.vg_top.specs.Endings.{Stopped, ComesTo, AreFrames}
+use Rattle.vg_top.specs.declared.stop.Stop.TheVariants.{Wrong, Usage, Header, Record, Read, Write, Memory, Limit, Frames, NotBuilt}
+use Rattle.vg_top.specs.Agreement.{IsPathCount, IsMostSteps}
+use Rattle.vg_top.specs.Endings.{Stopped, ComesTo, AreVerified}
 use Rattle.vg_top.specs.Lines.{verified_line, totals_line, refusal_text}
-use Rattle.vg_top.specs.Outputs.{Written, written_for, handled_by, capture_to, log_of, totals_of}
+use Rattle.vg_top.specs.Records.{fault_of_record}
+use Rattle.vg_top.specs.Runs.{IsRun, replay_files}
 
 -- ---- the files
 
@@ -19,77 +23,44 @@ pub record Unwritten (s t : Disk) : Type 0 where
   pub made : t.made ≡ s.made
   pub write_faults : t.write_faults ≡ s.write_faults
 
--- the first bytes of these
-abbrev pub IsPrefix : List ℕ → List ℕ → Type 0
-IsPrefix part whole = (rest : List ℕ) × (whole ≡ part ++ rest)
+-- no fault was counted at reading or writing
+pub record NoFault (s t : Disk) : Type 0 where
+  pub read_faults : t.read_faults ≡ s.read_faults
+  pub write_faults : t.write_faults ≡ s.write_faults
 
--- a file was created, and holds no more than first bytes of what it should
-abbrev pub IsBegun : Disk → List ℕ → List ℕ → Type 0
-IsBegun t name whole = (part : List ℕ) × (t.made name ≡ Some part) × IsPrefix part whole
-
--- a file was left as it was, or begun
-abbrev pub IsPart : Disk → Disk → List ℕ → List ℕ → Type 0
-IsPart s t name whole = (t.made name ≡ s.made name) ⊎ IsBegun t name whole
-
--- no file but the three outputs was changed
-abbrev pub KeepsOthers : Disk → Disk → RunFiles → Type 0
-KeepsOthers s t n = (name : List ℕ) → IsNoneOf (n.log ∷ n.out0 ∷ n.out1 ∷ []) name → t.made name ≡ s.made name
-
--- each of the three outputs holds what it should
-pub record WroteAll (s t : Disk) (n : RunFiles) (w : Written) : Type 0 where
-  pub out0 : t.made n.out0 ≡ Some w.out0
-  pub out1 : t.made n.out1 ≡ Some w.out1
-  pub log : t.made n.log ≡ Some w.log
-  pub others : KeepsOthers s t n
-
--- each of the three outputs was left as it was, or holds no more than first bytes of what it should
-pub record WroteParts (s t : Disk) (n : RunFiles) (w : Written) : Type 0 where
-  pub out0 : IsPart s t n.out0 w.out0
-  pub out1 : IsPart s t n.out1 w.out1
-  pub log : IsPart s t n.log w.log
-  pub others : KeepsOthers s t n
-
--- a file begins with these bytes
-abbrev pub Holds : Disk → List ℕ → List ℕ → Type 0
-Holds t name bytes = (more : List ℕ) × (t.made name ≡ Some (bytes ++ more))
-
--- The log follows the captures: it has no byte of a line but those of these first frames, and where there are such, both
--- captures hold them whole.
-pub record LogFollows (s t : Disk) (n : RunFiles) (c spec : Small) (frames : List Framed) : Type 0 where
-  pub lined : List Framed
-  pub others : List Framed
-  pub frames_are : frames ≡ lined ++ others
-  pub log : IsPart s t n.log (log_of (handled_by c lined))
-  pub captures : (lined ≡ []) ⊎ (Holds t n.out0 (capture_to 0 (handled_by spec lined)) × Holds t n.out1 (capture_to 1 (handled_by spec lined)))
-
--- The replay of these words began, over the functions and frames that the files hold, and its outputs hold no more than
--- first bytes of what they should, the log no further than the captures.
+-- The replay of these words began, through the functions that the files hold: each output holds no more than first bytes of what it should of
+-- first frames, the log no further than the captures, and no other file was changed.
 pub record BeganReplay (words : List (List ℕ)) (s t : Disk) : Type 0 where
-  pub names : RunFiles
+  pub names : Files
   pub c : Small
   pub spec : Small
-  pub frames : List Framed
   pub run : IsRun words names
-  pub input : AreFrames s names c spec frames
-  pub wrote : IsTrue s.tells_made → WroteParts s t names (written_for c spec frames)
-  pub follows : IsTrue s.tells_made → LogFollows s t names c spec frames
+  pub verified : AreVerified s names c spec
+  pub began : Began s t (replay_files names) c
+  pub others : IsTrue s.tells_made → KeepsOthers s t (replay_files names)
 
 -- ---- a run that was done
 
--- The run was done: the two functions agree, the captures are those of the specification, the log is that of the C
+-- The run was done: the two functions agree, the frames are all that came in, the captures are those of the specification, the log is that of the C
 -- function, no frame took more steps than are reported, and the reported totals are those of the log.
 pub record Finished (words : List (List ℕ)) (s t : Disk) (report : List ℕ) : Type 0 where
-  pub names : RunFiles
+  pub names : Files
   pub c : Small
   pub spec : Small
-  pub frames : List Framed
   pub run : IsRun words names
-  pub input : AreFrames s names c spec frames
-  pub wrote : IsTrue s.tells_made → WroteAll s t names (written_for c spec frames)
+  pub verified : AreVerified s names c spec
+  pub frames : List Arrival
+  pub all : IsTrue s.tells_held → AreAll s names.ins frames
+  pub captures : IsTrue s.tells_made → (port : ℕ) (name : List ℕ) → slice_get names.outs port ≡ Some name →
+      t.made name ≡ Some (capture_to port (handled_by spec frames))
+  pub log : IsTrue s.tells_made → t.made names.log ≡ Some (log_of (handled_by c frames))
+  pub others : IsTrue s.tells_made → KeepsOthers s t (replay_files names)
   pub paths : ℕ
   pub counted : IsPathCount c spec paths
-  pub bounded : All (λ h. h.steps ≤ most_steps c) (handled_by c frames)
-  pub reports : report ≡ verified_line paths (most_steps c) ++ totals_line (totals_of (handled_by c frames))
+  pub steps : ℕ
+  pub most : IsMostSteps c spec.ports steps
+  pub bounded : All (λ h. h.steps ≤ steps) (handled_by c frames)
+  pub reports : report ≡ verified_line paths steps ++ totals_line (totals_of (handled_by c frames))
 
 -- ---- a run that stopped
 
@@ -97,13 +68,30 @@ pub record Finished (words : List (List ℕ)) (s t : Disk) (report : List ℕ) :
 pub record StopsWith (words : List (List ℕ)) (s t : Disk) (stop : Stop) : Type 0 where
   pub reason : ComesTo s words (Stopped stop)
   pub unwritten : Unwritten s t
+  pub no_fault : NoFault s t
 
--- a file of the run couldn't be read, and nothing was written
+-- The replay came to an end before the frames did, for a reason that holds of the frames that were handled: the outputs are exactly theirs.
+pub record StopsBehind (words : List (List ℕ)) (s t : Disk) (stop : Stop) (Reason : Files → List Arrival → Type 0) : Type 0 where
+  pub reason : ComesTo s words (Stopped stop)
+  pub names : Files
+  pub c : Small
+  pub spec : Small
+  pub run : IsRun words names
+  pub verified : AreVerified s names c spec
+  pub frames : List Arrival
+  pub ports : HavePorts (replay_files names) frames
+  pub handled : IsTrue s.tells_held → Reason names frames
+  pub wrote : IsTrue s.tells_made → WroteAll s t (replay_files names) c frames
+  pub others : IsTrue s.tells_made → KeepsOthers s t (replay_files names)
+  pub no_fault : NoFault s t
+
+-- a file of the run couldn't be read, before anything was written or in the replay
 pub record FailsReading (words : List (List ℕ)) (s t : Disk) : Type 0 where
-  pub names : RunFiles
+  pub names : Files
   pub run : IsRun words names
   pub rose : Rose s.read_faults t.read_faults
-  pub unwritten : Unwritten s t
+  pub write_faults : t.write_faults ≡ s.write_faults
+  pub began : Unwritten s t ⊎ BeganReplay words s t
 
 -- an output of the replay couldn't be written
 pub record FailsWriting (words : List (List ℕ)) (s t : Disk) : Type 0 where
@@ -113,15 +101,21 @@ pub record FailsWriting (words : List (List ℕ)) (s t : Disk) : Type 0 where
 
 -- memory ran out before anything was written
 pub record WantsMemory (words : List (List ℕ)) (s t : Disk) : Type 0 where
-  pub names : RunFiles
+  pub names : Files
   pub run : IsRun words names
   pub unwritten : Unwritten s t
+  pub no_fault : NoFault s t
 
 -- why a run stopped, and what it left in the files
 abbrev pub Leaves : List (List ℕ) → Disk → Disk → Stop → Type 0
 Leaves words s t Read = FailsReading words s t
 Leaves words s t Write = FailsWriting words s t
 Leaves words s t Memory = WantsMemory words s t
+Leaves words s t (Record port number damage) =
+    StopsBehind words s t (Record port number damage) (λ names frames. AreUpTo s names.ins frames port (fault_of_record damage number))
+Leaves words s t Frames = StopsBehind words s t Frames (λ names frames. AreTooMany s names.ins frames)
+Leaves words s t Usage = StopsWith words s t Usage
+Leaves words s t (Header port field) = StopsWith words s t (Header port field)
 Leaves words s t (Wrong at port) = StopsWith words s t (Wrong at port)
 Leaves words s t (NotBuilt what) = StopsWith words s t (NotBuilt what)
 Leaves words s t (Limit lang) = StopsWith words s t (Limit lang)

@@ -1,21 +1,27 @@
 -- What a run comes to, by its words and by what the files hold, where nothing fails and memory suffices.
-use Rattle.std.specs.Prelude.{ℕ, ◌≡◌, ◌<◌, ◌≤◌, ◌⊎◌, List, length, IsTrue, Some}
+use Rattle.std.specs.Prelude.{ℕ, ◌≡◌, ◌≢◌, ◌<◌, ◌≤◌, ◌⊎◌, List, length, IsTrue, Some}
 use Rattle.vg_base.specs.Files.{Disk}
+use Rattle.vg_command.specs.Commands.{Files, SpellsNone}
 use Rattle.vg_core.specs.declared.small.Small.{Small}
 use Rattle.vg_core.specs.declared.small.Lang.TheVariants.{C, Spec}
-use Rattle.vg_core.specs.Spelling.{Spells, SpellsNone}
-use Rattle.vg_pcap.specs.Frames.{Framed, HoldsFrames}
-use Rattle.vg_top.specs.declared.limits.TheConstants.{MAX_TEXT, MAX_INPUT}
+use Rattle.vg_core.specs.Spelling as small
+use Rattle.vg_core.specs.Spelling.{Spells}
+use Rattle.vg_pcap.specs.declared.faults.HeaderField.{HeaderField}
+use Rattle.vg_pcap.specs.Arrivals.{Arrival}
+use Rattle.vg_pcap.specs.Merge.{IsFirstBadHeader}
+use Rattle.vg_replay.specs.Replays.{SendsBelow, AreAll, AreUpTo, AreTooMany}
+use Rattle.vg_top.specs.declared.limits.TheConstants.{MAX_TEXT}
 use Rattle.vg_top.specs.declared.stop.Stop.{Stop}
-use Rattle.vg_top.specs.declared.stop.Stop.TheVariants.{Wrong, NotBuilt, Limit, Read, Write, Memory}
-use Rattle.vg_top.specs.declared.stop.Unbuilt.TheVariants.{Words, Text, Capture}
-use Rattle.vg_top.specs.Commands.{RunFiles, IsRun, IsNoRun}
+use Rattle.vg_top.specs.declared.stop.Stop.TheVariants.{Wrong, Usage, Header, Record, Read, Write, Memory, Limit, Frames, NotBuilt}
+use Rattle.vg_top.specs.declared.stop.Unbuilt.TheVariants.{Words, Text}
 use Rattle.vg_top.specs.Agreement.{Agree, IsFirstDifference}
+use Rattle.vg_top.specs.Records.{fault_of_record}
+use Rattle.vg_top.specs.Runs.{IsRun, IsUnbuilt}
 
--- a run stops early, or it is done with two functions and the frames of its input
+-- a run stops early, or it is done with these functions and frames
 pub data Ending : Type 0 where
   Stopped : Stop → Ending
-  Done : Small → Small → List Framed → Ending
+  Done : Small → Small → List Arrival → Ending
 
 -- ---- files
 
@@ -35,12 +41,12 @@ pub record IsWithin (s : Disk) (name : List ℕ) (limit : ℕ) (bytes : List ℕ
 -- ---- texts
 
 -- the two texts
-pub record AreTexts (s : Disk) (n : RunFiles) (c_text spec_text : List ℕ) : Type 0 where
+pub record AreTexts (s : Disk) (n : Files) (c_text spec_text : List ℕ) : Type 0 where
   pub c : IsWithin s n.c MAX_TEXT c_text
   pub spec : IsWithin s n.spec MAX_TEXT spec_text
 
 -- the two functions that the texts spell
-pub record AreFunctions (s : Disk) (n : RunFiles) (c spec : Small) : Type 0 where
+pub record AreFunctions (s : Disk) (n : Files) (c spec : Small) : Type 0 where
   pub c_text : List ℕ
   pub spec_text : List ℕ
   pub texts : AreTexts s n c_text spec_text
@@ -48,70 +54,85 @@ pub record AreFunctions (s : Disk) (n : RunFiles) (c spec : Small) : Type 0 wher
   pub spec_spells : Spells Spec spec_text spec
 
 -- the specification is too long, and the C text isn't
-pub record IsLongSpec (s : Disk) (n : RunFiles) : Type 0 where
+pub record IsLongSpec (s : Disk) (n : Files) : Type 0 where
   pub c_text : List ℕ
   pub c : IsWithin s n.c MAX_TEXT c_text
   pub spec : IsLonger s n.spec MAX_TEXT
 
 -- the C text spells no small function
-pub record IsOtherC (s : Disk) (n : RunFiles) : Type 0 where
+pub record IsOtherC (s : Disk) (n : Files) : Type 0 where
   pub c_text : List ℕ
   pub spec_text : List ℕ
   pub texts : AreTexts s n c_text spec_text
-  pub c_spells : SpellsNone C c_text
+  pub c_spells : small.SpellsNone C c_text
+
+-- the C function sends frames to a port that the specification doesn't declare
+pub record IsBeyond (s : Disk) (n : Files) : Type 0 where
+  pub c : Small
+  pub spec : Small
+  pub functions : AreFunctions s n c spec
+  pub beyond : SendsBelow spec.ports c → ⊥
 
 -- the specification spells no small function, and the C text spells one
-pub record IsOtherSpec (s : Disk) (n : RunFiles) : Type 0 where
+pub record IsOtherSpec (s : Disk) (n : Files) : Type 0 where
   pub c_text : List ℕ
   pub spec_text : List ℕ
   pub texts : AreTexts s n c_text spec_text
   pub c : Small
   pub c_spells : Spells C c_text c
-  pub spec_spells : SpellsNone Spec spec_text
+  pub spec_spells : small.SpellsNone Spec spec_text
 
--- the functions differ first at this port, and the name of the C function stands at this place
-pub record AreDifferent (s : Disk) (n : RunFiles) (at port : ℕ) : Type 0 where
+-- the functions are of the same ports, but the words name captures of another number of ports
+pub record IsOfOtherPorts (s : Disk) (n : Files) : Type 0 where
   pub c : Small
   pub spec : Small
   pub functions : AreFunctions s n c spec
+  pub below : SendsBelow spec.ports c
+  pub ports : length n.ins ≢ spec.ports
+
+-- the functions are of the ports that the words name captures of
+pub record AreOfPorts (s : Disk) (n : Files) (c spec : Small) : Type 0 where
+  pub functions : AreFunctions s n c spec
+  pub below : SendsBelow spec.ports c
+  pub ports : length n.ins ≡ spec.ports
+
+-- the functions differ first at this port, and the name of the C function stands at this place
+pub record AreDifferent (s : Disk) (n : Files) (at port : ℕ) : Type 0 where
+  pub c : Small
+  pub spec : Small
+  pub functions : AreOfPorts s n c spec
   pub difference : IsFirstDifference c spec port
   pub place : at ≡ c.at
 
--- ---- the input
+-- the functions agree
+pub record AreVerified (s : Disk) (n : Files) (c spec : Small) : Type 0 where
+  pub functions : AreOfPorts s n c spec
+  pub agree : Agree c spec
 
--- the input is no whole capture
-pub record IsDamaged (s : Disk) (name : List ℕ) : Type 0 where
-  pub input : List ℕ
-  pub read : IsWithin s name MAX_INPUT input
-  pub frames : (frames : List Framed) → HoldsFrames input frames → ⊥
+-- ---- captures
 
--- the functions agree, and the input is too long, or no whole capture
-pub record IsNoCapture (s : Disk) (n : RunFiles) : Type 0 where
+-- the functions agree, and this holds of the captures
+pub record IsReplayed (s : Disk) (n : Files) (Holds : Type 0) : Type 0 where
   pub c : Small
   pub spec : Small
-  pub functions : AreFunctions s n c spec
-  pub agree : Agree c spec
-  pub input : IsLonger s n.in0 MAX_INPUT ⊎ IsDamaged s n.in0
-
--- the functions agree, and the input is a whole capture of these frames
-pub record AreFrames (s : Disk) (n : RunFiles) (c spec : Small) (frames : List Framed) : Type 0 where
-  pub functions : AreFunctions s n c spec
-  pub agree : Agree c spec
-  pub input : List ℕ
-  pub read : IsWithin s n.in0 MAX_INPUT input
-  pub holds : HoldsFrames input frames
+  pub verified : AreVerified s n c spec
+  pub captures : IsTrue s.tells_held → Holds
 
 -- ---- endings
 
 -- what a run on these files comes to: a line for each way to end
-abbrev pub EndsIn : Disk → RunFiles → Ending → Type 0
+abbrev pub EndsIn : Disk → Files → Ending → Type 0
 EndsIn s n (Stopped (Limit C)) = IsLonger s n.c MAX_TEXT
 EndsIn s n (Stopped (Limit Spec)) = IsLongSpec s n
-EndsIn s n (Stopped (NotBuilt (Text C))) = IsOtherC s n
+EndsIn s n (Stopped (NotBuilt (Text C))) = IsOtherC s n ⊎ IsBeyond s n
 EndsIn s n (Stopped (NotBuilt (Text Spec))) = IsOtherSpec s n
+EndsIn s n (Stopped Usage) = IsOfOtherPorts s n
 EndsIn s n (Stopped (Wrong at port)) = AreDifferent s n at port
-EndsIn s n (Stopped (NotBuilt Capture)) = IsNoCapture s n
-EndsIn s n (Done c spec frames) = AreFrames s n c spec frames
+EndsIn s n (Stopped (Header port field)) = IsReplayed s n (IsFirstBadHeader s n.ins port field)
+EndsIn s n (Stopped (Record port number damage)) =
+    IsReplayed s n ((frames : List Arrival) × AreUpTo s n.ins frames port (fault_of_record damage number))
+EndsIn s n (Stopped Frames) = IsReplayed s n ((frames : List Arrival) × AreTooMany s n.ins frames)
+EndsIn s n (Done c spec frames) = AreVerified s n c spec × (IsTrue s.tells_held → AreAll s n.ins frames)
 EndsIn s n (Stopped (NotBuilt Words)) = ⊥
 EndsIn s n (Stopped Read) = ⊥
 EndsIn s n (Stopped Write) = ⊥
@@ -120,4 +141,6 @@ EndsIn s n (Stopped Memory) = ⊥
 -- what these words come to
 abbrev pub ComesTo : Disk → List (List ℕ) → Ending → Type 0
 ComesTo s words ending =
-    ((ending ≡ Stopped (NotBuilt Words)) × IsNoRun words) ⊎ ((n : RunFiles) × IsRun words n × EndsIn s n ending)
+    ((ending ≡ Stopped Usage) × SpellsNone words)
+    ⊎ (((ending ≡ Stopped (NotBuilt Words)) × IsUnbuilt words)
+    ⊎ ((n : Files) × IsRun words n × EndsIn s n ending))

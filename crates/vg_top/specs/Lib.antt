@@ -1,12 +1,10 @@
-pub mod Commands
-pub mod RunFiles
 pub mod Agreement
-pub mod Counts
-pub mod Outputs
-pub mod Lines
+pub mod Runs
 pub mod Endings
+pub mod Records
 pub mod Statuses
+pub mod Lines
 pub mod Effects
 pub mod Setup
 pub mod Running
-pub mod Writing
+pub mod Stops

@@ -2,11 +2,15 @@
 use Rattle.std.specs.Prelude.{ℕ, List, ◌++◌, codes, decimal}
 use Rattle.vg_core.specs.declared.small.Lang.{Lang}
 use Rattle.vg_core.specs.declared.small.Lang.TheVariants.{C, Spec}
+use Rattle.vg_pcap.specs.declared.faults.HeaderField.{HeaderField}
+use Rattle.vg_pcap.specs.declared.faults.HeaderField.TheVariants as fields
+use Rattle.vg_replay.specs.declared.totals.Totals.{Totals}
+use Rattle.vg_top.specs.declared.stop.Damage.{Damage}
+use Rattle.vg_top.specs.declared.stop.Damage.TheVariants as damages
 use Rattle.vg_top.specs.declared.stop.Stop.{Stop}
-use Rattle.vg_top.specs.declared.stop.Stop.TheVariants.{Wrong, NotBuilt, Limit, Read, Write, Memory}
+use Rattle.vg_top.specs.declared.stop.Stop.TheVariants.{Wrong, Usage, Header, Record, Read, Write, Memory, Limit, Frames, NotBuilt}
 use Rattle.vg_top.specs.declared.stop.Unbuilt.{Unbuilt}
-use Rattle.vg_top.specs.declared.stop.Unbuilt.TheVariants.{Words, Text, Capture}
-use Rattle.vg_top.specs.declared.totals.Totals.{Totals}
+use Rattle.vg_top.specs.declared.stop.Unbuilt.TheVariants.{Words, Text}
 
 -- printed first, where the C function meets its specification: the ways through both texts, and the most steps of a
 -- frame
@@ -24,6 +28,31 @@ unfoldable pub wrong_text : ℕ → ℕ → List ℕ
 wrong_text at port =
     codes "wrong at byte " ++ decimal at ++ codes ": verdict\nwrong-run 1\nport " ++ decimal port ++ codes "\nnow 0\nframe -\n"
 
+-- printed where the words are those of no command
+abbrev pub usage_line : List ℕ
+usage_line = codes "usage: run|verify|check|replay|try|rerun|show|bench\n"
+
+-- the part of a header
+abbrev pub field_name : HeaderField → List ℕ
+field_name fields.Length = codes "length"
+field_name fields.Magic = codes "magic"
+field_name fields.Version = codes "version"
+field_name fields.Link = codes "link"
+
+-- printed where the header of a port's capture is refused
+unfoldable pub header_line : ℕ → HeaderField → List ℕ
+header_line port field = codes "capture " ++ decimal port ++ codes " header " ++ field_name field ++ codes "\n"
+
+-- what is wrong with a record
+abbrev pub damage_name : Damage → List ℕ
+damage_name damages.Cut = codes "cut"
+damage_name damages.Long = codes "long"
+damage_name damages.Fraction = codes "fraction"
+
+-- printed where a record of a port's capture is refused
+unfoldable pub record_line : ℕ → ℕ → Damage → List ℕ
+record_line port number damage = codes "capture " ++ decimal port ++ codes " nth " ++ decimal number ++ codes " " ++ damage_name damage ++ codes "\n"
+
 -- which text
 abbrev pub text_name : Lang → List ℕ
 text_name C = codes "c"
@@ -33,13 +62,16 @@ text_name Spec = codes "spec"
 abbrev pub unbuilt_name : Unbuilt → List ℕ
 unbuilt_name Words = codes "words"
 unbuilt_name (Text lang) = text_name lang
-unbuilt_name Capture = codes "capture"
 
 -- printed where a run stopped: one line, but for a wrong run
 unfoldable pub refusal_text : Stop → List ℕ
 refusal_text (Wrong at port) = wrong_text at port
-refusal_text (NotBuilt what) = codes "not built " ++ unbuilt_name what ++ codes "\n"
-refusal_text (Limit lang) = codes "limit " ++ text_name lang ++ codes "\n"
+refusal_text Usage = usage_line
+refusal_text (Header port field) = header_line port field
+refusal_text (Record port number damage) = record_line port number damage
 refusal_text Read = codes "read fault\n"
 refusal_text Write = codes "write fault\n"
 refusal_text Memory = codes "no memory\n"
+refusal_text (Limit lang) = codes "limit " ++ text_name lang ++ codes "\n"
+refusal_text Frames = codes "limit frames\n"
+refusal_text (NotBuilt what) = codes "not built " ++ unbuilt_name what ++ codes "\n"

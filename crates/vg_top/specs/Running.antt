@@ -2,62 +2,70 @@
 use Rattle.std.specs.Prelude.{ℕ, ◌≡◌, ◌⊎◌, List, IsTrue, Result, IfOk, IfErr}
 use Rattle.vg_base.specs.Files.{Disk, Rose, SameHeld, SameIds}
 use Rattle.vg_base.specs.Sink.{Flow}
+use Rattle.vg_command.specs.Commands.{Files}
 use Rattle.vg_core.specs.declared.small.Small.{Small}
-use Rattle.vg_pcap.specs.Frames.{Framed}
+use Rattle.vg_pcap.specs.Arrivals.{Arrival}
+use Rattle.vg_replay.specs.Replays.{KeepsOthers, HasReplayed, Began, WroteAll, AreUpTo, AreTooMany, HavePorts}
 use Rattle.vg_top.specs.declared.report.Report.{Report}
 use Rattle.vg_top.specs.declared.stop.Stop.{Stop}
-use Rattle.vg_top.specs.declared.stop.Stop.TheVariants.{Wrong, NotBuilt, Limit, Read, Write, Memory}
-use Rattle.vg_top.specs.Agreement.{IsPathCount, most_steps}
-use Rattle.vg_top.specs.Commands.{RunFiles}
-use Rattle.vg_top.specs.Effects.{Unwritten, WroteAll, WroteParts, LogFollows, Says, FailsSaying}
-use Rattle.vg_top.specs.Endings.{Stopped, EndsIn, AreFrames}
-use Rattle.vg_top.specs.Outputs.{written_for, handled_by, totals_of}
-
--- the counts of faults at reading and writing are the same
-pub record NoFault (s t : Disk) : Type 0 where
-  pub read_faults : t.read_faults ≡ s.read_faults
-  pub write_faults : t.write_faults ≡ s.write_faults
+use Rattle.vg_top.specs.declared.stop.Stop.TheVariants.{Wrong, Usage, Header, Record, Read, Write, Memory, Limit, Frames, NotBuilt}
+use Rattle.vg_top.specs.Agreement.{IsPathCount, IsMostSteps}
+use Rattle.vg_top.specs.Effects.{Unwritten, NoFault, Says, FailsSaying}
+use Rattle.vg_top.specs.Endings.{Stopped, EndsIn, AreVerified}
+use Rattle.vg_top.specs.Records.{fault_of_record}
+use Rattle.vg_top.specs.Runs.{replay_files}
 
 -- a run on these files was done, and this is its report
-pub record HasRun (s t : Disk) (n : RunFiles) (r : Report) : Type 0 where
+pub record HasRun (s t : Disk) (n : Files) (r : Report) : Type 0 where
   pub c : Small
   pub spec : Small
-  pub frames : List Framed
-  pub input : AreFrames s n c spec frames
+  pub verified : AreVerified s n c spec
   pub paths : IsPathCount c spec r.paths
-  pub steps : r.steps ≡ most_steps c
-  pub totals : r.totals ≡ totals_of (handled_by c frames)
-  pub wrote : IsTrue s.tells_made → WroteAll s t n (written_for c spec frames)
-  pub no_fault : NoFault s t
-
--- the replay failed at writing
-pub record FailsReplay (s t : Disk) (n : RunFiles) : Type 0 where
-  pub rose : Rose s.write_faults t.write_faults
-  pub read_faults : t.read_faults ≡ s.read_faults
-  pub c : Small
-  pub spec : Small
-  pub frames : List Framed
-  pub input : AreFrames s n c spec frames
-  pub wrote : IsTrue s.tells_made → WroteParts s t n (written_for c spec frames)
-  pub follows : IsTrue s.tells_made → LogFollows s t n c spec frames
+  pub steps : IsMostSteps c spec.ports r.steps
+  pub replayed : HasReplayed s t (replay_files n) c r.totals
+  pub others : IsTrue s.tells_made → KeepsOthers s t (replay_files n)
 
 -- a run on these files wrote nothing and met no fault, and came to this
-pub record StopsIn (s t : Disk) (n : RunFiles) (stop : Stop) : Type 0 where
+pub record StopsIn (s t : Disk) (n : Files) (stop : Stop) : Type 0 where
   pub reason : EndsIn s n (Stopped stop)
   pub unwritten : Unwritten s t
   pub no_fault : NoFault s t
 
+-- the replay of a run on these files began
+pub record BeginsIn (s t : Disk) (n : Files) : Type 0 where
+  pub c : Small
+  pub spec : Small
+  pub verified : AreVerified s n c spec
+  pub began : Began s t (replay_files n) c
+  pub others : IsTrue s.tells_made → KeepsOthers s t (replay_files n)
+
+-- it stopped behind frames of which this holds, and the outputs are exactly theirs
+pub record StopsAfter (s t : Disk) (n : Files) (Reason : List Arrival → Type 0) : Type 0 where
+  pub c : Small
+  pub spec : Small
+  pub verified : AreVerified s n c spec
+  pub frames : List Arrival
+  pub ports : HavePorts (replay_files n) frames
+  pub handled : IsTrue s.tells_held → Reason frames
+  pub wrote : IsTrue s.tells_made → WroteAll s t (replay_files n) c frames
+  pub others : IsTrue s.tells_made → KeepsOthers s t (replay_files n)
+  pub no_fault : NoFault s t
+
 -- why a run on these files stopped, and what it left
-abbrev pub StopsRun : Disk → Disk → RunFiles → Stop → Type 0
-StopsRun s t n Read = Rose s.read_faults t.read_faults × Unwritten s t
-StopsRun s t n Write = FailsReplay s t n
+abbrev pub StopsRun : Disk → Disk → Files → Stop → Type 0
+StopsRun s t n Read = Rose s.read_faults t.read_faults × (t.write_faults ≡ s.write_faults) × (Unwritten s t ⊎ BeginsIn s t n)
+StopsRun s t n Write = Rose s.write_faults t.write_faults × (t.read_faults ≡ s.read_faults) × BeginsIn s t n
 StopsRun s t n Memory = Unwritten s t × NoFault s t
+StopsRun s t n (Record port number damage) = StopsAfter s t n (λ frames. AreUpTo s n.ins frames port (fault_of_record damage number))
+StopsRun s t n Frames = StopsAfter s t n (λ frames. AreTooMany s n.ins frames)
+StopsRun s t n (Header port field) = StopsIn s t n (Header port field)
+StopsRun s t n Usage = StopsIn s t n Usage
 StopsRun s t n (Wrong at port) = StopsIn s t n (Wrong at port)
 StopsRun s t n (NotBuilt what) = StopsIn s t n (NotBuilt what)
 StopsRun s t n (Limit lang) = StopsIn s t n (Limit lang)
 
 -- a run on these files, up to its printing
-pub record Runs (s t : Disk) (n : RunFiles) (result : Result Report Stop) : Type 0 where
+pub record Runs (s t : Disk) (n : Files) (result : Result Report Stop) : Type 0 where
   pub held : SameHeld s t
   pub ids : SameIds s t
   pub done : IfOk result (HasRun s t n)

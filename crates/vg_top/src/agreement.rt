@@ -1,8 +1,16 @@
 //! Whether a C function and its specification agree.
-ghost use Rattle.std.specs.Prelude.{◌≡◌, IfSome, IfNone};
-ghost use Rattle.vg_top.specs.Agreement.{Agree, IsFirstDifference, IsPathCount, most_steps};
+ghost use Rattle.std.specs.Prelude.{◌≡◌, ◌<◌, ◌↔◌, IsTrue, IfSome, IfNone};
+ghost use Rattle.vg_replay.specs.Replays.{SendsBelow};
+ghost use Rattle.vg_top.specs.Agreement.{Agree, IsFirstDifference, GoesNewWay, IsPathCount, IsMostSteps};
 
 use vg_core::Small;
+
+/// Whether it sends frames to ports below `ports` alone.
+pub fn sends_below(f: &Small, ports: u16) -> bool
+    ensures { IsTrue result ↔ SendsBelow ports f.now }
+{
+    f.last < ports && f.tests.as_slice().iter().all(|t| t.value < ports)
+}
 
 /// The least port at which they give different verdicts.
 pub fn first_difference(c: &Small, spec: &Small) -> Option<u16>
@@ -17,21 +25,39 @@ pub fn first_difference(c: &Small, spec: &Small) -> Option<u16>
     None
 }
 
-/// How many different sides the frames of ports 0 and 1 take at the tests of both.
+// Whether the frames of a port take other sides at the tests of both than those of each lower port.
+fn goes_new_way(c: &Small, spec: &Small, port: u16) -> bool
+    ensures { IsTrue result ↔ GoesNewWay c.now spec.now port }
+{
+    for lower in 0..port {
+        if c.same_sides(lower, port) && spec.same_sides(lower, port) {
+            return false;
+        }
+    }
+    true
+}
+
+/// How many ways the frames of all ports take through the tests of both.
 pub fn path_count(c: &Small, spec: &Small) -> u32
     ensures { IsPathCount c.now spec.now result }
 {
-    if c.same_sides(0, 1) && spec.same_sides(0, 1) {
-        1
-    } else {
-        2
+    let mut count = 0;
+    for port in 0..spec.ports {
+        if goes_new_way(c, spec, port) {
+            count += 1;
+        }
     }
+    count
 }
 
-/// The most steps that a frame of port 0 or 1 takes.
-#[tactic(auto, unfolding(crate::specs::Agreement::most_steps))]
-pub fn most_steps(c: &Small) -> u64
-    ensures { result ≡ most_steps c.now }
+/// The most steps that a frame takes, of so many ports.
+pub fn most_steps(c: &Small, ports: u16) -> u64
+    requires { 0 < ports }
+    ensures { IsMostSteps c.now ports result }
 {
-    c.steps(0).max(c.steps(1))
+    let mut most = c.steps(0);
+    for port in 1..ports {
+        most = most.max(c.steps(port));
+    }
+    most
 }

@@ -4,19 +4,15 @@
 mod agreement;
 mod limits;
 mod lines;
-mod names;
-mod outputs;
-mod replay;
 mod report;
 mod setup;
 mod stop;
 mod top;
-mod totals;
 
 pub use report::Report;
-pub use stop::{Stop, Unbuilt};
+pub use stop::{Damage, Stop, Unbuilt};
 pub use top::{Status, refuse, run};
-pub use totals::Totals;
 
 #[cfg(test)]
 mod tests;
+

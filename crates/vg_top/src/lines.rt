@@ -1,51 +1,14 @@
-//! Lines of text of bounded length: those of the log, and those that are printed.
+//! Lines of text of bounded length: those that are printed.
 ghost use Rattle.std.specs.Prelude.{◌≡◌, ◌≤◌, ◌++◌, codes, length};
-ghost use Rattle.vg_top.specs.Outputs.{line_of, verdict_text, handle_at};
-ghost use Rattle.vg_top.specs.Lines.{verified_line, totals_line, wrong_text, text_name, unbuilt_name, refusal_text};
-ghost use Rattle.vg_pcap.specs.Frames.{Framed};
+ghost use Rattle.vg_top.specs.Lines.{verified_line, totals_line, wrong_text, field_name, header_line, damage_name, record_line, text_name, unbuilt_name, usage_line, refusal_text};
 
 use crate::report::Report;
-use crate::stop::{Stop, Unbuilt};
-use crate::totals::Totals;
+use crate::stop::{Damage, Stop, Unbuilt};
 use arrayvec::ArrayString;
 use itoa::Buffer;
-use vg_core::{Lang, Small, Verdict};
-
-// A verdict, as the log has it.
-fn verdict_text(verdict: Verdict) -> ArrayString<60>
-    ensures bytes { result.bytes ≡ verdict_text verdict }
-    ensures short { length result.bytes ≤ 50 }
-{
-    let mut text = ArrayString::new();
-    match verdict {
-        Verdict::Drop => text.push_str("drop"),
-        Verdict::Send(port) => {
-            let mut digits = Buffer::new();
-            text.push_str("to ");
-            text.push_str(digits.format(port));
-        }
-        Verdict::Flood => text.push_str("flood"),
-    }
-    text
-}
-
-/// The line of the log on a frame of port 0, which is the frame of this number.
-#[tactic(auto, unfolding(crate::specs::Outputs::line_of))]
-pub fn log_line(c: &Small, number: u32) -> ArrayString<300>
-    ensures { (frame : Framed) → result.bytes ≡ line_of number (handle_at c.now frame) }
-{
-    let mut line = ArrayString::new();
-    let mut digits = Buffer::new();
-    line.push_str(digits.format(number));
-    line.push_str(" in ");
-    line.push_str(digits.format(0u16));
-    line.push_str(" ");
-    line.push_str(verdict_text(c.verdict(0)).as_str());
-    line.push_str(" steps ");
-    line.push_str(digits.format(c.steps(0)));
-    line.push_str("\n");
-    line
-}
+use vg_core::Lang;
+use vg_pcap::HeaderField;
+use vg_replay::Totals;
 
 // What is printed where the C function meets its specification.
 #[tactic(auto, unfolding(crate::specs::Lines::verified_line))]
@@ -106,6 +69,61 @@ fn wrong_text(at: u32, port: u16) -> ArrayString<200>
     text
 }
 
+fn field_name(field: HeaderField) -> &'static str
+    ensures name { result.now ≡ field_name field }
+    ensures short { length result.now ≤ 7 }
+{
+    match field {
+        HeaderField::Length => "length",
+        HeaderField::Magic => "magic",
+        HeaderField::Version => "version",
+        HeaderField::Link => "link",
+    }
+}
+
+// What is printed of a header that is refused.
+#[tactic(auto, unfolding(crate::specs::Lines::header_line))]
+fn header_line(port: u16, field: HeaderField) -> ArrayString<200>
+    ensures { result.bytes ≡ header_line port field }
+{
+    let mut line = ArrayString::new();
+    let mut digits = Buffer::new();
+    line.push_str("capture ");
+    line.push_str(digits.format(port));
+    line.push_str(" header ");
+    line.push_str(field_name(field));
+    line.push_str("\n");
+    line
+}
+
+fn damage_name(damage: Damage) -> &'static str
+    ensures name { result.now ≡ damage_name damage }
+    ensures short { length result.now ≤ 8 }
+{
+    match damage {
+        Damage::Cut => "cut",
+        Damage::Long => "long",
+        Damage::Fraction => "fraction",
+    }
+}
+
+// What is printed of a record that is refused.
+#[tactic(auto, unfolding(crate::specs::Lines::record_line))]
+fn record_line(port: u16, number: u64, damage: Damage) -> ArrayString<200>
+    ensures { result.bytes ≡ record_line port number damage }
+{
+    let mut line = ArrayString::new();
+    let mut digits = Buffer::new();
+    line.push_str("capture ");
+    line.push_str(digits.format(port));
+    line.push_str(" nth ");
+    line.push_str(digits.format(number));
+    line.push_str(" ");
+    line.push_str(damage_name(damage));
+    line.push_str("\n");
+    line
+}
+
 fn text_name(lang: Lang) -> &'static str
     ensures name { result.now ≡ text_name lang }
     ensures short { length result.now ≤ 4 }
@@ -123,7 +141,6 @@ fn unbuilt_name(what: Unbuilt) -> &'static str
     match what {
         Unbuilt::Words => "words",
         Unbuilt::Text(lang) => text_name(lang),
-        Unbuilt::Capture => "capture",
     }
 }
 
@@ -140,6 +157,15 @@ fn line_of_two(first: &str, second: &str) -> ArrayString<200>
     line
 }
 
+// What is printed where the words are those of no command.
+fn usage_line() -> ArrayString<200>
+    ensures { result.bytes ≡ usage_line }
+{
+    let mut line = ArrayString::new();
+    line.push_str("usage: run|verify|check|replay|try|rerun|show|bench\n");
+    line
+}
+
 /// What is printed where a run stops.
 #[tactic(auto, unfolding(crate::specs::Lines::refusal_text))]
 pub fn refusal_text(stop: Stop) -> ArrayString<200>
@@ -147,10 +173,18 @@ pub fn refusal_text(stop: Stop) -> ArrayString<200>
 {
     match stop {
         Stop::Wrong { at, port } => wrong_text(at, port),
-        Stop::NotBuilt(what) => line_of_two("not built ", unbuilt_name(what)),
-        Stop::Limit(lang) => line_of_two("limit ", text_name(lang)),
+        Stop::Usage => usage_line(),
+        Stop::Header { port, field } => header_line(port, field),
+        Stop::Record {
+            port,
+            number,
+            damage,
+        } => record_line(port, number, damage),
         Stop::Read => line_of_two("read ", "fault"),
         Stop::Write => line_of_two("write ", "fault"),
         Stop::Memory => line_of_two("no ", "memory"),
+        Stop::Limit(lang) => line_of_two("limit ", text_name(lang)),
+        Stop::Frames => line_of_two("limit ", "frames"),
+        Stop::NotBuilt(what) => line_of_two("not built ", unbuilt_name(what)),
     }
 }

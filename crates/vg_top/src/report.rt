@@ -1,6 +1,6 @@
 //! What a run reports when it is done.
 
-use crate::totals::Totals;
+use vg_replay::Totals;
 
 /// A function that meets its specification, and what its replay counted.
 #[derive(Clone, Copy, Debug, PartialEq, Eq)]

@@ -1,14 +1,14 @@
 //! Reading what a run needs, and verifying it.
-ghost use Rattle.std.specs.Prelude.{◌≢◌, ◌<◌, ◌^◌, length, IfOk, IfErr, vec_len};
+ghost use Rattle.std.specs.Prelude.{◌≢◌, ◌<◌, ◌^◌, length, IfOk, IfErr};
+ghost use Rattle.vg_command.specs.View.{files_of};
 ghost use Rattle.vg_core.specs.Spelling.{Spells};
-ghost use Rattle.vg_top.specs.RunFiles.{run_files_of};
 ghost use Rattle.vg_top.specs.Setup.{LoadsWithin, LoadsTexts, StopsReading, Verifies, ReadsFunctions};
 
-use crate::agreement::first_difference;
-use crate::limits::{MAX_INPUT, MAX_TEXT};
-use crate::names::Names;
+use crate::agreement::{first_difference, sends_below};
+use crate::limits::MAX_TEXT;
 use crate::stop::{Stop, Unbuilt};
 use std::alloc::Global;
+use vg_command::FileNames;
 use vg_base::{Files, LoadFault, MAX_OPEN, load};
 use vg_core::{Lang, Small, SmallFault, read_small};
 
@@ -26,7 +26,7 @@ pub struct Functions {
     pub spec: Small,
 }
 
-// The bytes of a file. Where they are more than `limit`, the run stops for the reason `too_long`.
+// The bytes of a text. Where they are more than `limit`, the run stops for the reason `too_long`.
 fn load_within<F: Files>(
     alloc: Global,
     files: &mut F,
@@ -47,9 +47,9 @@ fn load_within<F: Files>(
 }
 
 // Loads the C text, and then the specification.
-fn load_texts<F: Files>(alloc: Global, files: &mut F, names: &Names<'_>) -> Result<Texts, Stop>
+fn load_texts<F: Files>(alloc: Global, files: &mut F, names: &FileNames<'_>) -> Result<Texts, Stop>
     requires { (F.disk files.old).open_count < MAX_OPEN }
-    ensures { LoadsTexts (F.disk files.old) (F.disk files.new) (run_files_of names.now) result }
+    ensures { LoadsTexts (F.disk files.old) (F.disk files.new) (files_of names.now) result }
 {
     let c = match load_within(alloc, files, names.c, MAX_TEXT, Stop::Limit(Lang::C)) {
         Ok(c) => c,
@@ -74,11 +74,11 @@ fn read_function(alloc: Global, text: &[u8], lang: Lang) -> Result<Small, Stop>
     }
 }
 
-// The functions that both texts spell, which agree.
-fn functions_in(alloc: Global, texts: &Texts) -> Result<Functions, Stop>
+// The functions that both texts spell, which agree and are of so many ports.
+fn functions_in(alloc: Global, texts: &Texts, ports: usize) -> Result<Functions, Stop>
     requires c { length texts.now.c.items < 2 ^ 31 }
     requires spec { length texts.now.spec.items < 2 ^ 31 }
-    ensures { Verifies texts.now.c.items texts.now.spec.items result }
+    ensures { Verifies texts.now.c.items texts.now.spec.items ports result }
 {
     let c = match read_function(alloc, &texts.c, Lang::C) {
         Ok(c) => c,
@@ -88,6 +88,12 @@ fn functions_in(alloc: Global, texts: &Texts) -> Result<Functions, Stop>
         Ok(spec) => spec,
         Err(stop) => return Err(stop),
     };
+    if !sends_below(&c, spec.ports) {
+        return Err(Stop::NotBuilt(Unbuilt::Text(Lang::C)));
+    }
+    if ports != spec.ports as usize {
+        return Err(Stop::Usage);
+    }
     match first_difference(&c, &spec) {
         None => Ok(Functions { c, spec }),
         Some(port) => Err(Stop::Wrong { at: c.at, port }),
@@ -98,27 +104,13 @@ fn functions_in(alloc: Global, texts: &Texts) -> Result<Functions, Stop>
 pub fn read_functions<F: Files>(
     alloc: Global,
     files: &mut F,
-    names: &Names<'_>,
+    names: &FileNames<'_>,
 ) -> Result<Functions, Stop>
     requires { (F.disk files.old).open_count < MAX_OPEN }
-    ensures { ReadsFunctions (F.disk files.old) (F.disk files.new) (run_files_of names.now) result }
+    ensures { ReadsFunctions (F.disk files.old) (F.disk files.new) (files_of names.now) result }
 {
     match load_texts(alloc, files, names) {
-        Ok(texts) => functions_in(alloc, &texts),
+        Ok(texts) => functions_in(alloc, &texts, names.ins.len()),
         Err(stop) => Err(stop),
     }
-}
-
-/// Loads the input.
-pub fn load_input<F: Files>(alloc: Global, files: &mut F, name: &str) -> Result<Vec<u8>, Stop>
-    requires { (F.disk files.old).open_count < MAX_OPEN }
-    ensures { LoadsWithin (F.disk files.old) (F.disk files.new) name.now MAX_INPUT (Stop.NotBuilt Unbuilt.Capture) result }
-{
-    load_within(
-        alloc,
-        files,
-        name,
-        MAX_INPUT,
-        Stop::NotBuilt(Unbuilt::Capture),
-    )
 }

@@ -10,39 +10,53 @@ const SWAP_SPEC: &str = "ports 2; step { if port == 0 { send 1; } send 0; }";
 
 const WORDS: &str = "run swap.c swap.spec - log in0 - out0 out1";
 
-// What stands before 60 zero bytes in a capture with one frame, at 1 s and 2 us.
-const IN_HEAD: [u8; 40] = [
-    0xd4, 0xc3, 0xb2, 0xa1, 2, 0, 4, 0, 0, 0, 0, 0, 0, 0, 0, 0, 255, 255, 0, 0, 1, 0, 0, 0, 1, 0,
-    0, 0, 2, 0, 0, 0, 60, 0, 0, 0, 60, 0, 0, 0,
+const TWO_INPUTS: &str = "run swap.c swap.spec - log in0 in1 out0 out1";
+
+// A header: little-endian, microseconds, version 2.4, snap length 65,535, Ethernet.
+const MICROSECONDS: [u8; 24] = [
+    0xd4, 0xc3, 0xb2, 0xa1, 2, 0, 4, 0, 0, 0, 0, 0, 0, 0, 0, 0, 255, 255, 0, 0, 1, 0, 0, 0,
 ];
 
-// What stands before them in the capture that is written.
-const OUT_HEAD: [u8; 40] = [
-    0x4d, 0x3c, 0xb2, 0xa1, 2, 0, 4, 0, 0, 0, 0, 0, 0, 0, 0, 0, 0, 0, 4, 0, 1, 0, 0, 0, 1, 0, 0, 0,
-    0xd0, 7, 0, 0, 60, 0, 0, 0, 60, 0, 0, 0,
+// The same with nanoseconds and snap length 262,144, which is also the header that is written.
+const NANOSECONDS: [u8; 24] = [
+    0x4d, 0x3c, 0xb2, 0xa1, 2, 0, 4, 0, 0, 0, 0, 0, 0, 0, 0, 0, 0, 0, 4, 0, 1, 0, 0, 0,
 ];
 
-fn named(alloc: Global, name: &str, bytes: &[u8]) -> Result<(String, Vec<u8>), AllocError> {
-    Ok((
-        String::from_str(alloc, name)?,
-        Vec::from_slice(alloc, bytes)?,
-    ))
-}
+// What stands before 60 zero bytes that came at 1 s and 2 us: in a capture with microseconds, and in one with nanoseconds.
+const IN_HEAD: [u8; 16] = [1, 0, 0, 0, 2, 0, 0, 0, 60, 0, 0, 0, 60, 0, 0, 0];
 
-// The bytes, and then 60 zeros.
-fn with_frame(alloc: Global, head: &[u8]) -> Result<Vec<u8>, AllocError> {
-    let mut bytes = Vec::from_slice(alloc, head)?;
+const OUT_HEAD: [u8; 16] = [1, 0, 0, 0, 0xd0, 7, 0, 0, 60, 0, 0, 0, 60, 0, 0, 0];
+
+// A whole big-endian capture of the same frame, but for its 60 zeros.
+const BIG_ENDIAN: [u8; 40] = [
+    0xa1, 0xb2, 0xc3, 0xd4, 0, 2, 0, 4, 0, 0, 0, 0, 0, 0, 0, 0, 0, 0, 255, 255, 0, 0, 0, 1, 0, 0,
+    0, 1, 0, 0, 0, 2, 0, 0, 0, 60, 0, 0, 0, 60,
+];
+
+// These bytes, and then 60 zeros.
+fn with_zeros(alloc: Global, first: &[u8], second: &[u8]) -> Result<Vec<u8>, AllocError> {
+    let mut bytes = Vec::from_slice(alloc, first)?;
+    bytes.extend_from_slice(second)?;
     bytes.extend_from_slice(&[0; 60])?;
     Ok(bytes)
 }
 
-// The files of a run over one frame.
-fn held(alloc: Global, c: &str, spec: &str) -> Result<Vec<(String, Vec<u8>)>, AllocError> {
-    let mut held = Vec::new(alloc);
-    held.push(named(alloc, "swap.c", c.as_bytes())?)?;
-    held.push(named(alloc, "swap.spec", spec.as_bytes())?)?;
-    held.push(named(alloc, "in0", &with_frame(alloc, &IN_HEAD)?)?)?;
-    Ok(held)
+// A capture with nanoseconds: a frame of 60 zeros at each of these times, all within the first second.
+fn at_times(alloc: Global, times: &[u8]) -> Result<Vec<u8>, AllocError> {
+    let mut bytes = Vec::from_slice(alloc, &NANOSECONDS)?;
+    for time in times {
+        bytes.extend_from_slice(&[0, 0, 0, 0, *time, 0, 0, 0, 60, 0, 0, 0, 60, 0, 0, 0])?;
+        bytes.extend_from_slice(&[0; 60])?;
+    }
+    Ok(bytes)
+}
+
+fn named(
+    alloc: Global,
+    name: &str,
+    bytes: Vec<u8>,
+) -> Result<(String, Vec<u8>), AllocError> {
+    Ok((String::from_str(alloc, name)?, bytes))
 }
 
 fn words_of(alloc: Global, line: &str) -> Result<Vec<String>, AllocError> {
@@ -53,45 +67,159 @@ fn words_of(alloc: Global, line: &str) -> Result<Vec<String>, AllocError> {
     Ok(words)
 }
 
-#[test]
-fn swaps_one_frame(rt: HostRuntime) -> Result<(), Fail> {
-    let alloc = rt.alloc();
-    let held = held(alloc, SWAP_C, SWAP_SPEC)?;
-    let mut files = MemFiles::new(alloc, held, 6, 1000, Vec::new(alloc))?;
-    let mut out = MemSink::new(alloc, 1000, Vec::new(alloc))?;
-    let words = words_of(alloc, WORDS)?;
-    let status = run(alloc, words.as_slice(), &mut files, &mut out);
-    assert_eq!(rt; status, Status(0));
-    assert_eq!(rt;
-        out.written(),
-        b"verified paths 2 steps 3\nframes 1 sent 1 dropped 0 flooded 0\n".as_slice()
-    );
-    assert_eq!(rt;
-        files.written("log"),
-        Some(b"1 in 0 to 1 steps 3\n".as_slice())
-    );
-    let (header, _) = OUT_HEAD.split_at(24);
-    assert_eq!(rt; files.written("out0"), Some(header));
-    assert_eq!(rt;
-        files.written("out1"),
-        Some(with_frame(alloc, &OUT_HEAD)?.as_slice())
-    );
-    Ok(())
-}
-
-// Runs a line of words on these two texts and one frame, where the file calls of these numbers fail. No call has number 0.
+// Runs a line of words on these two texts and captures, where the file calls of these numbers fail. No call has number 0.
 fn ran(
     alloc: Global,
     texts: (&str, &str),
+    captures: (Vec<u8>, Vec<u8>),
     line: &str,
-    fails: &[u64],
+    fails: u64,
 ) -> Result<(Status, MemFiles, MemSink), Fail> {
-    let held = held(alloc, texts.0, texts.1)?;
-    let mut files = MemFiles::new(alloc, held, 6, 1000, Vec::from_slice(alloc, fails)?)?;
+    let mut held = Vec::new(alloc);
+    let c = Vec::from_slice(alloc, texts.0.as_bytes())?;
+    let spec = Vec::from_slice(alloc, texts.1.as_bytes())?;
+    held.push(named(alloc, "swap.c", c)?)?;
+    held.push(named(alloc, "swap.spec", spec)?)?;
+    held.push(named(alloc, "in0", captures.0)?)?;
+    held.push(named(alloc, "in1", captures.1)?)?;
+    let mut files = MemFiles::new(alloc, held, 7, 1000, Vec::from_slice(alloc, &[fails])?)?;
     let mut out = MemSink::new(alloc, 1000, Vec::new(alloc))?;
     let words = words_of(alloc, line)?;
     let status = run(alloc, words.as_slice(), &mut files, &mut out);
     Ok((status, files, out))
+}
+
+// The same on a capture of one frame at port 0.
+fn ran_one(
+    alloc: Global,
+    texts: (&str, &str),
+    line: &str,
+    fails: u64,
+) -> Result<(Status, MemFiles, MemSink), Fail> {
+    let in0 = with_zeros(alloc, &MICROSECONDS, &IN_HEAD)?;
+    ran(alloc, texts, (in0, Vec::new(alloc)), line, fails)
+}
+
+#[test]
+fn swaps_one_frame(rt: HostRuntime) -> Result<(), Fail> {
+    let alloc = rt.alloc();
+    let little = with_zeros(alloc, &MICROSECONDS, &IN_HEAD)?;
+    let big = with_zeros(alloc, &BIG_ENDIAN, &[])?;
+    for in0 in [little, big] {
+        let in1 = Vec::new(alloc);
+        let (status, files, out) = ran(alloc, (SWAP_C, SWAP_SPEC), (in0, in1), WORDS, 0)?;
+        assert_eq!(rt; status, Status(0));
+        assert_eq!(rt;
+            out.written(),
+            b"verified paths 2 steps 3\nframes 1 sent 1 dropped 0 flooded 0\n".as_slice()
+        );
+        let log = files.written("log").ok_or("no log")?;
+        assert_eq!(rt; log, b"1 in 0 to 1 steps 3\n".as_slice());
+        assert_eq!(rt; files.written("out0").ok_or("no out0")?, NANOSECONDS.as_slice());
+        assert_eq!(rt;
+            files.written("out1").ok_or("no out1")?,
+            with_zeros(alloc, &NANOSECONDS, &OUT_HEAD)?.as_slice()
+        );
+    }
+    Ok(())
+}
+
+#[test]
+fn nothing_comes_in(rt: HostRuntime) -> Result<(), Fail> {
+    let alloc = rt.alloc();
+    let line = "run swap.c swap.spec - log - - out0 out1";
+    let (status, files, out) = ran_one(alloc, (SWAP_C, SWAP_SPEC), line, 0)?;
+    assert_eq!(rt; status, Status(0));
+    assert_eq!(rt;
+        out.written(),
+        b"verified paths 2 steps 3\nframes 0 sent 0 dropped 0 flooded 0\n".as_slice()
+    );
+    assert_eq!(rt; files.written("out0").ok_or("no out0")?, NANOSECONDS.as_slice());
+    assert_eq!(rt; files.written("out1").ok_or("no out1")?, NANOSECONDS.as_slice());
+    assert_eq!(rt; files.written("log").ok_or("no log")?, b"".as_slice());
+    Ok(())
+}
+
+#[test]
+fn merges_two_captures(rt: HostRuntime) -> Result<(), Fail> {
+    let alloc = rt.alloc();
+    let captures = (at_times(alloc, &[5, 3, 9])?, at_times(alloc, &[5])?);
+    let (status, files, out) = ran(alloc, (SWAP_C, SWAP_SPEC), captures, TWO_INPUTS, 0)?;
+    assert_eq!(rt; status, Status(0));
+    assert_eq!(rt;
+        out.written(),
+        b"verified paths 2 steps 3\nframes 4 sent 4 dropped 0 flooded 0\n".as_slice()
+    );
+    assert_eq!(rt;
+        files.written("log").ok_or("no log")?,
+        b"1 in 0 to 1 steps 3\n2 in 0 to 1 steps 3\n3 in 1 to 0 steps 3\n4 in 0 to 1 steps 3\n"
+            .as_slice()
+    );
+    // The time that falls is raised to the latest before it.
+    assert_eq!(rt;
+        files.written("out1").ok_or("no out1")?,
+        at_times(alloc, &[5, 5, 9])?.as_slice()
+    );
+    assert_eq!(rt;
+        files.written("out0").ok_or("no out0")?,
+        at_times(alloc, &[5])?.as_slice()
+    );
+    Ok(())
+}
+
+#[test]
+fn a_cut_record_ends_the_run(rt: HostRuntime) -> Result<(), Fail> {
+    let alloc = rt.alloc();
+    let mut in0 = at_times(alloc, &[5, 3, 9])?;
+    in0.truncate(24 + 3 * 76 - 1);
+    let captures = (in0, at_times(alloc, &[5])?);
+    let (status, files, out) = ran(alloc, (SWAP_C, SWAP_SPEC), captures, TWO_INPUTS, 0)?;
+    assert_eq!(rt; status, Status(5));
+    assert_eq!(rt; out.written(), b"capture 0 nth 3 cut\n".as_slice());
+    assert_eq!(rt;
+        files.written("log").ok_or("no log")?,
+        b"1 in 0 to 1 steps 3\n2 in 0 to 1 steps 3\n".as_slice()
+    );
+    assert_eq!(rt;
+        files.written("out1").ok_or("no out1")?,
+        at_times(alloc, &[5, 5])?.as_slice()
+    );
+    Ok(())
+}
+
+#[test]
+fn refused_captures(rt: HostRuntime) -> Result<(), Fail> {
+    let alloc = rt.alloc();
+    // A place in the second capture, which has one record, the byte that stands there instead, and what is printed.
+    let table = [
+        (0, 0x34, "capture 1 header magic\n"),
+        (4, 3, "capture 1 header version\n"),
+        (20, 2, "capture 1 header link\n"),
+        (31, 0x3c, "capture 1 nth 1 fraction\n"),
+        (34, 4, "capture 1 nth 1 long\n"),
+        (32, 61, "capture 1 nth 1 cut\n"),
+    ];
+    for (place, byte, printed) in table {
+        let mut in1 = at_times(alloc, &[5])?;
+        in1[place] = byte;
+        let captures = (at_times(alloc, &[5])?, in1);
+        let (status, files, out) = ran(alloc, (SWAP_C, SWAP_SPEC), captures, TWO_INPUTS, 0)?;
+        assert_eq!(rt; status, Status(5), "{printed}");
+        assert_eq!(rt; out.written(), printed.as_bytes(), "{printed}");
+        // Before a header is good nothing is created; a record is read when all is.
+        assert_eq!(rt; files.written("out0").is_some(), place > 24, "{printed}");
+        assert_eq!(rt; files.written("log").is_some(), place > 24, "{printed}");
+    }
+    let (status, _, out) = ran(
+        alloc,
+        (SWAP_C, SWAP_SPEC),
+        (Vec::from_slice(alloc, b"\x34\xcd\xb2\xa1")?, Vec::new(alloc)),
+        WORDS,
+        0,
+    )?;
+    assert_eq!(rt; status, Status(5));
+    assert_eq!(rt; out.written(), b"capture 0 header length\n".as_slice());
+    Ok(())
 }
 
 #[test]
@@ -100,72 +228,51 @@ fn refusals_create_nothing(rt: HostRuntime) -> Result<(), Fail> {
     let swap = (SWAP_C, SWAP_SPEC);
     let stays =
         "int nf_process(uint16_t port, uint64_t now) { if (port == 0) return 0; return 0; }";
+    let third = "int nf_process(uint16_t port, uint64_t now) { return 2; }";
     let three = "ports 3; step { if port == 0 { send 1; } send 0; }";
+    let usage = "usage: run|verify|check|replay|try|rerun|show|bench\n";
     let wrong = "wrong at byte 4: verdict\nwrong-run 1\nport 0\nnow 0\nframe -\n";
     let at_1 = "wrong at byte 4: verdict\nwrong-run 1\nport 1\nnow 0\nframe -\n";
     let table = [
         ((stays, SWAP_SPEC), WORDS, 0, 1, wrong),
         ((SWAP_C, "ports 2; step { send 1; }"), WORDS, 0, 1, at_1),
-        ((SWAP_C, three), WORDS, 0, 12, "not built spec\n"),
+        ((SWAP_C, three), WORDS, 0, 2, usage),
+        ((stays, three), WORDS, 0, 2, usage),
         (("int", SWAP_SPEC), WORDS, 0, 12, "not built c\n"),
-        (
-            swap,
-            "run swap.c swap.spec - log swap.c - out0 out1",
-            0,
-            12,
-            "not built capture\n",
-        ),
-        (
-            swap,
-            "run swap.c swap.spec - log - - out0 out1",
-            0,
-            12,
-            "not built words\n",
-        ),
-        (
-            swap,
-            "run swap.c swap.spec - log in0 - out0 in0",
-            0,
-            12,
-            "not built words\n",
-        ),
-        (
-            swap,
-            "run swap.c swap.spec - log in0 - log out1",
-            0,
-            12,
-            "not built words\n",
-        ),
-        (
-            swap,
-            "run swap.c swap.spec in0 log in0 - out0 out1",
-            0,
-            12,
-            "not built words\n",
-        ),
-        (
-            swap,
-            "try swap.c swap.spec - log in0 - out0 out1",
-            0,
-            12,
-            "not built words\n",
-        ),
-        (swap, "run", 0, 12, "not built words\n"),
-        (
-            swap,
-            "run none.c swap.spec - log in0 - out0 out1",
-            0,
-            6,
-            "read fault\n",
-        ),
+        ((SWAP_C, "ports 2;"), WORDS, 0, 12, "not built spec\n"),
+        ((third, SWAP_SPEC), WORDS, 0, 12, "not built c\n"),
+        (swap, "run swap.c swap.spec - log in0 out0", 0, 2, usage),
+        (swap, "run swap.c swap.spec - log in0 - out0 out0", 0, 2, usage),
+        (swap, "run swap.c swap.spec - log in0 - out0 in0", 0, 2, usage),
+        (swap, "run swap.c swap.spec - out0 in0 - out0 out1", 0, 2, usage),
+        (swap, "run", 0, 2, usage),
+        (swap, "run swap.c swap.spec in1 log in0 - out0 out1", 0, 12, "not built words\n"),
+        (swap, "try swap.c swap.spec - log in0 - out0 out1", 0, 12, "not built words\n"),
+        (swap, "verify swap.c swap.spec certificate 1000", 0, 12, "not built words\n"),
+        (swap, "run none.c swap.spec - log in0 - out0 out1", 0, 6, "read fault\n"),
+        (swap, "run swap.c swap.spec - log none - out0 out1", 0, 6, "read fault\n"),
         (swap, WORDS, 3, 6, "read fault\n"),
     ];
     for (texts, line, fails, status, printed) in table {
-        let (got, files, out) = ran(alloc, texts, line, &[fails])?;
+        let (got, files, out) = ran_one(alloc, texts, line, fails)?;
         assert_eq!(rt; got, Status(status), "{line}");
         assert_eq!(rt; out.written(), printed.as_bytes(), "{line}");
-        assert_eq!(rt; files.written("out0"), None, "{line}");
+        assert!(rt; files.written("out0").is_none(), "{line}");
     }
+    Ok(())
+}
+
+#[test]
+fn no_words(rt: HostRuntime) -> Result<(), Fail> {
+    let alloc = rt.alloc();
+    let mut files = MemFiles::new(alloc, Vec::new(alloc), 7, 1000, Vec::new(alloc))?;
+    let mut out = MemSink::new(alloc, 1000, Vec::new(alloc))?;
+    let status = run(alloc, &[], &mut files, &mut out);
+    assert_eq!(rt; status, Status(2));
+    assert_eq!(rt;
+        out.written(),
+        b"usage: run|verify|check|replay|try|rerun|show|bench\n".as_slice()
+    );
     Ok(())
 }
 
@@ -188,7 +295,7 @@ fn texts_of_other_forms(rt: HostRuntime) -> Result<(), Fail> {
         ),
     ];
     for (texts, printed, log) in table {
-        let (got, files, out) = ran(alloc, texts, WORDS, &[0])?;
+        let (got, files, out) = ran_one(alloc, texts, WORDS, 0)?;
         assert_eq!(rt; got, Status(0));
         assert_eq!(rt; out.written(), printed.as_bytes());
         assert_eq!(rt; files.written("log").ok_or("no log")?, log.as_bytes());
@@ -197,43 +304,36 @@ fn texts_of_other_forms(rt: HostRuntime) -> Result<(), Fail> {
 }
 
 #[test]
-fn faults_at_writing(rt: HostRuntime) -> Result<(), Fail> {
+fn three_ports(rt: HostRuntime) -> Result<(), Fail> {
     let alloc = rt.alloc();
-    // What the files hold where creating OUT1, writing the frame's bytes, and closing the log fail.
-    let table = [(14, 0, None), (19, 24, Some(40)), (21, 24, Some(100))];
-    for (fails, out0, out1) in table {
-        let (got, files, out) = ran(alloc, (SWAP_C, SWAP_SPEC), WORDS, &[fails])?;
-        assert_eq!(rt; got, Status(7), "{fails}");
-        assert_eq!(rt; out.written(), b"write fault\n".as_slice(), "{fails}");
-        assert_eq!(rt;
-            files.written("out0").map(|bytes| bytes.len()),
-            Some(out0),
-            "{fails}"
-        );
-        assert_eq!(rt;
-            files.written("out1").map(|bytes| bytes.len()),
-            out1,
-            "{fails}"
-        );
-    }
-    // A fault in closing what was only read changes nothing.
-    let (got, _, _) = ran(alloc, (SWAP_C, SWAP_SPEC), WORDS, &[4])?;
-    assert_eq!(rt; got, Status(0));
+    let c = "int nf_process(uint16_t port, uint64_t now) { if (port == 2) return 0; return 2; }";
+    let spec = "ports 3; step { if port == 2 { send 0; } send 2; }";
+    let captures = (at_times(alloc, &[7])?, at_times(alloc, &[6])?);
+    let line = "run swap.c swap.spec - log in0 - in1 out0 out1 out2";
+    let (status, files, out) = ran(alloc, (c, spec), captures, line, 0)?;
+    assert_eq!(rt; status, Status(0));
+    // Ports 0 and 1 go one way, port 2 another.
+    assert_eq!(rt;
+        out.written(),
+        b"verified paths 2 steps 3\nframes 2 sent 2 dropped 0 flooded 0\n".as_slice()
+    );
+    assert_eq!(rt;
+        files.written("log").ok_or("no log")?,
+        b"1 in 2 to 0 steps 3\n2 in 0 to 2 steps 3\n".as_slice()
+    );
+    assert_eq!(rt;
+        files.written("out2").ok_or("no out2")?,
+        at_times(alloc, &[7])?.as_slice()
+    );
     Ok(())
 }
 
 #[test]
 fn a_sink_that_fails(rt: HostRuntime) -> Result<(), Fail> {
     let alloc = rt.alloc();
-    let held = held(alloc, SWAP_C, SWAP_SPEC)?;
-    let mut files = MemFiles::new(alloc, held, 6, 1000, Vec::new(alloc))?;
+    let mut files = MemFiles::new(alloc, Vec::new(alloc), 7, 1000, Vec::new(alloc))?;
     let mut out = MemSink::new(alloc, 1000, Vec::from_slice(alloc, &[1])?)?;
-    let words = words_of(alloc, WORDS)?;
-    let status = run(alloc, words.as_slice(), &mut files, &mut out);
+    let status = run(alloc, &[], &mut files, &mut out);
     assert_eq!(rt; status, Status(7));
-    assert_eq!(rt;
-        files.written("out1"),
-        Some(with_frame(alloc, &OUT_HEAD)?.as_slice())
-    );
     Ok(())
 }

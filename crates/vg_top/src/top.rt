@@ -1,11 +1,14 @@
 //! The top call.
-ghost use Rattle.std.specs.Prelude.{◌≡◌, ◌≢◌, ◌≤◌, ◌+◌, ◌⊎◌, ℕ, length, IsTrue};
+ghost use Rattle.std.specs.Prelude.{◌≡◌, ◌≢◌, ◌≤◌, ◌+◌, ◌⊎◌, ℕ, IsTrue, IfOk, IfErr};
 ghost use Rattle.vg_base.specs.Files.{SameHeld, SameIds};
+ghost use Rattle.vg_command.specs.Commands.{words_in, AreFiles};
+ghost use Rattle.vg_command.specs.View.{files_of};
 ghost use Rattle.vg_core.specs.declared.small.Lang.{Lang};
+ghost use Rattle.vg_pcap.specs.declared.faults.HeaderField.{HeaderField};
+ghost use Rattle.vg_top.specs.declared.stop.Damage.{Damage};
 ghost use Rattle.vg_top.specs.declared.stop.Stop.{Stop};
 ghost use Rattle.vg_top.specs.declared.stop.Unbuilt.{Unbuilt};
-ghost use Rattle.vg_top.specs.Commands.{words_in, AreOwn};
-ghost use Rattle.vg_top.specs.RunFiles.{run_files_of};
+ghost use Rattle.vg_top.specs.Runs.{IsRun, RefusesWords};
 ghost use Rattle.vg_top.specs.Endings.{Ending, ComesTo};
 ghost use Rattle.vg_top.specs.Statuses.{status_of, status_at, IsStatus, IsFaultOrMemory};
 ghost use Rattle.vg_top.specs.Lines.{refusal_text};
@@ -14,43 +17,59 @@ ghost use Rattle.vg_top.specs.Running.{Runs, Prints};
 
 use crate::agreement::{most_steps, path_count};
 use crate::lines::{refusal_text, report_text};
-use crate::names::{Names, names_in};
-use crate::replay::replay;
 use crate::report::Report;
-use crate::setup::{load_input, read_functions};
-use crate::stop::{Stop, Unbuilt};
+use crate::setup::{Functions, read_functions};
+use crate::stop::{Stop, Unbuilt, stop_of};
 use std::alloc::Global;
 use vg_base::{Files, MAX_OPEN, Sink, say_all};
-use vg_pcap::Frames;
+use vg_command::{Command, FileNames, command_in};
+use vg_replay::replay;
 
 /// The exit status of a run.
 #[derive(Clone, Copy, Debug, PartialEq, Eq)]
 pub struct Status(pub u8);
 
-// Reads, verifies and replays.
-fn run_files<F: Files>(alloc: Global, files: &mut F, names: &Names<'_>) -> Result<Report, Stop>
-    requires room { (F.disk files.old).open_count + 3 ≤ MAX_OPEN }
-    requires own { AreOwn (run_files_of names.now) }
-    ensures { Runs (F.disk files.old) (F.disk files.new) (run_files_of names.now) result }
+// The files of a run without a configuration, which is the one command that is built.
+fn run_in(words: &[String]) -> Result<FileNames<'_>, Stop>
+    ensures run { IfOk result (λ names. IsRun (words_in words.now) (files_of names)) }
+    ensures refused { IfErr result (RefusesWords (words_in words.now)) }
 {
-    let functions = match read_functions(alloc, files, names) {
+    match command_in(words) {
+        None => Err(Stop::Usage),
+        Some(Command::Run(names)) => {
+            if names.conf == "-" {
+                Ok(names)
+            } else {
+                Err(Stop::NotBuilt(Unbuilt::Words))
+            }
+        }
+        Some(_) => Err(Stop::NotBuilt(Unbuilt::Words)),
+    }
+}
+
+// Reads, verifies and replays.
+fn run_files<F: Files>(
+    alloc: Global,
+    files: &mut F,
+    names: &FileNames<'_>,
+) -> Result<Report, Stop>
+    requires room { (F.disk files.old).open_count + 33 ≤ MAX_OPEN }
+    requires allowed { AreFiles (files_of names.now) }
+    ensures { Runs (F.disk files.old) (F.disk files.new) (files_of names.now) result }
+{
+    let Functions { c, spec } = match read_functions(alloc, files, names) {
         Ok(functions) => functions,
         Err(stop) => return Err(stop),
     };
-    let input = match load_input(alloc, files, names.in0) {
-        Ok(input) => input,
-        Err(stop) => return Err(stop),
-    };
-    let Some(frames) = Frames::of_capture(&input) else {
-        return Err(Stop::NotBuilt(Unbuilt::Capture));
-    };
-    match replay(files, names, &functions.c, &functions.spec, frames) {
+    let paths = path_count(&c, &spec);
+    let steps = most_steps(&c, spec.ports);
+    match replay(alloc, c, files, names.log, names.ins, names.outs) {
         Ok(totals) => Ok(Report {
-            paths: path_count(&functions.c, &functions.spec),
-            steps: most_steps(&functions.c),
+            paths,
+            steps,
             totals,
         }),
-        Err(_) => Err(Stop::Write),
+        Err(stop) => Err(stop_of(stop)),
     }
 }
 
@@ -75,25 +94,35 @@ pub fn refuse<O: Sink>(out: &mut O, stop: Stop) -> Status
 
 /// Does what the words of a command line say, and prints how it ended.
 ///
-/// The words are `run C SPEC - LOG IN0 - OUT0 OUT1`. The C function in the file C is verified against the specification in
-/// SPEC, each of at most 1,048,576 bytes. Then the frames of the capture IN0 of at most 16,777,216 bytes, which came in at
-/// port 0, are handled one by one: each is written where the specification sends it, into the capture OUT0 or OUT1 of port 0
-/// or 1, and LOG gets the C function's line. The two `-` are a configuration without text and a port at which nothing came
-/// in. A name that is written equals no other name of the line, byte for byte; two names of one file aren't noticed.
+/// The words are `run C SPEC - LOG IN.. OUT..`, with an IN and an OUT for each of 1 to 16 ports. The C function in the file C is verified against the
+/// specification in SPEC, each of at most 1,048,576 bytes. Then the frames of the captures IN are handled one by one, in the order of their times, then of
+/// their ports, then of their places: each is written where the specification sends it, into the captures OUT, and LOG gets the C function's line. The first
+/// `-` is a configuration without text, and `-` for an IN is a port at which nothing comes in. A name that is written equals no other name of the line, byte
+/// for byte; two names of one file aren't noticed.
 ///
-/// The status is 0 where all was done; 1 where the function does something else than its specification, with a run that
-/// shows it; 6 where a file couldn't be read; 7 where an output couldn't be written, or nothing could be printed; 8 where
-/// memory ran out, before any output was created; 11 where a text is too long; and 12 where the words, a text or the input
-/// are of a form that isn't built. One line says which. Nothing is created before both texts and the input were found good.
+/// The status is 0 where all was done; 1 where the function does something else than its specification, with a run that shows it; 2 where the words are
+/// those of no command, or name captures of another number of ports than the specification declares; 5 where a capture is refused, at its header, and then
+/// nothing was created, or at a record, and then the outputs are those of the frames before it; 6 where a file couldn't be read; 7 where an output couldn't
+/// be written, or nothing could be printed; 8 where memory ran out, before any output was created; 11 where a text is too long, or there are more than
+/// 4,294,967,295 frames; and 12 where the command or a text is of a form that isn't built. One line says which. Nothing is created before both texts and the
+/// headers of all captures were found good.
 pub fn run<F: Files, O: Sink>(alloc: Global, words: &[String], files: &mut F, out: &mut O) -> Status
-    requires { (F.disk files.old).open_count + 3 ≤ MAX_OPEN }
+    requires { (F.disk files.old).open_count + 33 ≤ MAX_OPEN }
     ensures known { IsStatus result.0 }
     ensures done { result.0 ≡ 0 →
         IsDone (words_in words.now) (F.disk files.old) (F.disk files.new) (O.flow out.old) (O.flow out.new) }
     ensures wrong { result.0 ≡ 1 → (at : ℕ) × (port : ℕ) ×
         IsStopped (words_in words.now) (F.disk files.old) (F.disk files.new) (O.flow out.old) (O.flow out.new) (Stop.Wrong at port) }
-    ensures limit { result.0 ≡ 11 → (lang : Lang) ×
-        IsStopped (words_in words.now) (F.disk files.old) (F.disk files.new) (O.flow out.old) (O.flow out.new) (Stop.Limit lang) }
+    ensures usage { result.0 ≡ 2 →
+        IsStopped (words_in words.now) (F.disk files.old) (F.disk files.new) (O.flow out.old) (O.flow out.new) Stop.Usage }
+    ensures capture { result.0 ≡ 5 →
+        ((port : ℕ) × (field : HeaderField) ×
+            IsStopped (words_in words.now) (F.disk files.old) (F.disk files.new) (O.flow out.old) (O.flow out.new) (Stop.Header port field))
+        ⊎ ((port : ℕ) × (number : ℕ) × (damage : Damage) ×
+            IsStopped (words_in words.now) (F.disk files.old) (F.disk files.new) (O.flow out.old) (O.flow out.new) (Stop.Record port number damage)) }
+    ensures limit { result.0 ≡ 11 →
+        ((lang : Lang) × IsStopped (words_in words.now) (F.disk files.old) (F.disk files.new) (O.flow out.old) (O.flow out.new) (Stop.Limit lang))
+        ⊎ IsStopped (words_in words.now) (F.disk files.old) (F.disk files.new) (O.flow out.old) (O.flow out.new) Stop.Frames }
     ensures not_built { result.0 ≡ 12 → (what : Unbuilt) ×
         IsStopped (words_in words.now) (F.disk files.old) (F.disk files.new) (O.flow out.old) (O.flow out.new) (Stop.NotBuilt what) }
 
@@ -119,8 +148,9 @@ pub fn run<F: Files, O: Sink>(alloc: Global, words: &[String], files: &mut F, ou
     ensures ids { SameIds (F.disk files.old) (F.disk files.new) }
     ensures tells { (O.flow out.new).tells_made ≡ (O.flow out.old).tells_made }
 {
-    let Some(names) = names_in(words) else {
-        return refuse(out, Stop::NotBuilt(Unbuilt::Words));
+    let names = match run_in(words) {
+        Ok(names) => names,
+        Err(stop) => return refuse(out, stop),
     };
     match run_files(alloc, files, &names) {
         Ok(report) => print(out, report_text(report).as_str(), 0),

@@ -1,60 +1,60 @@
 use Rattle.std.proofs.Common.{◌++◌, inr}
-use Rattle.vg_top.specs.declared.stop.Stop.TheVariants.{NotBuilt}
-use Rattle.vg_top.specs.declared.stop.Unbuilt.TheVariants.{Words}
 use Rattle.vg_top.specs.Lines.{verified_line, totals_line}
-use Rattle.vg_top.proofs.Leaving.{leaves, leaves_unknown, stopped, finished}
-use Rattle.vg_top.proofs.Printing.{known_stop, known_done, has_finished, is_done, began_done, exactly_done, exactly_stopped}
+use Rattle.vg_top.proofs.Leaving.{leaves, leaves_words, stopped, finished}
+use Rattle.vg_top.proofs.Printing.{known_stop, known_done, has_finished, is_done, began_done, outputs_after, exactly_done, exactly_stopped, exactly_words}
 use Rattle.vg_top.proofs.top.run.Goals as goal
 
 -- words that are not those of a run
 
-pub returns-in_default-clause-known : goal.returns-in_default-clause-known
-returns-in_default-clause-known g c = known_stop (NotBuilt Words) c.refuse.ensures.prints
+pub returns-in-Err-clause-known : goal.returns-in-Err-clause-known
+returns-in-Err-clause-known g c = known_stop c.in-Err.stop c.refuse.ensures.prints
 
-pub returns-in_default-clause-not_built : goal.returns-in_default-clause-not_built
-returns-in_default-clause-not_built g c = (stopped _ _ _ _ (NotBuilt Words) (leaves_unknown _ c.in_default.ensures.no_run) c.refuse.ensures.prints).not_built
-
-pub returns-in_default-clause-write : goal.returns-in_default-clause-write
-returns-in_default-clause-write g c = (stopped _ _ _ _ (NotBuilt Words) (leaves_unknown _ c.in_default.ensures.no_run) c.refuse.ensures.prints).write
+pub returns-in-Err-clause-exactly : goal.returns-in-Err-clause-exactly
+returns-in-Err-clause-exactly g c = exactly_words _ c.in-Err.stop c.in-Err.ensures.refused c.refuse.ensures.prints
 
 -- a run that was done
 
-pub returns-in-Ok-clause-known : goal.returns-in-Ok-clause-known
-returns-in-Ok-clause-known g c = known_done c.print.ensures.prints
+pub returns-in-Ok-run_files-clause-known : goal.returns-in-Ok-run_files-clause-known
+returns-in-Ok-run_files-clause-known g c = known_done c.print.ensures.prints
 
-pub returns-in-Ok-clause-done : goal.returns-in-Ok-clause-done
-returns-in-Ok-clause-done g c = is_done _ _ c.in-Ok.report c.in-Some.ensures.run c.in-Ok.ensures.done (rw (c.as_str.ensures.value, c.report_text.ensures) at c.print.ensures.prints)
+pub returns-in-Ok-run_files-clause-done : goal.returns-in-Ok-run_files-clause-done
+returns-in-Ok-run_files-clause-done g c =
+    is_done _ _ c.in-Ok-run_files.report c.in-Ok.ensures.run c.in-Ok-run_files.ensures.done (rw (c.as_str.ensures.value, c.report_text.ensures) at c.print.ensures.prints)
 
-pub returns-in-Ok-clause-write : goal.returns-in-Ok-clause-write
-returns-in-Ok-clause-write g c =
+pub returns-in-Ok-run_files-clause-write : goal.returns-in-Ok-run_files-clause-write
+returns-in-Ok-run_files-clause-write g c =
     let prints = rw (c.as_str.ensures.value, c.report_text.ensures) at c.print.ensures.prints in
-    (finished _ _ _ _ (verified_line c.in-Ok.report.paths c.in-Ok.report.steps ++ totals_line c.in-Ok.report.totals) (has_finished _ _ c.in-Ok.report c.in-Some.ensures.run c.in-Ok.ensures.done) prints).write
+    let r = c.in-Ok-run_files.report in
+    (finished _ _ _ _ (verified_line r.paths r.steps ++ totals_line r.totals) (has_finished _ _ r c.in-Ok.ensures.run c.in-Ok-run_files.ensures.done) prints).write
 
-pub returns-in-Ok-clause-exactly : goal.returns-in-Ok-clause-exactly
-returns-in-Ok-clause-exactly g c = exactly_done _ _ c.in-Ok.report c.in-Some.ensures.run c.in-Ok.ensures.done c.print.ensures.prints
+pub returns-in-Ok-run_files-clause-exactly : goal.returns-in-Ok-run_files-clause-exactly
+returns-in-Ok-run_files-clause-exactly g c = exactly_done _ _ c.in-Ok-run_files.report c.in-Ok.ensures.run c.in-Ok-run_files.ensures.done c.print.ensures.prints
 
-pub returns-in-Ok-clause-outputs : goal.returns-in-Ok-clause-outputs
-returns-in-Ok-clause-outputs g c = inr (began_done _ _ c.in-Ok.report c.in-Some.ensures.run c.in-Ok.ensures.done)
+pub returns-in-Ok-run_files-clause-outputs : goal.returns-in-Ok-run_files-clause-outputs
+returns-in-Ok-run_files-clause-outputs g c = inr (began_done _ _ c.in-Ok-run_files.report c.in-Ok.ensures.run c.in-Ok-run_files.ensures.done)
 
 -- a run that stopped
 
-pub returns-in-Err-clause-wrong : goal.returns-in-Err-clause-wrong
-returns-in-Err-clause-wrong g c = (stopped _ _ _ _ c.in-Err.stop (leaves _ _ c.in-Err.stop c.in-Some.ensures.run c.in-Err.ensures.stops) c.refuse-in-Err.ensures.prints).wrong
+pub returns-in-Err-run_files-clause-known : goal.returns-in-Err-run_files-clause-known
+returns-in-Err-run_files-clause-known g c = known_stop c.in-Err-run_files.stop c.refuse-in-Err-run_files.ensures.prints
 
-pub returns-in-Err-clause-limit : goal.returns-in-Err-clause-limit
-returns-in-Err-clause-limit g c = (stopped _ _ _ _ c.in-Err.stop (leaves _ _ c.in-Err.stop c.in-Some.ensures.run c.in-Err.ensures.stops) c.refuse-in-Err.ensures.prints).limit
+pub returns-in-Err-run_files-clause-capture : goal.returns-in-Err-run_files-clause-capture
+returns-in-Err-run_files-clause-capture g c =
+    let stop = c.in-Err-run_files.stop in
+    (stopped _ _ _ _ stop (leaves _ _ stop c.in-Ok.ensures.run c.in-Err-run_files.ensures.stops) c.refuse-in-Err-run_files.ensures.prints).capture
 
-pub returns-in-Err-clause-not_built : goal.returns-in-Err-clause-not_built
-returns-in-Err-clause-not_built g c = (stopped _ _ _ _ c.in-Err.stop (leaves _ _ c.in-Err.stop c.in-Some.ensures.run c.in-Err.ensures.stops) c.refuse-in-Err.ensures.prints).not_built
+pub returns-in-Err-run_files-clause-limit : goal.returns-in-Err-run_files-clause-limit
+returns-in-Err-run_files-clause-limit g c =
+    let stop = c.in-Err-run_files.stop in
+    (stopped _ _ _ _ stop (leaves _ _ stop c.in-Ok.ensures.run c.in-Err-run_files.ensures.stops) c.refuse-in-Err-run_files.ensures.prints).limit
 
-pub returns-in-Err-clause-read : goal.returns-in-Err-clause-read
-returns-in-Err-clause-read g c = (stopped _ _ _ _ c.in-Err.stop (leaves _ _ c.in-Err.stop c.in-Some.ensures.run c.in-Err.ensures.stops) c.refuse-in-Err.ensures.prints).read
+pub returns-in-Err-run_files-clause-write : goal.returns-in-Err-run_files-clause-write
+returns-in-Err-run_files-clause-write g c =
+    let stop = c.in-Err-run_files.stop in
+    (stopped _ _ _ _ stop (leaves _ _ stop c.in-Ok.ensures.run c.in-Err-run_files.ensures.stops) c.refuse-in-Err-run_files.ensures.prints).write
 
-pub returns-in-Err-clause-write : goal.returns-in-Err-clause-write
-returns-in-Err-clause-write g c = (stopped _ _ _ _ c.in-Err.stop (leaves _ _ c.in-Err.stop c.in-Some.ensures.run c.in-Err.ensures.stops) c.refuse-in-Err.ensures.prints).write
+pub returns-in-Err-run_files-clause-exactly : goal.returns-in-Err-run_files-clause-exactly
+returns-in-Err-run_files-clause-exactly g c = exactly_stopped _ _ c.in-Err-run_files.stop c.in-Ok.ensures.run c.in-Err-run_files.ensures.stops c.refuse-in-Err-run_files.ensures.prints
 
-pub returns-in-Err-clause-memory : goal.returns-in-Err-clause-memory
-returns-in-Err-clause-memory g c = (stopped _ _ _ _ c.in-Err.stop (leaves _ _ c.in-Err.stop c.in-Some.ensures.run c.in-Err.ensures.stops) c.refuse-in-Err.ensures.prints).memory
-
-pub returns-in-Err-clause-exactly : goal.returns-in-Err-clause-exactly
-returns-in-Err-clause-exactly g c = exactly_stopped _ _ c.in-Err.stop c.in-Some.ensures.run c.in-Err.ensures.stops c.refuse-in-Err.ensures.prints
+pub returns-in-Err-run_files-clause-outputs : goal.returns-in-Err-run_files-clause-outputs
+returns-in-Err-run_files-clause-outputs g c = outputs_after _ _ c.in-Err-run_files.stop c.in-Ok.ensures.run c.in-Err-run_files.ensures.stops

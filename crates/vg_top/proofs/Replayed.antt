@@ -1,0 +1,184 @@
+-- From a replay to a run: what holds from where the replay began holds from where the run began.
+use Rattle.std.proofs.Common.{◌≡◌, ◌⊎◌, inl, inr, ◌∙◌, ℕ, List, IsTrue, Result, Ok, Err, refl, sym, ap}
+use Rattle.vg_base.proofs.Disks.{SameHeld-trans, SameIds-trans}
+use Rattle.vg_base.specs.Files.{Disk, SameHeld, SameIds}
+use Rattle.vg_command.specs.Commands.{Files}
+use Rattle.vg_core.specs.declared.small.Small.{Small}
+use Rattle.vg_pcap.specs.declared.faults.CaptureFault.{CaptureFault}
+use Rattle.vg_pcap.specs.declared.faults.CaptureFault.TheVariants as faults
+use Rattle.vg_pcap.specs.declared.faults.HeaderField.{HeaderField}
+use Rattle.vg_pcap.specs.Arrivals.{Arrival}
+use Rattle.vg_pcap.specs.Frames.{Stream}
+use Rattle.vg_pcap.specs.Merge.{AllComeIn, IsFirstBadHeader}
+use Rattle.vg_replay.specs.declared.stop.RunStop.{RunStop}
+use Rattle.vg_replay.specs.declared.stop.RunStop.TheVariants as stops
+use Rattle.vg_replay.specs.declared.totals.Totals.{Totals}
+use Rattle.vg_replay.specs.Replays.{ReplayFiles, KeepsOthers, WroteAll, WroteParts, AreFirst, AreAll, AreUpTo, AreTooMany, HasReplayed, StopsAtHeader, StopsAtRecord, StopsAtMost, Began, StopsReplay, Replays}
+use Rattle.vg_top.specs.declared.setup.Functions.{Functions}
+use Rattle.vg_top.specs.declared.report.Report.{Report}
+use Rattle.vg_top.specs.declared.stop.Damage.{Damage}
+use Rattle.vg_top.specs.declared.stop.Damage.TheVariants.{Cut, Long, Fraction}
+use Rattle.vg_top.specs.declared.stop.Stop.{Stop}
+use Rattle.vg_top.specs.declared.stop.Stop.TheVariants.{Header, Record, Frames}
+use Rattle.vg_top.specs.Agreement.{IsPathCount, IsMostSteps}
+use Rattle.vg_top.specs.Effects.{Unwritten}
+use Rattle.vg_top.specs.Records.{fault_of_record}
+use Rattle.vg_top.specs.Runs.{replay_files}
+use Rattle.vg_top.specs.Running.{HasRun, StopsIn, BeginsIn, StopsAfter, StopsRun}
+use Rattle.vg_top.specs.Setup.{ReadsFunctions}
+use Rattle.vg_top.specs.Stops.{stop_of}
+
+-- ---- captures that are the same
+
+module _ {s t : Disk} (same : t.held ≡ s.held) where
+  all_before : {ins : List (List ℕ)} {streams : List Stream} → AllComeIn t ins streams → AllComeIn s ins streams
+  all_before x = record { ports = x.ports; each = λ port name at. rw same at (x.each port name at) }
+
+  first_before : {ins : List (List ℕ)} {frames : List Arrival} → AreFirst t ins frames → AreFirst s ins frames
+  first_before x = (x.0, x.1, all_before x.2, x.3)
+
+  AreAll-before : {ins : List (List ℕ)} {frames : List Arrival} → AreAll t ins frames → AreAll s ins frames
+  AreAll-before x = (x.0, all_before x.1, x.2, x.3)
+
+  AreUpTo-before : {ins : List (List ℕ)} {frames : List Arrival} {port : ℕ} {fault : CaptureFault} → AreUpTo t ins frames port fault → AreUpTo s ins frames port fault
+  AreUpTo-before x = (x.0, x.1, all_before x.2, x.3, x.4, x.5)
+
+  AreTooMany-before : {ins : List (List ℕ)} {frames : List Arrival} → AreTooMany t ins frames → AreTooMany s ins frames
+  AreTooMany-before x = (x.0, x.1, all_before x.2, x.3, x.4, x.5, x.6)
+
+  header_before : {ins : List (List ℕ)} {port : ℕ} {field : HeaderField} → IsFirstBadHeader t ins port field → IsFirstBadHeader s ins port field
+  header_before x = record {
+    name = x.name;
+    at = x.at;
+    bad = rw same at x.bad;
+    first = λ before other lower at. rw same at (x.first before other lower at);
+  }
+
+-- ---- outputs that were the same
+
+WroteAll-before : (s t u : Disk) {n : ReplayFiles} {f : Small} {frames : List Arrival} → WroteAll t u n f frames → WroteAll s u n f frames
+WroteAll-before s t u x = record { outs = x.outs; log = x.log }
+
+WroteParts-before : (s t u : Disk) {n : ReplayFiles} {f : Small} {frames : List Arrival} → t.made ≡ s.made → WroteParts t u n f frames → WroteParts s u n f frames
+WroteParts-before s t u made x = record {
+  outs = λ port name at. rw made at (x.outs port name at);
+  lined = x.lined;
+  others = x.others;
+  frames_are = x.frames_are;
+  log = rw made at x.log;
+  captures = x.captures;
+}
+
+-- ---- the run
+
+module _ {s t : Disk} {n : Files} (f : Functions) (x : ReadsFunctions s t n (Ok f)) where
+  held : IsTrue s.tells_held → IsTrue t.tells_held
+  held told = rw x.reads.keeps.held.tells_held told
+
+  made : IsTrue s.tells_made → IsTrue t.tells_made
+  made told = rw x.reads.keeps.held.tells_made told
+
+  same : t.held ≡ s.held
+  same = x.reads.keeps.held.held
+
+module _ {s t : Disk} (u : Disk) {n : Files} (f : Functions) (x : ReadsFunctions s t n (Ok f)) where
+  others_before : (IsTrue t.tells_made → KeepsOthers t u (replay_files n)) → IsTrue s.tells_made → KeepsOthers s u (replay_files n)
+  others_before keeps told = λ name none. keeps (made f x told) name none ∙ ap (λ (m : List ℕ → _). m name) x.reads.keeps.made
+
+  began_before : (IsTrue t.tells_made → KeepsOthers t u (replay_files n)) → Began t u (replay_files n) f.c → BeginsIn s u n
+  began_before keeps b = record {
+    c = f.c;
+    spec = f.spec;
+    verified = x.verified;
+    began = record {
+      frames = b.frames;
+      ports = b.ports;
+      first = λ told. first_before (same f x) (b.first (held f x told));
+      wrote = λ told. WroteParts-before s t u x.reads.keeps.made (b.wrote (made f x told));
+    };
+    others = others_before keeps;
+  }
+
+  unwritten : u.made ≡ t.made → u.write_faults ≡ t.write_faults → Unwritten s u
+  unwritten m w = record { made = m ∙ x.reads.keeps.made; write_faults = w ∙ x.reads.keeps.write_faults }
+
+  after_record : (port number : ℕ) (damage : Damage) → (IsTrue t.tells_made → KeepsOthers t u (replay_files n)) →
+      StopsAtRecord t u (replay_files n) f.c port (fault_of_record damage number) → StopsRun s u n (Record port number damage)
+  after_record port number damage keeps y = record {
+    c = f.c;
+    spec = f.spec;
+    verified = x.verified;
+    frames = y.frames;
+    ports = y.ports;
+    handled = λ told. AreUpTo-before (same f x) (y.up_to (held f x told));
+    wrote = λ told. WroteAll-before s t u (y.wrote (made f x told));
+    others = others_before keeps;
+    no_fault = record { read_faults = y.no_fault.read_faults ∙ x.reads.same; write_faults = y.no_fault.write_faults ∙ x.reads.keeps.write_faults };
+  }
+
+  at_header : (port : ℕ) (field : HeaderField) → StopsAtHeader t u (replay_files n) port (faults.Header field) → StopsIn s u n (Header port field)
+  at_header port field y = record {
+    reason = record {
+      c = f.c;
+      spec = f.spec;
+      verified = x.verified;
+      captures = λ told.
+        let bad = y.header (held f x told) in
+        let is : bad.0 ≡ field = cc in
+        rw is at (header_before {s = s} {t = t} (same f x) bad.2);
+    };
+    unwritten = unwritten y.made y.no_fault.write_faults;
+    no_fault = record { read_faults = y.no_fault.read_faults ∙ x.reads.same; write_faults = y.no_fault.write_faults ∙ x.reads.keeps.write_faults };
+  }
+
+  pub replay_stops : (e : RunStop) → (IsTrue t.tells_made → KeepsOthers t u (replay_files n)) → StopsReplay t u (replay_files n) f.c e → StopsRun s u n (stop_of e)
+  replay_stops (stops.Capture port (faults.Header field)) keeps y = at_header port field y
+  replay_stops (stops.Capture port (faults.Cut number)) keeps y = after_record port number Cut keeps y
+  replay_stops (stops.Capture port (faults.Long number)) keeps y = after_record port number Long keeps y
+  replay_stops (stops.Capture port (faults.Fraction number)) keeps y = after_record port number Fraction keeps y
+  replay_stops (stops.Capture port faults.Read) keeps y = absurd y
+  replay_stops (stops.Capture port faults.Memory) keeps y = absurd y
+  replay_stops stops.Read keeps y =
+      (rw x.reads.same at y.0, y.1 ∙ x.reads.keeps.write_faults, elim y.2 [
+        | inl m ↦ inl (unwritten m y.1)
+        | inr b ↦ inr (began_before keeps b)
+      ])
+  replay_stops stops.Write keeps y = (rw x.reads.keeps.write_faults at y.0, y.1 ∙ x.reads.same, began_before keeps y.2)
+  replay_stops stops.Frames keeps y = record {
+    c = f.c;
+    spec = f.spec;
+    verified = x.verified;
+    frames = y.frames;
+    ports = y.ports;
+    handled = λ told. AreTooMany-before (same f x) (y.too_many (held f x told));
+    wrote = λ told. WroteAll-before s t u (y.wrote (made f x told));
+    others = others_before keeps;
+    no_fault = record { read_faults = y.no_fault.read_faults ∙ x.reads.same; write_faults = y.no_fault.write_faults ∙ x.reads.keeps.write_faults };
+  }
+  replay_stops stops.Memory keeps y =
+      (unwritten y.0 y.1.write_faults, record { read_faults = y.1.read_faults ∙ x.reads.same; write_faults = y.1.write_faults ∙ x.reads.keeps.write_faults })
+
+  pub replay_done : (r : Report) → IsPathCount f.c f.spec r.paths → IsMostSteps f.c f.spec.ports r.steps → (IsTrue t.tells_made → KeepsOthers t u (replay_files n)) →
+      HasReplayed t u (replay_files n) f.c r.totals → HasRun s u n r
+  replay_done r paths steps keeps y = record {
+    c = f.c;
+    spec = f.spec;
+    verified = x.verified;
+    paths = paths;
+    steps = steps;
+    replayed = record {
+      frames = y.frames;
+      ports = y.ports;
+      all = λ told. AreAll-before (same f x) (y.all (held f x told));
+      totals_are = y.totals_are;
+      wrote = λ told. WroteAll-before s t u (y.wrote (made f x told));
+      no_fault = record { read_faults = y.no_fault.read_faults ∙ x.reads.same; write_faults = y.no_fault.write_faults ∙ x.reads.keeps.write_faults };
+    };
+    others = others_before keeps;
+  }
+
+  pub held_after : {r : Result Totals RunStop} → Replays t u (replay_files n) f.c r → SameHeld s u
+  held_after y = SameHeld-trans x.reads.keeps.held y.held
+
+  pub ids_after : {r : Result Totals RunStop} → Replays t u (replay_files n) f.c r → SameIds s u
+  ids_after y = SameIds-trans x.reads.ids y.ids
