@@ -4,3 +4,4 @@ pub mod Arrivals
 pub mod Reader
 pub mod Writer
 pub mod Merge
+pub mod Inputs

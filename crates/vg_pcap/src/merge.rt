@@ -1,12 +1,13 @@
 //! Captures that are merged into one order of frames.
-ghost use Rattle.std.specs.Prelude.{◌≡◌, ◌<◌, ◌≤◌, ◌+◌, ℕ, map, length, List, IfSome, IfNone, All, false, string_bytes};
+ghost use Rattle.std.specs.Prelude.{◌≡◌, ◌<◌, ◌≤◌, ◌+◌, ℕ, map, length, List, Some, IfSome, IfNone, All, slice_get, true, false, string_bytes};
 ghost use Rattle.vg_base.specs.Files.{Disk};
-ghost use Rattle.vg_pcap.specs.Frames.{Framed, Stream};
+ghost use Rattle.vg_pcap.specs.Frames.{Framed, Stream, Fits};
 ghost use Rattle.vg_pcap.specs.Arrivals.{Arrival, AllCome};
+ghost use Rattle.vg_pcap.specs.Reader.{IsReadable};
 ghost use Rattle.vg_pcap.specs.Merge.{Input, AreReadable, IsNext, IsChanged, Comes, StartsMerge, Fills, Advances, ClosesInputs};
+ghost use Rattle.vg_pcap.specs.Inputs.{AreApart, IsLeastBelow, Refills, RefillsAt, OpensPort};
 
 use crate::faults::CaptureFault;
-use crate::ffi::absurd;
 use crate::reader::CaptureReader;
 use std::alloc::Global;
 use std::marker::Model;
@@ -22,16 +23,53 @@ pub struct MergeFault {
 /// The captures of several ports, whose frames come out in one order: by time, then by port, then by their place in the port's capture.
 #[derive(Drop)]
 pub struct Merge {
-    readers: Vec<CaptureReader>,
+    inputs: Vec<PortInput>,
 }
 
 impl Model for Merge {
-    ghost use Rattle.std.specs.Prelude.{List, []};
+    ghost use Rattle.std.specs.Prelude.{List};
     ghost use Rattle.vg_pcap.specs.Merge.{Input};
+    ghost use Rattle.vg_pcap.specs.Inputs.{AreInputs};
 
     ghost Value = { List Input };
 
-    ghost view = { λ m. [] };
+    ghost view = { λ m. m.inputs.items };
+
+    ghost invariant = { λ m. AreInputs m.inputs.items };
+}
+
+/// The capture of a port, and whether its last frame waits to be handled.
+#[derive(Drop)]
+struct PortInput {
+    reader: CaptureReader,
+    waits: bool,
+}
+
+impl Model for PortInput {
+    ghost use Rattle.vg_pcap.specs.Merge.{Input};
+
+    ghost Value = { Input };
+
+    ghost view = { λ p. record { reader = p.reader; waits = p.waits } };
+}
+
+impl PortInput {
+    // Reads the next record, in place of the last one.
+    fn refill<F: Files>(&mut self, files: &mut F) -> Result<(), CaptureFault>
+        requires { IsReadable (F.disk files.old) self.old.reader.id }
+        ensures { Refills (F.disk files.old) (F.disk files.new) self.old self.new result }
+    {
+        match self.reader.next(files) {
+            Ok(waits) => {
+                self.waits = waits;
+                Ok(())
+            }
+            Err(fault) => {
+                self.waits = false;
+                Err(fault)
+            }
+        }
+    }
 }
 
 impl Merge {
@@ -47,8 +85,17 @@ impl Merge {
         requires { (F.disk files.old).open_count + length ins.now ≤ MAX_OPEN }
         ensures { StartsMerge (F.disk files.old) (F.disk files.new) (map string_bytes ins.now) result }
     {
-        absurd();
-        unreachable!()
+        let mut inputs = Vec::new(alloc);
+        for (port, name) in ins.iter().enumerate() {
+            if let Err(fault) = open_port(alloc, files, &mut inputs, name.as_str()) {
+                let _ = close_all(files, inputs);
+                return Err(MergeFault {
+                    port: port as u16,
+                    fault,
+                });
+            }
+        }
+        Ok(Merge { inputs })
     }
 
     /// Reads the first record of each port, that of port 0 first. It is called once, right after `start`. After a refusal the merge can only be closed.
@@ -56,18 +103,26 @@ impl Merge {
         requires readable { AreReadable (F.disk files.old) self.old }
         ensures { Fills (F.disk files.old) (F.disk files.new) self.old self.new result }
     {
-        absurd();
-        unreachable!()
+        for port in 0..self.inputs.len() as u16 {
+            if let Err(fault) = self.refill(files, port) {
+                return Err(MergeFault { port, fault });
+            }
+        }
+        Ok(())
     }
 
     /// The port of the next frame, or nothing where every capture has ended.
     pub fn next_port(&self) -> Option<u16>
         ensures next { IfSome result (λ port. (frame : Framed) × IsNext self.now (record { port = port; frame = frame })) }
+        ensures fits { (a : Arrival) → IsNext self.now a → Fits a.frame }
         ensures none { IfNone result (All (λ input. input.waits ≡ false) self.now) }
         ensures end { IfNone result ((s : Disk) (streams : List Stream) (past : List Arrival) → Comes s self.now streams past → AllCome streams past) }
     {
-        absurd();
-        unreachable!()
+        let mut next = None;
+        for port in 0..self.inputs.len() as u16 {
+            next = earlier(&self.inputs, next, port);
+        }
+        next
     }
 
     /// The bytes of the next frame.
@@ -75,8 +130,7 @@ impl Merge {
         requires { (a : Arrival) × IsNext self.now a }
         ensures { (a : Arrival) → IsNext self.now a → result.now ≡ a.frame.bytes }
     {
-        absurd();
-        unreachable!()
+        self.next_input().reader.frame()
     }
 
     /// When the next frame came, in nanoseconds.
@@ -84,8 +138,7 @@ impl Merge {
         requires { (a : Arrival) × IsNext self.now a }
         ensures { (a : Arrival) → IsNext self.now a → result ≡ a.frame.time }
     {
-        absurd();
-        unreachable!()
+        self.next_input().reader.time()
     }
 
     /// How long the next frame was, in bytes, before it was cut to what was captured.
@@ -93,8 +146,7 @@ impl Merge {
         requires { (a : Arrival) × IsNext self.now a }
         ensures { (a : Arrival) → IsNext self.now a → result ≡ a.frame.original }
     {
-        absurd();
-        unreachable!()
+        self.next_input().reader.original()
     }
 
     /// Reads the record behind the next frame, which has been handled then. After a refusal the merge can only be closed. It takes no memory.
@@ -103,8 +155,13 @@ impl Merge {
         requires next { (a : Arrival) × IsNext self.old a }
         ensures { Advances (F.disk files.old) (F.disk files.new) self.old self.new result }
     {
-        absurd();
-        unreachable!()
+        let Some(port) = self.next_port() else {
+            unreachable!()
+        };
+        match self.refill(files, port) {
+            Ok(()) => Ok(()),
+            Err(fault) => Err(MergeFault { port, fault }),
+        }
     }
 
     /// Closes every capture, also where closing one of them fails.
@@ -112,7 +169,84 @@ impl Merge {
         requires readable { AreReadable (F.disk files.old) self }
         ensures { ClosesInputs (F.disk files.old) (F.disk files.new) self result }
     {
-        absurd();
-        unreachable!()
+        let Merge { inputs } = self;
+        close_all(files, inputs)
+    }
+
+    // The input whose frame is next.
+    fn next_input(&self) -> &PortInput
+        requires { (a : Arrival) × IsNext self.now a }
+        ensures { (a : Arrival) → IsNext self.now a → slice_get self.now a.port ≡ Some result.now }
+    {
+        let Some(port) = self.next_port() else {
+            unreachable!()
+        };
+        &self.inputs[port as usize]
+    }
+
+    // Reads the next record of a port.
+    fn refill<F: Files>(&mut self, files: &mut F, port: u16) -> Result<(), CaptureFault>
+        requires port { port < length self.old }
+        requires readable { AreReadable (F.disk files.old) self.old }
+        ensures { RefillsAt (F.disk files.old) (F.disk files.new) self.old self.new port result }
+    {
+        let input = &mut self.inputs[port as usize];
+        input.refill(files)
+    }
+}
+
+// Opens the capture of one more port.
+fn open_port<F: Files>(
+    alloc: Global,
+    files: &mut F,
+    inputs: &mut Vec<PortInput>,
+    name: &str,
+) -> Result<(), CaptureFault>
+    requires { (F.disk files.old).open_count < MAX_OPEN }
+    ensures { OpensPort (F.disk files.old) (F.disk files.new) name.now inputs.old.items inputs.new.items result }
+{
+    let Ok(()) = inputs.reserve(1) else {
+        return Err(CaptureFault::Memory);
+    };
+    let reader = CaptureReader::start(alloc, files, name)?;
+    inputs.push_reserved(PortInput {
+        reader,
+        waits: false,
+    });
+    Ok(())
+}
+
+// Closes every capture, also where closing one of them fails.
+fn close_all<F: Files>(files: &mut F, mut inputs: Vec<PortInput>) -> Result<(), Failed>
+    requires readable { AreReadable (F.disk files.old) inputs.items }
+    requires apart { AreApart inputs.items }
+    ensures { ClosesInputs (F.disk files.old) (F.disk files.new) inputs.items result }
+{
+    let mut result = Ok(());
+    while let Some(input) = inputs.pop() {
+        let PortInput { reader, waits: _ } = input;
+        result = result.and(reader.close(files));
+    }
+    result
+}
+
+// The port whose frame comes first: that of a port before this one, if one waits there, or this one's.
+fn earlier(inputs: &[PortInput], before: Option<u16>, port: u16) -> Option<u16>
+    requires port { port < length inputs.now }
+    requires before { IsLeastBelow inputs.now port before }
+    ensures { IsLeastBelow inputs.now (port + 1) result }
+{
+    let input = &inputs[port as usize];
+    if !input.waits {
+        return before;
+    }
+    let Some(first) = before else {
+        return Some(port);
+    };
+    let other = &inputs[first as usize];
+    if input.reader.time() < other.reader.time() {
+        Some(port)
+    } else {
+        Some(first)
     }
 }
