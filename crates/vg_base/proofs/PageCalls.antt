@@ -6,7 +6,7 @@ use Rattle.vg_base.specs.declared.pages.Place.{Place}
 use Rattle.vg_base.specs.declared.pages.Role.{Role}
 use Rattle.vg_base.specs.declared.pages.Role.TheVariants.{Free, Reading, Writing, WasRead, Written}
 use Rattle.vg_base.specs.declared.pages.Page.{Page}
-use Rattle.vg_base.specs.Files.{Opened, Reads, Writes, IsOpen, reading, writing, GivesNext}
+use Rattle.vg_base.specs.Files.{Opened, AreBytes, Reads, Writes, IsOpen, reading, writing, GivesNext}
 use Rattle.vg_base.specs.Named.{Named, lookup, name_at, bytes_at}
 use Rattle.vg_base.specs.Pages.{is_made, made_on, made_at, seen_as, opened_on, role_at, name_on, open_weight, free_weight, is_reading, open_pages, free_pages, with_role, closed, HasMemory, IsReadable, KeepsFit, TakesPage, StartsReading, ReadsOn}
 use Rattle.vg_base.proofs.PageRoles.{opened-seen, weight-within, reading-weight, reads-reading, writes-writing, some-weight, length-with_role, opened-with_role, opened-with_role_other, open_pages-with_role, free_pages-with_role, made-with_role, memory-with_role, readable-with_role}
@@ -64,6 +64,11 @@ module _ {held : List Named} {old new : List Page} {name : List ℕ} {id : ℕ} 
 
   pub starts-exists : IsSome (lookup held name)
   starts-exists = rw (← starts.named, starts.first.found) refl
+
+  pub starts-bytes : (file : List ℕ) → lookup held name ≡ Some file → AreBytes file
+  starts-bytes file is =
+      let stored : bytes_at held starts.file ≡ file = some_is (sym starts.first.found ∙ ap (lookup held) starts.named ∙ is) in
+      rw (← stored) starts.bytes
 
   pub starts-memory : (room : ℕ) → All (HasMemory room) old → All (HasMemory room) new
   starts-memory room all = rw starts.now (memory-with_role room old id (Reading place) all)

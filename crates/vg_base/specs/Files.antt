@@ -1,5 +1,5 @@
 -- What is seen of an object with files, and what each of its calls does to it.
-use Rattle.std.specs.Prelude.{ℕ, ◌+◌, ◌-◌, ◌<◌, ◌≤◌, ◌^◌, min, ◌≡◌, ◌≢◌, List, [], ◌++◌, length, take, drop, Bool, IsTrue, Option, Some, None, IsSome, Result, IfOk, OnOk, OnErr, unwrap_or, option_and_then}
+use Rattle.std.specs.Prelude.{ℕ, ◌+◌, ◌-◌, ◌<◌, ◌≤◌, ◌^◌, min, ◌≡◌, ◌≢◌, List, [], ◌++◌, length, take, drop, Bool, IsTrue, Option, Some, None, IsSome, Result, IfOk, OnOk, OnErr, unwrap_or, option_and_then, slice_index}
 use Rattle.vg_base.specs.declared.faults.Failed.{Failed}
 
 -- what an open id is for
@@ -26,6 +26,10 @@ writing name = Some (record { mode = Writes; name = name; place = 0 })
 abbrev pub IsOpen : Mode → Option Opened → Type 0
 IsOpen mode None = ⊥
 IsOpen mode (Some id) = id.mode ≡ mode
+
+-- numbers that are bytes
+abbrev pub AreBytes : List ℕ → Type 0
+AreBytes bytes = (k : ℕ) → slice_index bytes k < 2 ^ 8
 
 -- what stands under each name
 abbrev pub Contents : Type 0
@@ -105,6 +109,7 @@ pub record OpensRead (s t : Disk) (name : List ℕ) (result : Result ℕ Failed)
   pub opens : IfOk result (OpensOne s t Reads)
   pub start : IfOk result (λ id. IsTrue s.tells_held → t.opened id ≡ reading name 0)
   pub exists : OnOk result (IsTrue s.tells_held → IsSome (s.held name))
+  pub bytes : OnOk result (IsTrue s.tells_held → (file : List ℕ) → s.held name ≡ Some file → AreBytes file)
   pub err : OnErr result (SameIds s t)
 
 -- the next bytes of an open file were read, or a fault was counted

@@ -4,7 +4,7 @@ use Rattle.vg_base.specs.declared.pages.Place.{Place}
 use Rattle.vg_base.specs.declared.pages.Role.{Role}
 use Rattle.vg_base.specs.declared.pages.Role.TheVariants.{Free, Reading, Writing, WasRead, Written}
 use Rattle.vg_base.specs.declared.pages.Page.{Page}
-use Rattle.vg_base.specs.Files.{Opened, reading, writing, GivesNext}
+use Rattle.vg_base.specs.Files.{Opened, AreBytes, reading, writing, GivesNext}
 use Rattle.vg_base.specs.Named.{Named, name_at, bytes_at, IsFirst}
 use Rattle.vg_base.specs.Plan.{longest_name}
 
@@ -137,6 +137,7 @@ pub record StartsReading (held : List Named) (old new : List Page) (name : List 
   pub file : ℕ
   pub first : IsFirst held file
   pub named : name_at held file ≡ name
+  pub bytes : AreBytes (bytes_at held file)
   pub within : id < length old
   pub was : role_at old id ≡ Free
   pub now : new ≡ with_role old id (Reading (record { file = file; at = 0 }))

@@ -7,3 +7,14 @@ pub mod Filling
 pub mod Closing
 pub mod Opening
 pub mod Orders
+pub mod NumberBytes
+pub mod Pieces
+pub mod FileHeaders
+pub mod RecordBytes
+pub mod ReadAhead
+pub mod RecordLists
+pub mod Taken
+pub mod Streams
+pub mod Starting
+pub mod Written
+pub mod Laws

@@ -146,7 +146,7 @@ IsDamaged encoding bytes Long =
 IsDamaged encoding bytes Cut =
     ((bytes ≢ []) × (length bytes < 16))
     ⊎ ((h : RecordHead) × (behind : List ℕ) × HasHead encoding bytes h behind × (h.fraction < units_per_second encoding.resolution) × (h.size ≤ longest)
-        × (length behind < h.size))
+    × (length behind < h.size))
 
 -- ---- whole files
 

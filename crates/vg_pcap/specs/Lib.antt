@@ -5,3 +5,5 @@ pub mod Reader
 pub mod Writer
 pub mod Merge
 pub mod Inputs
+pub mod Reading
+pub mod Buffered

@@ -86,6 +86,7 @@ pub record Starts (s t : Disk) (name : List ℕ) (result : Result Reader Capture
   pub shut_same : OnOk result (t.shut_faults ≡ s.shut_faults)
   -- `-` opens nothing
   pub empty : name ≡ codes "-" → IfOk result (λ r. (r.id ≡ None) × SameIds s t)
+  pub empty_refused : name ≡ codes "-" → IfErr result (λ e. e ≡ faults.Memory)
   pub file : name ≢ codes "-" → IfOk result (λ r. (id : ℕ) × (r.id ≡ Some id) × OpensOne s t Reads id)
   pub fresh : IfOk result (λ r. r.count ≡ 0)
   pub comes : IsTrue s.tells_held → IfOk result (λ r. (stream : Stream) × ComesIn s name stream × StillComes t r stream)

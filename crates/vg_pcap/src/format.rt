@@ -26,3 +26,9 @@ pub(crate) const NANOSECONDS_PER_SECOND: u64 = 1_000_000_000;
 
 /// A capture keeps at most this many bytes of a packet.
 pub const MAX_CAPTURED: usize = 262_144;
+
+// So many bytes of a file are read ahead at once.
+pub(crate) const BUFFER_SIZE: usize = 65_536;
+
+// So many bytes of a record, with the numbers before it, go out at once.
+pub(crate) const FIRST_SIZE: usize = 2048;

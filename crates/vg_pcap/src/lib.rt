@@ -3,11 +3,16 @@
 //! The format is pcap, version 2.4, as libpcap's manual page pcap-savefile(5) has it, for link type Ethernet.
 #![tactic(auto)]
 
+mod buffered;
+mod encoding;
 mod faults;
 mod ffi;
 mod format;
+mod headers;
 mod merge;
 mod reader;
+mod reading;
+mod records;
 mod writer;
 
 pub use faults::{CaptureFault, HeaderField};

@@ -1,9 +1,14 @@
 //! Reading a capture as a stream, record by record.
-ghost use Rattle.std.specs.Prelude.{◌≡◌, ◌<◌, length};
+ghost use Rattle.std.specs.Prelude.{◌≡◌, ◌<◌, length, vec_len};
+ghost use Rattle.vg_pcap.specs.Captures.{longest};
 ghost use Rattle.vg_pcap.specs.Reader.{IsReadable, Starts, ReadsNext, Shuts};
+ghost use Rattle.vg_pcap.specs.Reading.{encoding_view};
 
+use crate::buffered::Buffered;
+use crate::encoding::{Encoding, Order, Resolution};
 use crate::faults::CaptureFault;
-use crate::ffi::absurd;
+use crate::format::{BUFFER_SIZE, MAX_CAPTURED};
+use crate::reading::{take_header, take_record};
 use std::alloc::Global;
 use std::marker::Model;
 use vg_base::{Failed, Files, MAX_OPEN};
@@ -12,20 +17,36 @@ use vg_base::{Failed, Files, MAX_OPEN};
 /// is a stream without frames.
 #[derive(Drop)]
 pub struct CaptureReader {
+    source: Buffered,
+    encoding: Encoding,
+    // How many records were read.
+    count: u64,
+    // The latest time of a record so far, in nanoseconds.
+    latest: u64,
+    // Room for the longest frame; the last frame stands in its first places.
     frame: Vec<u8>,
+    captured: u32,
+    original: u32,
 }
 
 impl Model for CaptureReader {
-    ghost use Rattle.std.specs.Prelude.{None, []};
-    ghost use Rattle.vg_pcap.specs.Captures.{Little, Nanoseconds};
+    ghost use Rattle.std.specs.Prelude.{◌≡◌, ◌<◌, ◌≤◌, ◌*◌, ◌^◌, take, vec_len};
+    ghost use Rattle.vg_pcap.specs.Captures.{longest};
+    ghost use Rattle.vg_pcap.specs.Reading.{encoding_view};
     ghost use Rattle.vg_pcap.specs.Reader.{Reader};
 
     ghost Value = { Reader };
 
     ghost view = { λ r. record {
-        id = None; ahead = []; encoding = record { order = Little; resolution = Nanoseconds }; latest = 0; count = 0;
-        frame = record { time = 0; original = 0; bytes = r.frame.items };
+      id = r.source.id;
+      ahead = r.source.ahead;
+      encoding = encoding_view r.encoding;
+      latest = r.latest;
+      count = r.count;
+      frame = record { time = r.latest; original = r.original; bytes = take r.captured r.frame.items };
     } };
+
+    ghost invariant = { λ r. (r.latest < 2 ^ 32 * 1000000000) × (vec_len r.frame ≡ longest) × (r.captured ≤ longest) };
 }
 
 impl CaptureReader {
@@ -41,8 +62,49 @@ impl CaptureReader {
         requires { (F.disk files.old).open_count < MAX_OPEN }
         ensures { Starts (F.disk files.old) (F.disk files.new) name.now result }
     {
-        absurd();
-        unreachable!()
+        let Ok(buffer) = vec![in alloc; 0u8; BUFFER_SIZE] else {
+            return Err(CaptureFault::Memory);
+        };
+        let Ok(frame) = vec![in alloc; 0u8; MAX_CAPTURED] else {
+            return Err(CaptureFault::Memory);
+        };
+        if name == "-" {
+            // Nothing will be read, so the encoding says nothing.
+            let encoding = Encoding {
+                order: Order::Little,
+                resolution: Resolution::Nanoseconds,
+            };
+            return Ok(CaptureReader::at_start(Buffered::new(None, buffer), encoding, frame));
+        }
+        let Ok(id) = files.open_read(name) else {
+            return Err(CaptureFault::Read);
+        };
+        let mut source = Buffered::new(Some(id), buffer);
+        match take_header(&mut source, files) {
+            Ok(encoding) => Ok(CaptureReader::at_start(source, encoding, frame)),
+            Err(fault) => {
+                let _ = files.close(id);
+                Err(fault)
+            }
+        }
+    }
+
+    // A reader before the first record.
+    fn at_start(source: Buffered, encoding: Encoding, frame: Vec<u8>) -> CaptureReader
+        requires { vec_len frame ≡ longest }
+        ensures source { (result.id ≡ source.id) × (result.ahead ≡ source.ahead) }
+        ensures encoding { result.encoding ≡ encoding_view encoding }
+        ensures first { (result.latest ≡ 0) × (result.count ≡ 0) }
+    {
+        CaptureReader {
+            source,
+            encoding,
+            count: 0,
+            latest: 0,
+            frame,
+            captured: 0,
+            original: 0,
+        }
     }
 
     /// Reads the next record: true where there is one, and false at the file's end.
@@ -53,40 +115,48 @@ impl CaptureReader {
         requires { IsReadable (F.disk files.old) self.old.id }
         ensures { ReadsNext (F.disk files.old) (F.disk files.new) self.old self.new result }
     {
-        absurd();
-        unreachable!()
+        let number = self.count.saturating_add(1);
+        let frame = self.frame.as_mut_slice();
+        let found = match take_record(&mut self.source, files, self.encoding, frame, number) {
+            Ok(found) => found,
+            Err(fault) => return Err(fault),
+        };
+        let Some(head) = found else {
+            return Ok(false);
+        };
+        self.count = number;
+        self.latest = self.latest.max(head.time(self.encoding));
+        self.captured = head.size;
+        self.original = head.original;
+        Ok(true)
     }
 
     /// The bytes of the frame that was read last.
     pub fn frame(&self) -> &[u8]
         ensures { result.now ≡ self.now.frame.bytes }
     {
-        absurd();
-        unreachable!()
+        &self.frame[..self.captured as usize]
     }
 
     /// When it came, in nanoseconds: the latest time of a record so far.
     pub fn time(&self) -> u64
         ensures { result ≡ self.now.frame.time }
     {
-        absurd();
-        unreachable!()
+        self.latest
     }
 
     /// How many bytes of it were captured.
     pub fn captured(&self) -> u32
         ensures { result ≡ length self.now.frame.bytes }
     {
-        absurd();
-        unreachable!()
+        self.captured
     }
 
     /// How long it was, in bytes, before it was cut to what was captured.
     pub fn original(&self) -> u32
         ensures { result ≡ self.now.frame.original }
     {
-        absurd();
-        unreachable!()
+        self.original
     }
 
     /// Closes the file, where there is one, also where this fails.
@@ -94,7 +164,9 @@ impl CaptureReader {
         requires { IsReadable (F.disk files.old) self.id }
         ensures { Shuts (F.disk files.old) (F.disk files.new) self.id result }
     {
-        absurd();
-        unreachable!()
+        match self.source.id() {
+            Some(id) => files.close(id),
+            None => Ok(()),
+        }
     }
 }

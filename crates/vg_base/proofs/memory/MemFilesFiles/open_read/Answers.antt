@@ -1,5 +1,5 @@
 use Rattle.std.proofs.Common.{refl, arith}
-use Rattle.vg_base.proofs.PageCalls.{starts-takes, starts-made, starts-exists, starts-memory, starts-readable, starts-count}
+use Rattle.vg_base.proofs.PageCalls.{starts-takes, starts-made, starts-exists, starts-bytes, starts-memory, starts-readable, starts-count}
 use Rattle.vg_base.proofs.memory.MemFilesFiles.open_read.Goals as goal
 
 pub invariant_of-self : goal.invariant_of-self
@@ -24,6 +24,7 @@ returns-in-Some-clause-opens c =
       opens = record { was = takes.was; now = rw takes.now refl; others = takes.others; one_more = takes.one_more };
       start = λ told. takes.now;
       exists = λ told. starts-exists starts;
+      bytes = λ told. starts-bytes starts;
       err = tt;
     }
 
