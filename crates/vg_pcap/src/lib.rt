@@ -6,7 +6,6 @@
 mod buffered;
 mod encoding;
 mod faults;
-mod ffi;
 mod format;
 mod headers;
 mod merge;
