@@ -45,6 +45,9 @@ piece_below-here count pieces = elim (cases_Bool (nat_lt count count)) [
   | inr not ↦ rw not refl
 ]
 
+pub piece_below-within : (count : ℕ) (pieces : ℕ → List ℕ) (port : ℕ) → port < count → piece_below count pieces port ≡ pieces port
+piece_below-within count pieces port below = rw (lt-ltb port count below) refl
+
 piece_below-next : (count : ℕ) (pieces : ℕ → List ℕ) (port : ℕ) → port ≢ count → piece_below (count + 1) pieces port ≡ piece_below count pieces port
 piece_below-next count pieces port other = elim (cases_Bool (nat_lt port count)) [
   | inl below ↦ let lt = ltb-true port count below in rw (below, lt-ltb port (count + 1) (omega (arith, lt))) refl

@@ -1,13 +1,13 @@
 -- Ids that are opened and closed together.
 use Rattle.std.proofs.lemmas.Bool.Decides.{eqb_tells}
-use Rattle.std.proofs.lemmas.List.Elements.{All-nil, All-cons, All-append, All-push, All-head, All-tail, All-contains}
+use Rattle.std.proofs.lemmas.List.Elements.{All-nil, All-cons, All-append, All-push, All-head, All-contains}
 use Rattle.std.proofs.lemmas.List.Quantifiers.{all_pairs_push}
 use Rattle.std.proofs.Math.Path.{fun_ext}
 use Rattle.std.proofs.Common.{◌≡◌, ◌≢◌, ◌<◌, ◌≤◌, ◌+◌, ◌⊎◌, ◌∙◌, ℕ, suc, List, [], ◌∷◌, ◌++◌, length, get_or, All, AllPairs, Contains, Option, Some, None, IsSome, inl, inr, refl, sym, ap, subst, arith, length-append}
 use Rattle.vg_base.specs.Files.{Disk, Opened, Mode, Reads, Writes, IsOpen, SameIds, OpensOne, ClosesOne}
 use Rattle.vg_base.specs.Several.{DiffersBy, AreOpen}
 use Rattle.std.proofs.lemmas.Option.{slice_get-get_or}
-use Rattle.vg_replay.proofs.Places.{All-left, AllPairs-left, differ_at, at_left, at_end}
+use Rattle.vg_replay.proofs.Places.{All-left, All-right, AllPairs-left, differ_at, at_left, at_end}
 use Rattle.vg_replay.specs.UnderWay.{AreWritable}
 
 -- an id is none of these, or one of them
@@ -20,10 +20,6 @@ none_or_one id (x ∷ ids) = elim (eqb_tells id x) [
     | inr one ↦ inr (suc one.0, omega (arith, one.1), one.2)
   ]
 ]
-
-All-right : (P : ℕ → Type 0) (xs ys : List ℕ) → All P (xs ++ ys) → All P ys
-All-right P [] ys all = all
-All-right P (x ∷ xs) ys all = All-right P xs ys (All-tail P x (xs ++ ys) all)
 
 -- an id that is opened is none of those that are not
 pub open_none : (mode : Mode) (s : Disk) (id : ℕ) (ids : List ℕ) → IsOpen mode (s.opened id) → All (λ j. s.opened j ≡ None) ids → All (λ other. id ≢ other) ids

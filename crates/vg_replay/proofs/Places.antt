@@ -1,6 +1,7 @@
 -- Elements by their places.
 use Rattle.std.proofs.lemmas.Bool.{cases_lt}
 use Rattle.std.proofs.lemmas.List.{get_or_append_left, get_or_push}
+use Rattle.std.proofs.lemmas.List.Elements.{All-tail}
 use Rattle.std.proofs.lemmas.Option.{slice_get_within, get_or_from_slice_get, slice_get-get_or, slice_get_read, slice_get-map}
 use Rattle.std.proofs.Common.{◌≡◌, ◌≢◌, ◌<◌, ◌≤◌, ◌+◌, ◌⊎◌, ◌∙◌, ℕ, zero, suc, List, [], ◌∷◌, ◌++◌, length, get_or, set, map, option_map, slice_get, All, AllPairs, Contains, Some, None, inl, inr, refl, sym, ap, subst, arith, length-append}
 
@@ -41,6 +42,10 @@ module _ {A : Type 0} where
   -- the first part of what holds of each element
   pub All-left : (P : A → Type 0) (xs ys : List A) → All P (xs ++ ys) → All P xs
   All-left P xs ys all k d within = rw (get_or_append_left xs ys d k within) at (all k d (omega (arith, within, length-append xs ys)))
+
+  pub All-right : (P : A → Type 0) (xs ys : List A) → All P (xs ++ ys) → All P ys
+  All-right P [] ys all = all
+  All-right P (x ∷ xs) ys all = All-right P xs ys (All-tail P x (xs ++ ys) all)
 
   pub All-last : (P : A → Type 0) (xs : List A) (x : A) → All P (xs ++ x ∷ []) → P x
   All-last P xs x all = All-at P (xs ++ x ∷ []) (length xs) x all (at_end xs x)

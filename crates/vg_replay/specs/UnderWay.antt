@@ -8,7 +8,7 @@ use Rattle.vg_pcap.specs.Arrivals.{Arrival}
 use Rattle.vg_pcap.specs.Merge.{Input, ids_of, AreReadable, Comes, AllComeIn}
 use Rattle.vg_replay.specs.declared.totals.Totals.{Totals}
 use Rattle.vg_replay.specs.Outputs.{handled_by, totals_of}
-use Rattle.vg_replay.specs.Replays.{ReplayFiles, AreReplayFiles, IsOfText, NoFault, WroteAll, KeepsOthers, most_frames}
+use Rattle.vg_replay.specs.Replays.{ReplayFiles, AreReplayFiles, IsOfText, NoFault, HavePorts, WroteAll, KeepsOthers, most_frames}
 
 -- what is seen of a replay: its function, the inputs by port, the ids of the captures that are written by port, the id of the log, and the counts so far
 pub record Replaying : Type 0 where
@@ -47,12 +47,13 @@ pub record HasOpened (s t : Disk) (n : ReplayFiles) (r : Replaying) : Type 0 whe
 abbrev pub HaveCome : Disk → Disk → List (List ℕ) → List Input → List Arrival → Type 0
 HaveCome s t ins inputs past = (streams : List Stream) × AllComeIn s ins streams × Comes t inputs streams past
 
--- what stays the same while a replay goes on: its files have names as they should, its function is one of a C text, and there is a capture out for each
--- port, no more than files can be open
+-- what stays the same while a replay goes on: its files have names as they should, its function is one of a C text, and there is a capture in and one
+-- out for each port, no more than files can be open
 pub record IsSound (n : ReplayFiles) (r : Replaying) : Type 0 where
   pub names : AreReplayFiles n
   pub text : IsOfText r.function
-  pub ports : length r.outs ≡ length n.outs
+  pub inputs : length r.inputs ≡ length n.ins
+  pub outs : length r.outs ≡ length n.outs
   pub few : length r.outs ≤ 64
 
 -- a replay that began at s is at t, and has handled these frames so far
@@ -60,6 +61,7 @@ pub record Going (s t : Disk) (n : ReplayFiles) (r : Replaying) (past : List Arr
   pub sound : IsSound n r
   pub opened : HasOpened s t n r
   pub no_fault : NoFault s t
+  pub ports : HavePorts n past
   pub come : IsTrue s.tells_held → HaveCome s t n.ins r.inputs past
   pub wrote : IsTrue s.tells_made → WroteAll s t n r.function past
   pub others : IsTrue s.tells_made → KeepsOthers s t n

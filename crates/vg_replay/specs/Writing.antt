@@ -44,10 +44,9 @@ abbrev pub pieces_of : Handled → ℕ → List ℕ
 pieces_of h port = piece_to port h
 
 -- the captures got a frame, and then the log its line; or a fault was counted on the way
-abbrev pub WritesFrame : Disk → Disk → List ℕ → ℕ → ℕ → Handled → Result (Unit {0}) Failed → Type 0
-WritesFrame s t ids log number h result =
-    ((between : Disk) × Puts s between ids (pieces_of h) (length ids) (Ok tt) × WritesAll between t log (line_of number h) result)
-    ⊎ (OnOk result ⊥ × Puts s t ids (pieces_of h) (length ids) result)
+pub record WritesFrame (s t : Disk) (ids : List ℕ) (log number : ℕ) (h : Handled) (result : Result (Unit {0}) Failed) : Type 0 where
+  pub whole_or_not : ((between : Disk) × Puts s between ids (pieces_of h) (length ids) (Ok tt) × WritesAll between t log (line_of number h) result)
+      ⊎ (OnOk result ⊥ × Puts s t ids (pieces_of h) (length ids) result)
 
 -- ---- creating and closing
 
