@@ -5,3 +5,5 @@ pub mod Creating
 pub mod Pieces
 pub mod Wrote
 pub mod Stopping
+pub mod Handling
+pub mod Beginning
