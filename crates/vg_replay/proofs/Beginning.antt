@@ -1,9 +1,9 @@
 -- How a replay begins.
 use Rattle.std.proofs.lemmas.List.Elements.{All-nil}
-use Rattle.std.proofs.Common.{◌≡◌, ◌≢◌, ◌<◌, ◌≤◌, ◌+◌, ◌∙◌, ℕ, List, [], ◌∷◌, ◌++◌, length, slice_get, filter_map, All, AllPairs, IsTrue, Option, Some, None, Result, Ok, Err, inl, inr, refl, sym, ap, subst, arith}
+use Rattle.std.proofs.Common.{◌≡◌, ◌<◌, ◌≤◌, ◌+◌, ◌∙◌, ℕ, List, [], ◌∷◌, ◌++◌, length, IsTrue, Option, Result, Ok, Err, inl, refl, sym, ap, arith}
 use Rattle.vg_base.proofs.Disks.{SameHeld-trans}
 use Rattle.vg_base.specs.declared.faults.Failed.{Failed}
-use Rattle.vg_base.specs.Files.{Disk, Reads}
+use Rattle.vg_base.specs.Files.{Disk}
 use Rattle.vg_base.specs.Several.{DiffersBy}
 use Rattle.vg_core.specs.declared.small.Small.{Small}
 use Rattle.vg_pcap.specs.declared.merge.MergeFault.{MergeFault}
@@ -11,19 +11,19 @@ use Rattle.vg_pcap.proofs.Filling.{none_come}
 use Rattle.vg_pcap.proofs.Opening.{few_ids}
 use Rattle.vg_pcap.proofs.Staying.{SameReading-differs, AreReadable-stays, AreToCome-stays}
 use Rattle.vg_pcap.specs.Frames.{Stream, header}
-use Rattle.vg_pcap.specs.Arrivals.{Arrival, ComeFirst, Precedes}
-use Rattle.vg_pcap.specs.Merge.{Input, ids_of, AllComeIn, AreToCome, RefusesRecord, StartsMerge, Fills, ClosesInputs}
+use Rattle.vg_pcap.specs.Arrivals.{Arrival}
+use Rattle.vg_pcap.specs.Merge.{Input, ids_of, AllComeIn, AreToCome, StartsMerge, Fills, ClosesInputs}
 use Rattle.vg_replay.specs.declared.stop.RunStop.{RunStop}
 use Rattle.vg_replay.specs.declared.stop.RunStop.TheVariants as stops
 use Rattle.vg_replay.specs.declared.totals.Totals.{Totals}
 use Rattle.vg_replay.proofs.Ids.{DiffersBy-append, closed_again}
 use Rattle.vg_replay.proofs.Pieces.{capture_to-none, log_of-none}
-use Rattle.vg_replay.proofs.Stopping.{IsRead, with_inputs, read_goes, read_stops, others_same}
+use Rattle.vg_replay.proofs.Stopping.{IsRead, read_goes, read_stops}
 use Rattle.vg_replay.proofs.Wrote.{log_is_none}
 use Rattle.vg_replay.specs.Outputs.{handled_by, totals_of}
-use Rattle.vg_replay.specs.Replays.{ReplayFiles, AreReplayFiles, AreFirst, HavePorts, IsOfText, IsPart, IsNoneOf, KeepsOthers, WroteAll, WroteParts, Began, Replays}
+use Rattle.vg_replay.specs.Replays.{ReplayFiles, AreReplayFiles, AreFirst, IsOfText, IsPart, Replays}
 use Rattle.vg_replay.specs.Handling.{GoesOn}
-use Rattle.vg_replay.specs.UnderWay.{Replaying, IsSound, HasOpened, Going}
+use Rattle.vg_replay.specs.UnderWay.{Replaying, Going}
 use Rattle.vg_replay.specs.Writing.{HasCreatedAll, HasFailedAll}
 use Rattle.vg_replay.specs.Stepping.{stop_of, HasStopped}
 

@@ -1,19 +1,19 @@
 -- Outputs that are created, and closed.
 use Rattle.std.proofs.lemmas.Bool.{cases_lt}
 use Rattle.std.proofs.lemmas.Bool.Decides.{eqb_tells}
-use Rattle.std.proofs.lemmas.Option.{slice_get_within, slice_get-get_or}
+use Rattle.std.proofs.lemmas.Option.{slice_get_within}
 use Rattle.std.proofs.lemmas.List.Elements.{All-head, All-tail}
-use Rattle.std.proofs.Common.{◌≡◌, ◌≢◌, ◌<◌, ◌≤◌, ◌+◌, ◌⊎◌, ◌∙◌, ℕ, List, [], ◌∷◌, ◌++◌, length, take, drop, get_or, slice_get, All, AllPairs, IsTrue, Option, Some, None, Result, Ok, Err, inl, inr, refl, sym, ap, subst, append-nil, append_assoc, take-append-drop, length-append, arith}
+use Rattle.std.proofs.Common.{◌≡◌, ◌≢◌, ◌∙◌, ℕ, List, [], ◌∷◌, ◌++◌, length, take, drop, slice_get, IsTrue, Option, Some, None, Result, Ok, Err, inl, inr, refl, sym, ap, append-nil, append_assoc, take-append-drop, length-append, arith}
 use Rattle.vg_base.proofs.Disks.{SameHeld-refl, SameHeld-trans}
 use Rattle.vg_base.specs.declared.faults.Failed.{Failed}
-use Rattle.vg_base.specs.Files.{Disk, Writes, Opened, IsOpen, writing, Rose, Counts, Creates, Closes, OpensOne, SameIds}
+use Rattle.vg_base.specs.Files.{Disk, Writes, IsOpen, writing, Creates, Closes, OpensOne}
 use Rattle.vg_pcap.specs.Frames.{header}
 use Rattle.vg_pcap.specs.Writer.{StartsWriting, IsBegun}
 use Rattle.vg_replay.proofs.Places.{All-at, All-last, differ_at, at_left, at_end}
 use Rattle.vg_replay.proofs.Ids.{DiffersBy-none, DiffersBy-append, opens_one, closes_one, closed_again, AreWritable-none, AreWritable-push, AreWritable-same}
-use Rattle.vg_replay.specs.Replays.{IsNoneOf, IsPart}
+use Rattle.vg_replay.specs.Replays.{IsPart}
 use Rattle.vg_replay.specs.UnderWay.{AreWritable, AreNamed}
-use Rattle.vg_replay.specs.Writing.{HasCreated, HasFailed, CreatesCaptures, ClosesWritten, HasCreatedAll, HasFailedAll}
+use Rattle.vg_replay.specs.Writing.{HasCreated, HasFailed, ClosesWritten, HasCreatedAll, HasFailedAll}
 
 some_is : {A : Type 0} {x y : A} → Some x ≡ Some y → x ≡ y
 some_is e = cc

@@ -2,13 +2,11 @@
 use Rattle.std.proofs.lemmas.Bool.{false≢true, cases_Bool}
 use Rattle.std.proofs.lemmas.Bool.Decides.{eqb_tells}
 use Rattle.std.proofs.lemmas.Option.{slice_get_within}
-use Rattle.std.proofs.Common.{◌≡◌, ◌≢◌, ◌<◌, ◌≤◌, ◌+◌, ◌⊎◌, ◌∙◌, ℕ, List, [], ◌∷◌, ◌++◌, length, take, drop, slice_get, nat_lt, cond, true, false, All, AllPairs, Contains, IsTrue, IsErr, is_err, Option, Some, None, Result, Ok, Err, inl, inr, refl, sym, ap, subst, append-nil, append_assoc, take-append-drop, lt-ltb, le-leb, ltb-true, ltb-false, arith}
+use Rattle.std.proofs.Common.{◌≡◌, ◌≢◌, ◌<◌, ◌+◌, ◌∙◌, ℕ, List, [], ◌++◌, length, take, drop, slice_get, nat_lt, false, IsTrue, IsErr, is_err, Some, Result, Ok, Err, inl, inr, refl, sym, append-nil, take-append-drop, lt-ltb, ltb-true, ltb-false, arith}
 use Rattle.vg_base.proofs.Disks.{WriteKeeps-trans, WriteKeeps-refl}
 use Rattle.vg_base.specs.declared.faults.Failed.{Failed}
-use Rattle.vg_base.specs.Files.{Disk, Contents, Appends, WritesAll, WriteKeeps, writing}
+use Rattle.vg_base.specs.Files.{Disk, Appends, WritesAll, WriteKeeps}
 use Rattle.vg_replay.proofs.Places.{at_place, differ_at, All-at}
-use Rattle.vg_replay.specs.Replays.{IsNoneOf}
-use Rattle.vg_replay.specs.UnderWay.{AreNamed}
 use Rattle.vg_replay.specs.Writing.{AreTold, Puts, HaveGrown, HaveBegun, piece_below}
 
 -- a failure has one value

@@ -1,7 +1,7 @@
 -- A frame that is handled.
 use Rattle.std.proofs.lemmas.List.Elements.{All-push}
 use Rattle.std.proofs.lemmas.Option.{slice_get_within}
-use Rattle.std.proofs.Common.{◌≡◌, ◌≢◌, ◌<◌, ◌≤◌, ◌+◌, ◌-◌, ◌^◌, ◌∙◌, ℕ, List, [], ◌∷◌, ◌++◌, length, All, IsTrue, false, Result, Ok, Err, refl, sym, ap, subst, length-append, arith}
+use Rattle.std.proofs.Common.{◌≡◌, ◌≢◌, ◌<◌, ◌+◌, ◌^◌, ◌∙◌, ℕ, List, [], ◌∷◌, ◌++◌, length, All, IsTrue, false, Ok, Err, sym, ap, subst, length-append, arith}
 use Rattle.vg_base.specs.declared.faults.Failed.{Failed}
 use Rattle.vg_base.specs.Files.{Disk, WriteKeeps}
 use Rattle.vg_core.specs.Meaning.{steps_at}
@@ -10,7 +10,7 @@ use Rattle.vg_pcap.proofs.Staying.{SameReading-writes, Comes-stays}
 use Rattle.vg_pcap.proofs.Merging.{IsChanged-same}
 use Rattle.vg_pcap.specs.Frames.{Stream}
 use Rattle.vg_pcap.specs.Arrivals.{Arrival, ComeFirst}
-use Rattle.vg_pcap.specs.Merge.{Input, IsNext, Comes, AllComeIn, RefusesRecord, Advances}
+use Rattle.vg_pcap.specs.Merge.{Input, IsNext, Comes, Advances}
 use Rattle.vg_replay.specs.declared.stop.RunStop.TheVariants as stops
 use Rattle.vg_replay.specs.declared.totals.Totals.{Totals}
 use Rattle.vg_replay.proofs.Pieces.{totals_of-frames, totals_of-few, totals_of-more}

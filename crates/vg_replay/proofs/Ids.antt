@@ -3,8 +3,8 @@ use Rattle.std.proofs.lemmas.Bool.Decides.{eqb_tells}
 use Rattle.std.proofs.lemmas.List.Elements.{All-nil, All-cons, All-append, All-push, All-head, All-contains}
 use Rattle.std.proofs.lemmas.List.Quantifiers.{all_pairs_push}
 use Rattle.std.proofs.Math.Path.{fun_ext}
-use Rattle.std.proofs.Common.{◌≡◌, ◌≢◌, ◌<◌, ◌≤◌, ◌+◌, ◌⊎◌, ◌∙◌, ℕ, suc, List, [], ◌∷◌, ◌++◌, length, get_or, All, AllPairs, Contains, Option, Some, None, IsSome, inl, inr, refl, sym, ap, subst, arith, length-append}
-use Rattle.vg_base.specs.Files.{Disk, Opened, Mode, Reads, Writes, IsOpen, SameIds, OpensOne, ClosesOne}
+use Rattle.std.proofs.Common.{◌≡◌, ◌≢◌, ◌<◌, ◌⊎◌, ◌∙◌, ℕ, suc, List, [], ◌∷◌, ◌++◌, length, get_or, All, AllPairs, Contains, None, inl, inr, refl, sym, arith, length-append}
+use Rattle.vg_base.specs.Files.{Disk, Mode, Writes, IsOpen, SameIds, OpensOne, ClosesOne}
 use Rattle.vg_base.specs.Several.{DiffersBy, AreOpen}
 use Rattle.std.proofs.lemmas.Option.{slice_get-get_or}
 use Rattle.vg_replay.proofs.Places.{All-left, All-right, AllPairs-left, differ_at, at_left, at_end}

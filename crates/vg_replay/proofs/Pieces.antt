@@ -4,7 +4,7 @@ use Rattle.std.proofs.lemmas.List.{map-append, length-map}
 use Rattle.std.proofs.lemmas.List.Elements.{All-map}
 use Rattle.std.proofs.lemmas.List.Sums.{count_by-le-length, sum_by-append, sum_by-le}
 use Rattle.std.specs.List.{sum_by}
-use Rattle.std.proofs.Common.{◌≡◌, ◌<◌, ◌≤◌, ◌+◌, ◌*◌, ◌^◌, ◌∙◌, ℕ, suc, List, [], ◌∷◌, ◌++◌, length, get_or, map, count_by, if◌then◌else◌, Bool, All, refl, sym, ap, append-nil, append_assoc, length-append, add-zero, zero-add, arith}
+use Rattle.std.proofs.Common.{◌≡◌, ◌<◌, ◌≤◌, ◌+◌, ◌^◌, ◌∙◌, ℕ, suc, List, [], ◌∷◌, ◌++◌, length, get_or, count_by, if◌then◌else◌, Bool, All, refl, sym, ap, append-nil, append_assoc, length-append, add-zero, zero-add, arith}
 use Rattle.vg_core.proofs.SpellingLaws.{Spells-steps}
 use Rattle.vg_core.specs.declared.small.Lang.TheVariants.{C}
 use Rattle.vg_core.specs.declared.small.Small.{Small}
@@ -16,7 +16,7 @@ use Rattle.vg_pcap.specs.Arrivals.{Arrival}
 use Rattle.vg_replay.specs.declared.totals.Totals.{Totals}
 use Rattle.vg_replay.specs.Counts.{counted, AreFew}
 use Rattle.vg_replay.specs.Outputs.{Handled, handle_at, handled_by, verdict_by, piece_to, capture_to, line_of, lines_from, log_of, is_send, is_drop, is_flood, totals_of}
-use Rattle.vg_replay.specs.Replays.{IsOfText, most_frames}
+use Rattle.vg_replay.specs.Replays.{IsOfText}
 
 -- ---- bytes
 

@@ -2,34 +2,31 @@
 use Rattle.std.proofs.lemmas.Bool.{cases_lt}
 use Rattle.std.proofs.lemmas.List.{length-map}
 use Rattle.std.proofs.lemmas.List.Sums.{length-filter, count_by-le-length}
-use Rattle.std.proofs.lemmas.List.Elements.{All-push, All-head, All-tail}
-use Rattle.std.proofs.lemmas.Option.{slice_get_within}
-use Rattle.std.proofs.Common.{◌≡◌, ◌≢◌, ◌<◌, ◌≤◌, ◌+◌, ◌-◌, ◌^◌, ◌⊎◌, ◌∙◌, min, ℕ, List, [], ◌∷◌, ◌++◌, length, get_or, filter, map, slice_get, Bool, true, false, All, IsTrue, Option, Some, None, Result, Ok, Err, inl, inr, refl, sym, ap, append-nil, arith, eqb, cond}
-use Rattle.vg_base.proofs.Disks.{SameHeld-refl, SameHeld-trans}
+use Rattle.std.proofs.Common.{◌≡◌, ◌≢◌, ◌≤◌, ◌+◌, ◌∙◌, ℕ, List, [], ◌++◌, length, get_or, filter, All, IsTrue, Option, Some, None, Result, Ok, Err, inl, inr, refl, sym, ap, append-nil, arith, eqb}
+use Rattle.vg_base.proofs.Disks.{SameHeld-trans}
 use Rattle.vg_base.specs.declared.faults.Failed.{Failed}
-use Rattle.vg_base.specs.Files.{Disk, Reads, Writes, Opened, IsOpen, writing, Rose, WriteKeeps, SameHeld, SameIds}
-use Rattle.vg_base.specs.Several.{DiffersBy}
+use Rattle.vg_base.specs.Files.{Disk, Reads, Writes, Opened, IsOpen, writing, WriteKeeps}
 use Rattle.vg_core.specs.declared.small.Small.{Small}
 use Rattle.vg_pcap.specs.declared.faults.CaptureFault.{CaptureFault}
 use Rattle.vg_pcap.specs.declared.faults.CaptureFault.TheVariants as faults
 use Rattle.vg_pcap.specs.declared.merge.MergeFault.{MergeFault}
-use Rattle.vg_pcap.proofs.Staying.{SameReading, AreReadable-stays, Comes-stays, ids_open}
+use Rattle.vg_pcap.proofs.Staying.{SameReading, AreReadable-stays, ids_open}
 use Rattle.vg_pcap.proofs.Merging.{no_damage, no_damage_past, input_at}
 use Rattle.vg_pcap.specs.Captures.{Damage, Cut, Long, Fraction}
 use Rattle.vg_pcap.specs.Frames.{Stream}
-use Rattle.vg_pcap.specs.Arrivals.{Arrival, stream_at, frames_from, ComeFirst, ComeUpTo, IsAtDamage}
-use Rattle.vg_pcap.specs.Reader.{IsReadable, fault_of, number_after}
+use Rattle.vg_pcap.specs.Arrivals.{Arrival, stream_at, frames_from, IsAtDamage}
+use Rattle.vg_pcap.specs.Reader.{fault_of, number_after}
 use Rattle.vg_pcap.specs.Merge.{Input, ids_of, AreReadable, IsNext, IsReadOrRecord, Comes, AllComeIn, ReadsInputs, RefusesRecord, ClosesInputs}
 use Rattle.vg_replay.specs.declared.stop.RunStop.{RunStop}
 use Rattle.vg_replay.specs.declared.stop.RunStop.TheVariants as stops
 use Rattle.vg_replay.specs.declared.totals.Totals.{Totals}
 use Rattle.vg_replay.proofs.Ids.{DiffersBy-append, closed_again, AreWritable-same}
 use Rattle.vg_replay.proofs.Pieces.{totals_of-frames}
-use Rattle.vg_replay.proofs.Places.{All-left, All-right, All-last, All-at}
+use Rattle.vg_replay.proofs.Places.{All-left}
 use Rattle.vg_replay.proofs.Wrote.{whole_parts}
-use Rattle.vg_replay.specs.Outputs.{handled_by, totals_of, capture_to}
-use Rattle.vg_replay.specs.Replays.{ReplayFiles, IsNoneOf, KeepsOthers, HavePorts, NoFault, WroteAll, WroteParts, IsPart, Holds, Began, StopsAtRecord, StopsAtMost, StopsReplay, HasReplayed, Replays, AreFirst, AreUpTo, AreTooMany, most_frames}
-use Rattle.vg_replay.specs.UnderWay.{Replaying, IsSound, HasOpened, HaveCome, Going, AreWritable, AreNamed, open_ids, output_ids}
+use Rattle.vg_replay.specs.Outputs.{handled_by, totals_of}
+use Rattle.vg_replay.specs.Replays.{ReplayFiles, KeepsOthers, HavePorts, NoFault, WroteAll, WroteParts, Began, StopsAtRecord, StopsReplay, Replays, AreFirst, AreUpTo, AreTooMany, most_frames}
+use Rattle.vg_replay.specs.UnderWay.{Replaying, IsSound, HasOpened, HaveCome, Going, AreWritable, open_ids, output_ids}
 use Rattle.vg_replay.specs.Writing.{ClosesWritten}
 use Rattle.vg_replay.specs.Stepping.{stop_at, stop_of, StopsBegun, HasStopped, HasEnded, ClosesAll}
 
@@ -211,11 +208,13 @@ too_many {s} {t} {n} {r} {past} {a} x most next =
         let here = (c.still a.port next.input next.at).waiting next.waits in
         let is = sym here.1 ∙ none in
         cc
+
     whole_here : {streams : List Stream} (c : Comes t r.inputs streams past) (port : ℕ) (damage : Damage) → IsAtDamage c.left port damage → ⊥
     whole_here c port damage at = elim (cases_lt port (length r.inputs)) [
       | inl below ↦ let here = input_at r.inputs port below in no_damage (c.still port here.0 here.1) at.none_left at.refused
       | inr above ↦ no_damage_past c.left port damage (omega (arith, above, c.ports, c.first.ports)) at.refused
     ]
+
     all_of : HaveCome s t n.ins r.inputs past → length past ≡ most_frames → AreTooMany s n.ins past
     all_of come long = (come.0, come.2.left, come.1, come.2.first, long, (a.port, waits_here come.2), whole_here come.2)
 

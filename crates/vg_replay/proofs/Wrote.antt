@@ -1,10 +1,10 @@
 -- What the files hold once a frame was written.
 use Rattle.std.proofs.lemmas.Option.{slice_get_within}
 use Rattle.std.proofs.lemmas.List.Elements.{All-head, All-tail}
-use Rattle.std.proofs.Common.{◌≡◌, ◌≢◌, ◌<◌, ◌≤◌, ◌+◌, ◌∙◌, ℕ, List, [], ◌∷◌, ◌++◌, length, take, drop, slice_get, All, IsTrue, Option, Some, Result, Ok, Err, inl, inr, refl, sym, ap, append-nil, append_assoc, take-append-drop, arith}
+use Rattle.std.proofs.Common.{◌≡◌, ◌≢◌, ◌<◌, ◌≤◌, ◌+◌, ◌∙◌, ℕ, List, [], ◌∷◌, ◌++◌, length, take, drop, slice_get, IsTrue, Some, Result, Ok, Err, inl, inr, refl, sym, append-nil, append_assoc, take-append-drop, arith}
 use Rattle.vg_base.proofs.Disks.{WriteKeeps-trans}
 use Rattle.vg_base.specs.declared.faults.Failed.{Failed}
-use Rattle.vg_base.specs.Files.{Disk, Appends, Rose, WritesAll, WriteKeeps, writing}
+use Rattle.vg_base.specs.Files.{Disk, Appends, Rose, WritesAll, WriteKeeps}
 use Rattle.vg_core.specs.declared.small.Small.{Small}
 use Rattle.vg_pcap.specs.Arrivals.{Arrival}
 use Rattle.vg_replay.proofs.Growing.{told_after, piece_below-within}
@@ -13,7 +13,7 @@ use Rattle.vg_replay.proofs.Places.{All-at, All-right}
 use Rattle.vg_replay.specs.Outputs.{Handled, handle_at, handled_by, piece_to, capture_to, line_of, log_of}
 use Rattle.vg_replay.specs.Replays.{ReplayFiles, AreReplayFiles, IsNoneOf, KeepsOthers, WroteAll, WroteParts}
 use Rattle.vg_replay.specs.UnderWay.{Replaying, IsSound, HasOpened}
-use Rattle.vg_replay.specs.Writing.{AreTold, Puts, HaveBegun, pieces_of, WritesFrame}
+use Rattle.vg_replay.specs.Writing.{AreTold, Puts, pieces_of, WritesFrame}
 
 -- ---- faults, and what stays
 

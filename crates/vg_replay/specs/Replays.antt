@@ -1,5 +1,5 @@
 -- What a replay does: which frames it handles, what it leaves in the files, and why it stops.
-use Rattle.std.specs.Prelude.{ℕ, ◌+◌, ◌-◌, ◌<◌, ◌≤◌, ◌^◌, ◌≡◌, ◌≢◌, ◌⊎◌, List, [], ◌∷◌, ◌++◌, length, take, IsTrue, Some, Result, IfOk, IfErr, All, AllPairs, Contains, slice_get}
+use Rattle.std.specs.Prelude.{ℕ, ◌+◌, ◌-◌, ◌<◌, ◌≤◌, ◌^◌, ◌≡◌, ◌≢◌, ◌⊎◌, List, [], ◌∷◌, ◌++◌, length, IsTrue, Some, Result, IfOk, IfErr, All, AllPairs, slice_get}
 use Rattle.vg_base.specs.Files.{Disk, Rose, SameHeld, SameIds}
 use Rattle.vg_core.specs.declared.small.Small.{Small}
 use Rattle.vg_core.specs.declared.small.Test.{Test}

@@ -1,5 +1,5 @@
 -- The parts of handling a frame. No public clause rests on this file.
-use Rattle.std.specs.Prelude.{ℕ, ◌≡◌, ◌⊎◌, List, [], ◌∷◌, ◌++◌, false, All, IsTrue, Bool, true, Result, Ok, Err}
+use Rattle.std.specs.Prelude.{ℕ, ◌≡◌, List, [], ◌∷◌, ◌++◌, false, All, IsTrue, Bool, true, Result, Ok, Err}
 use Rattle.vg_base.specs.declared.faults.Failed.{Failed}
 use Rattle.vg_base.specs.Files.{Disk, Rose, Counts, SameHeld}
 use Rattle.vg_base.specs.Several.{DiffersBy}

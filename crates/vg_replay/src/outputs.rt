@@ -66,11 +66,7 @@ impl Outputs {
         ensures writes { WritesFrame (F.disk files.old) (F.disk files.new) self.old.captures.items self.old.log number (view frame.now) result }
     {
         put_frame(files, &mut self.captures, frame)?;
-        put_all(
-            files,
-            self.log,
-            log_line(number, frame).as_str().as_bytes(),
-        )
+        put_all(files, self.log, log_line(number, frame).as_str().as_bytes())
     }
 
     /// Closes the log and the captures, also where closing one of them fails.

@@ -170,7 +170,7 @@ impl Replay {
         ensures same { self.new ≡ self.old }
         ensures writes { (frame : Framed) → IsNext self.old.inputs (record { port = port; frame = frame }) →
             WritesFrame (F.disk files.old) (F.disk files.new) self.old.outs self.old.log (self.old.totals.frames + 1)
-                (handle_at self.old.function (record { port = port; frame = frame })) result }
+            (handle_at self.old.function (record { port = port; frame = frame })) result }
     {
         let frame = HandledFrame {
             port,

@@ -1,4 +1,4 @@
-use Rattle.std.proofs.Common.{◌≡◌, [], ◌∷◌, ◌++◌, IsErr, rules}
+use Rattle.std.proofs.Common.{[], ◌∷◌, ◌++◌, IsErr, rules}
 use Rattle.vg_replay.proofs.Growing.{failed_is, ok_is}
 use Rattle.vg_replay.proofs.Ids.{AreWritable-pop}
 use Rattle.vg_replay.proofs.Creating.{ClosesWritten-next, ClosesWritten-fails, popped, last_open}

@@ -1,4 +1,4 @@
-use Rattle.std.proofs.Common.{◌≡◌, ◌∷◌, ◌∙◌, [], map, slice_get, Some, rules, Global, length, length-append, string_bytes, arith}
+use Rattle.std.proofs.Common.{◌≡◌, ◌∷◌, ◌∙◌, [], map, slice_get, Some, Global, length, length-append, string_bytes, arith}
 use Rattle.vg_replay.proofs.Growing.{failed_is}
 use Rattle.vg_replay.proofs.Places.{seen_at}
 use Rattle.vg_replay.proofs.Creating.{HasCreated-next, HasCreated-fails}

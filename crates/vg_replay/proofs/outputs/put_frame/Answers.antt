@@ -1,4 +1,4 @@
-use Rattle.std.proofs.Common.{◌≡◌, length, slice_get, Some, set, ◌∙◌, refl, rules}
+use Rattle.std.proofs.Common.{◌≡◌, length, slice_get, Some, refl, rules}
 use Rattle.std.proofs.lemmas.Option.{slice_get_read}
 use Rattle.vg_replay.proofs.Growing.{failed_is, Puts-next, Puts-stops}
 use Rattle.vg_replay.proofs.Places.{set_same}

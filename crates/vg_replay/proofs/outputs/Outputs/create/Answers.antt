@@ -1,4 +1,4 @@
-use Rattle.std.proofs.Common.{◌≡◌, IsErr, rules}
+use Rattle.std.proofs.Common.{IsErr, rules}
 use Rattle.vg_replay.proofs.Growing.{failed_is, ok_is}
 use Rattle.vg_replay.proofs.Creating.{created_all, created_fails, failed_all}
 use Rattle.vg_replay.proofs.outputs.Outputs.create.Goals as goal

@@ -1,7 +1,7 @@
-use Rattle.std.proofs.Common.{◌≡◌, ◌∙◌, refl, sym, ap, subst}
+use Rattle.std.proofs.Common.{ap}
 use Rattle.vg_replay.proofs.Stopping.{stopped, not_memory}
 use Rattle.vg_replay.proofs.Handling.{next_ends, next_end_fails}
-use Rattle.vg_replay.specs.UnderWay.{Replaying, Going}
+use Rattle.vg_replay.specs.UnderWay.{Replaying}
 use Rattle.vg_replay.proofs.under_way.Replay.next_frame.Goals as goal
 
 pub close-requires-clause-readable : goal.close-requires-clause-readable

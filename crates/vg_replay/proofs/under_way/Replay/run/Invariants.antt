@@ -9,7 +9,7 @@ abbrev pub invariant-loop-next : goal.invariant-loop-next
 invariant-loop-next g l =
     (l.replay.function ≡ l.initial.replay.function)
     × ((s : Disk) (n : ReplayFiles) (before : List Arrival) → Going s (g.F.Files.disk l.initial.files) n l.initial.replay before →
-      (past : List Arrival) × Going s (g.F.Files.disk l.files) n l.replay past)
+    (past : List Arrival) × Going s (g.F.Files.disk l.files) n l.replay past)
 
 abbrev pub decreases-loop-next : goal.decreases-loop-next
 decreases-loop-next g l = 2 ^ 32 - l.replay.totals.frames

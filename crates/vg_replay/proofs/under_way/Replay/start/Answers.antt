@@ -1,4 +1,4 @@
-use Rattle.std.proofs.Common.{◌≡◌, ◌≤◌, Global, length, map, string_bytes, refl, arith}
+use Rattle.std.proofs.Common.{◌≤◌, Global, length, map, string_bytes, refl, arith}
 use Rattle.std.proofs.lemmas.List.{length-map}
 use Rattle.vg_replay.proofs.Beginning.{room_left, uncreated, filled, fill_refused}
 use Rattle.vg_replay.proofs.Pieces.{totals_of-none}
