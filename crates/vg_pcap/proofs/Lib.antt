@@ -1,3 +1,12 @@
+pub mod Refilling
+pub mod Arriving
+pub mod Staying
+pub mod Ports
+pub mod Merging
+pub mod Filling
+pub mod Closing
+pub mod Opening
+pub mod Orders
 pub mod NumberBytes
 pub mod Pieces
 pub mod FileHeaders
@@ -9,12 +18,3 @@ pub mod Streams
 pub mod Starting
 pub mod Written
 pub mod Laws
-pub mod Refilling
-pub mod Arriving
-pub mod Staying
-pub mod Ports
-pub mod Merging
-pub mod Filling
-pub mod Closing
-pub mod Opening
-pub mod Orders

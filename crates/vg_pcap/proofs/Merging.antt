@@ -400,3 +400,22 @@ end_of_all inputs port (Some p) past least = tt
 pub next_fits : {inputs : List Input} {a : Arrival} → All IsSound inputs → IsNext inputs a → Fits a.frame
 next_fits {inputs} {a} sound next =
     subst Fits (sym next.frame) (All-at_place IsSound inputs a.port next.input sound next.at next.waits).fits
+
+-- inputs of which nothing was changed
+pub IsChanged-same : {inputs : List Input} {a : Arrival} → IsNext inputs a → IsChanged inputs inputs a
+IsChanged-same {inputs} {a} next = record {
+  next = next;
+  ports = refl;
+  others = λ port ne. refl;
+  bytes = λ input at.
+      let same : next.input ≡ input = same_Some next.input input (sym next.at ∙ at) in
+      let frame : a.frame ≡ input.reader.frame = next.frame ∙ ap (λ (i : Input). i.reader.frame) same in
+      (a.frame.bytes, refl, subst (λ (f : Framed). slice_get inputs a.port ≡ Some (record input { reader = record input.reader { frame = record f { bytes = f.bytes } } })) (sym frame) at);
+}
+
+-- the next frame is the first of what is left
+pub next_first : {inputs : List Input} {a : Arrival} → All IsSound inputs → IsNext inputs a → (s : Disk) (streams : List Stream) (past : List Arrival) → Comes s inputs streams past →
+    (left : List Stream) × ComeFirst streams (past ++ a ∷ []) left
+next_first {inputs} {a} sound next s streams past comes =
+    let h = handled (IsChanged-same next) sound next.at comes in
+    (set h.left a.port (record { frames = h.rest; end = (stream_at h.left a.port).end }), h.first)

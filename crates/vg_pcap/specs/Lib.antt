@@ -4,6 +4,6 @@ pub mod Arrivals
 pub mod Reader
 pub mod Writer
 pub mod Merge
+pub mod Inputs
 pub mod Reading
 pub mod Buffered
-pub mod Inputs

@@ -1,8 +1,8 @@
 //! Captures that are merged into one order of frames.
-ghost use Rattle.std.specs.Prelude.{◌≡◌, ◌<◌, ◌≤◌, ◌+◌, ℕ, map, length, List, Some, IfSome, IfNone, All, slice_get, true, false, string_bytes};
+ghost use Rattle.std.specs.Prelude.{◌≡◌, ◌<◌, ◌≤◌, ◌+◌, [], ◌∷◌, ◌++◌, ℕ, map, length, List, Some, IfSome, IfNone, All, slice_get, true, false, string_bytes};
 ghost use Rattle.vg_base.specs.Files.{Disk};
 ghost use Rattle.vg_pcap.specs.Frames.{Framed, Stream, Fits};
-ghost use Rattle.vg_pcap.specs.Arrivals.{Arrival, AllCome};
+ghost use Rattle.vg_pcap.specs.Arrivals.{Arrival, AllCome, ComeFirst};
 ghost use Rattle.vg_pcap.specs.Reader.{IsReadable};
 ghost use Rattle.vg_pcap.specs.Merge.{Input, AreReadable, IsNext, IsChanged, Comes, StartsMerge, Fills, Advances, ClosesInputs};
 ghost use Rattle.vg_pcap.specs.Inputs.{AreApart, IsLeastBelow, Refills, RefillsAt, OpensPort};
@@ -115,6 +115,8 @@ impl Merge {
     pub fn next_port(&self) -> Option<u16>
         ensures next { IfSome result (λ port. (frame : Framed) × IsNext self.now (record { port = port; frame = frame })) }
         ensures fits { (a : Arrival) → IsNext self.now a → Fits a.frame }
+        ensures first { (a : Arrival) → IsNext self.now a → (s : Disk) (streams : List Stream) (past : List Arrival) → Comes s self.now streams past →
+            (left : List Stream) × ComeFirst streams (past ++ a ∷ []) left }
         ensures none { IfNone result (All (λ input. input.waits ≡ false) self.now) }
         ensures end { IfNone result ((s : Disk) (streams : List Stream) (past : List Arrival) → Comes s self.now streams past → AllCome streams past) }
     {

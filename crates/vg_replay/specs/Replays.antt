@@ -1,5 +1,5 @@
 -- What a replay does: which frames it handles, what it leaves in the files, and why it stops.
-use Rattle.std.specs.Prelude.{ℕ, ◌+◌, ◌-◌, ◌<◌, ◌≤◌, ◌^◌, ◌≡◌, ◌≢◌, ◌⊎◌, List, [], ◌∷◌, ◌++◌, length, take, IsTrue, Some, Result, IfOk, IfErr, All, AllPairs, Contains, slice_get}
+use Rattle.std.specs.Prelude.{ℕ, ◌+◌, ◌-◌, ◌<◌, ◌≤◌, ◌^◌, ◌≡◌, ◌≢◌, ◌⊎◌, List, [], ◌∷◌, ◌++◌, length, IsTrue, Some, Result, IfOk, IfErr, All, AllPairs, slice_get}
 use Rattle.vg_base.specs.Files.{Disk, Rose, SameHeld, SameIds}
 use Rattle.vg_core.specs.declared.small.Small.{Small}
 use Rattle.vg_core.specs.declared.small.Test.{Test}
@@ -156,7 +156,7 @@ pub record Began (s t : Disk) (n : ReplayFiles) (f : Small) : Type 0 where
   pub first : IsTrue s.tells_held → AreFirst s n.ins frames
   pub wrote : IsTrue s.tells_made → WroteParts s t n f frames
 
--- why a replay stopped, and what it left
+-- why a replay stopped, and what it left; a fault in closing an output then is counted among those at writing, and changes nothing
 abbrev pub StopsReplay : Disk → Disk → ReplayFiles → Small → RunStop → Type 0
 StopsReplay s t n f (stops.Capture port (faults.Header field)) = StopsAtHeader s t n port (faults.Header field)
 StopsReplay s t n f (stops.Capture port (faults.Cut number)) = StopsAtRecord s t n f port (faults.Cut number)

@@ -1,11 +1,15 @@
 //! Replaying captures through a function: one capture out for each port, and a log.
 #![tactic(auto)]
 
-mod ffi;
+mod handled;
+mod lines;
+mod outputs;
 mod replaying;
 mod stop;
 mod totals;
+mod under_way;
 
 pub use replaying::replay;
 pub use stop::RunStop;
 pub use totals::Totals;
+pub use under_way::{Next, Replay};

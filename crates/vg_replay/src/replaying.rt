@@ -2,9 +2,9 @@
 ghost use Rattle.std.specs.Prelude.{◌≤◌, ◌+◌, length, map, string_bytes};
 ghost use Rattle.vg_replay.specs.Replays.{AreReplayFiles, SendsBelow, IsOfText, Replays, ReplayFiles};
 
-use crate::ffi::absurd;
 use crate::stop::RunStop;
 use crate::totals::Totals;
+use crate::under_way::Replay;
 use std::alloc::Global;
 use vg_base::{Files, MAX_OPEN};
 use vg_core::Small;
@@ -25,6 +25,6 @@ pub fn replay<F: Files>(
     ensures { Replays (F.disk files.old) (F.disk files.new)
         (record { log = log.now; ins = map string_bytes ins.now; outs = map string_bytes outs.now }) small result }
 {
-    absurd();
-    unreachable!()
+    let replay = Replay::start(alloc, small, files, log, ins, outs)?;
+    replay.run(files)
 }

@@ -1,5 +1,8 @@
 //! Why a replay stops early.
-use vg_pcap::CaptureFault;
+ghost use Rattle.std.specs.Prelude.{◌≡◌};
+ghost use Rattle.vg_replay.specs.Stepping.{stop_of};
+
+use vg_pcap::{CaptureFault, MergeFault};
 
 /// Why a replay stopped early.
 #[derive(Clone, Copy, Debug, PartialEq, Eq)]
@@ -14,4 +17,18 @@ pub enum RunStop {
     Frames,
     /// Memory ran out, before any output was created.
     Memory,
+}
+
+// Why a replay stops where its inputs can't be read on.
+pub(crate) fn stop_of(e: MergeFault) -> RunStop
+    ensures { result ≡ stop_of e }
+{
+    match e.fault {
+        CaptureFault::Read => RunStop::Read,
+        CaptureFault::Memory => RunStop::Memory,
+        fault => RunStop::Capture {
+            port: e.port,
+            fault,
+        },
+    }
 }

@@ -1,4 +1,8 @@
 //! Counts of what was done with frames.
+ghost use Rattle.std.specs.Prelude.{◌≡◌, ◌+◌, ◌<◌, ◌≤◌, ◌^◌};
+ghost use Rattle.vg_core.specs.declared.verdict.Verdict.{Verdict};
+
+use vg_core::Verdict;
 
 /// How many frames there were, how many of them were sent, dropped and flooded, and how many steps they took together.
 #[derive(Clone, Copy, Debug, Default, PartialEq, Eq)]
@@ -8,4 +12,24 @@ pub struct Totals {
     pub dropped: u32,
     pub flooded: u32,
     pub steps: u64,
+}
+
+impl Totals {
+    ghost use Rattle.vg_replay.specs.Counts.{counted, AreFew};
+
+    // One frame more, with this verdict and so many steps.
+    pub(crate) fn counted(self, verdict: Verdict, steps: u64) -> Totals
+        requires { AreFew self steps }
+        ensures { result ≡ counted self verdict steps }
+    {
+        let mut totals = self;
+        totals.frames += 1;
+        totals.steps += steps;
+        match verdict {
+            Verdict::Drop => totals.dropped += 1,
+            Verdict::Send(_) => totals.sent += 1,
+            Verdict::Flood => totals.flooded += 1,
+        }
+        totals
+    }
 }

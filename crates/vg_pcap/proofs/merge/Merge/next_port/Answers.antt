@@ -1,5 +1,5 @@
 use Rattle.std.proofs.Common.{◌≤◌, length, arith}
-use Rattle.vg_pcap.proofs.Merging.{next_of_all, none_of_all, end_of_all, next_fits}
+use Rattle.vg_pcap.proofs.Merging.{next_of_all, none_of_all, end_of_all, next_fits, next_first}
 use Rattle.vg_pcap.proofs.merge.Merge.next_port.Goals as goal
 
 pub earlier-next-requires-clause-before : goal.earlier-next-requires-clause-before
@@ -15,6 +15,9 @@ returns-clause-next c =
 
 pub returns-clause-fits : goal.returns-clause-fits
 returns-clause-fits c = rw (← c.self.view_is) (λ a next. next_fits c.self.invariant.sound next)
+
+pub returns-clause-first : goal.returns-clause-first
+returns-clause-first c = rw (← c.self.view_is) (λ a next. next_first c.self.invariant.sound next)
 
 pub returns-clause-none : goal.returns-clause-none
 returns-clause-none c =

@@ -1,0 +1,9 @@
+pub mod Places
+pub mod Ids
+pub mod Growing
+pub mod Creating
+pub mod Pieces
+pub mod Wrote
+pub mod Stopping
+pub mod Handling
+pub mod Beginning

@@ -1,0 +1,313 @@
+-- A replay that reads on, ends or stops.
+use Rattle.std.proofs.lemmas.Bool.{cases_lt}
+use Rattle.std.proofs.lemmas.List.{length-map}
+use Rattle.std.proofs.lemmas.List.Sums.{length-filter, count_by-le-length}
+use Rattle.std.proofs.Common.{◌≡◌, ◌≢◌, ◌≤◌, ◌+◌, ◌∙◌, ℕ, List, [], ◌++◌, length, get_or, filter, All, IsTrue, Option, Some, None, Result, Ok, Err, inl, inr, refl, sym, ap, append-nil, arith, eqb}
+use Rattle.vg_base.proofs.Disks.{SameHeld-trans}
+use Rattle.vg_base.specs.declared.faults.Failed.{Failed}
+use Rattle.vg_base.specs.Files.{Disk, Reads, Writes, Opened, IsOpen, writing, WriteKeeps}
+use Rattle.vg_core.specs.declared.small.Small.{Small}
+use Rattle.vg_pcap.specs.declared.faults.CaptureFault.{CaptureFault}
+use Rattle.vg_pcap.specs.declared.faults.CaptureFault.TheVariants as faults
+use Rattle.vg_pcap.specs.declared.merge.MergeFault.{MergeFault}
+use Rattle.vg_pcap.proofs.Staying.{SameReading, AreReadable-stays, ids_open}
+use Rattle.vg_pcap.proofs.Merging.{no_damage, no_damage_past, input_at}
+use Rattle.vg_pcap.specs.Captures.{Damage, Cut, Long, Fraction}
+use Rattle.vg_pcap.specs.Frames.{Stream}
+use Rattle.vg_pcap.specs.Arrivals.{Arrival, stream_at, frames_from, IsAtDamage}
+use Rattle.vg_pcap.specs.Reader.{fault_of, number_after}
+use Rattle.vg_pcap.specs.Merge.{Input, ids_of, AreReadable, IsNext, IsReadOrRecord, Comes, AllComeIn, ReadsInputs, RefusesRecord, ClosesInputs}
+use Rattle.vg_replay.specs.declared.stop.RunStop.{RunStop}
+use Rattle.vg_replay.specs.declared.stop.RunStop.TheVariants as stops
+use Rattle.vg_replay.specs.declared.totals.Totals.{Totals}
+use Rattle.vg_replay.proofs.Ids.{DiffersBy-append, closed_again, AreWritable-same}
+use Rattle.vg_replay.proofs.Pieces.{totals_of-frames}
+use Rattle.vg_replay.proofs.Places.{All-left}
+use Rattle.vg_replay.proofs.Wrote.{whole_parts}
+use Rattle.vg_replay.specs.Outputs.{handled_by, totals_of}
+use Rattle.vg_replay.specs.Replays.{ReplayFiles, KeepsOthers, HavePorts, NoFault, WroteAll, WroteParts, Began, StopsAtRecord, StopsReplay, Replays, AreFirst, AreUpTo, AreTooMany, most_frames}
+use Rattle.vg_replay.specs.UnderWay.{Replaying, IsSound, HasOpened, HaveCome, Going, AreWritable, open_ids, output_ids}
+use Rattle.vg_replay.specs.Writing.{ClosesWritten}
+use Rattle.vg_replay.specs.Stepping.{stop_at, stop_of, StopsBegun, HasStopped, HasEnded, ClosesAll}
+
+-- ---- ids of inputs and of outputs
+
+one_mode : (o : Option Opened) → IsOpen Writes o → IsOpen Reads o → ⊥
+one_mode None w r = w
+one_mode (Some o) w r = let both = sym w ∙ r in cc
+
+-- an id that is written to is none that is read
+write_none : (t : Disk) (inputs : List Input) (id : ℕ) → AreReadable t inputs → IsOpen Writes (t.opened id) → All (λ other. id ≢ other) (ids_of inputs)
+write_none t inputs id readable writes k d within same = one_mode (t.opened id) writes (rw same (ids_open t inputs readable k d within))
+
+writing_open : (o : Option Opened) (name : List ℕ) → o ≡ writing name → IsOpen Writes o
+writing_open o name is = rw is refl
+
+-- ---- what stays where the inputs are read
+
+-- a replay whose inputs were read on
+abbrev pub with_inputs : Replaying → List Input → Totals → Replaying
+with_inputs r inputs totals = record { function = r.function; inputs = inputs; outs = r.outs; log = r.log; totals = totals }
+
+pub opened_reads : {s t u : Disk} {n : ReplayFiles} {r : Replaying} {new : List Input} {q : Result (Unit {0}) MergeFault} (totals : Totals) → HasOpened s t n r → ReadsInputs t u r.inputs new q → HasOpened s u n (with_inputs r new totals)
+opened_reads {s} {t} {u} {n} {r} {new} {q} totals o reads =
+    let same : (id : ℕ) → IsOpen Writes (t.opened id) → u.opened id ≡ t.opened id = λ id writes. reads.others id (write_none t r.inputs id o.readable writes) in
+    record {
+      held = SameHeld-trans o.held reads.keeps.held;
+      opens = record {
+        closed = rw reads.ids o.opens.closed;
+        others = λ id none.
+            let before : All (λ other. id ≢ other) (open_ids r) = rw (← reads.ids) none in
+            reads.others id (All-left (λ other. id ≢ other) (ids_of r.inputs) (output_ids r) before) ∙ o.opens.others id before;
+        count = rw reads.ids (reads.open_count ∙ o.opens.count);
+      };
+      readable = reads.readable;
+      writable = record {
+        opened = λ k d within. let here = o.writable.opened k d within in rw (same (get_or (output_ids r) k d) here) here;
+        apart = o.writable.apart;
+      };
+      outs_named = λ told port id name at_id at_name. let is = o.outs_named told port id name at_id at_name in same id (writing_open (t.opened id) name is) ∙ is;
+      log_named = λ told. let is = o.log_named told in same r.log (writing_open (t.opened r.log) n.log is) ∙ is;
+    }
+
+pub opened_writes : {s t u : Disk} {n : ReplayFiles} {r : Replaying} → HasOpened s t n r → WriteKeeps t u → HasOpened s u n r
+opened_writes {s} {t} {u} {n} {r} o keeps = record {
+  held = SameHeld-trans o.held keeps.held;
+  opens = record {
+    closed = o.opens.closed;
+    others = λ id none. rw keeps.ids.opened (o.opens.others id none);
+    count = keeps.ids.open_count ∙ o.opens.count;
+  };
+  readable = rw keeps.ids.opened o.readable;
+  writable = AreWritable-same (output_ids r) keeps.ids o.writable;
+  outs_named = λ told. rw keeps.ids.opened (o.outs_named told);
+  log_named = λ told. rw keeps.ids.opened (o.log_named told);
+}
+
+-- what is written doesn't change where reading stays
+pub wrote_same : {s t u : Disk} {n : ReplayFiles} {f : Small} {past : List Arrival} → u.made ≡ t.made → WroteAll s t n f past → WroteAll s u n f past
+wrote_same same wrote = record { outs = rw same wrote.outs; log = rw same wrote.log }
+
+parts_same : {s t u : Disk} {n : ReplayFiles} {f : Small} {past : List Arrival} → u.made ≡ t.made → WroteParts s t n f past → WroteParts s u n f past
+parts_same same w = record {
+  outs = rw same w.outs;
+  lined = w.lined;
+  others = w.others;
+  frames_are = w.frames_are;
+  log = rw same w.log;
+  captures = rw same w.captures;
+}
+
+pub others_same : (s t u : Disk) (n : ReplayFiles) → u.made ≡ t.made → KeepsOthers s t n → KeepsOthers s u n
+others_same s t u n same others = rw same others
+
+-- ---- reading on
+
+-- a replay whose frames so far were written, and that reads on
+pub record IsRead (s t : Disk) (n : ReplayFiles) (r : Replaying) (frames : List Arrival) : Type 0 where
+  pub sound : IsSound n r
+  pub opened : HasOpened s t n r
+  pub no_fault : NoFault s t
+  pub ports : HavePorts n frames
+  pub first : IsTrue s.tells_held → AreFirst s n.ins frames
+  pub wrote : IsTrue s.tells_made → WroteAll s t n r.function frames
+  pub others : IsTrue s.tells_made → KeepsOthers s t n
+  pub few : length frames ≤ most_frames
+
+pub read_goes : {s t u : Disk} {n : ReplayFiles} {r : Replaying} {frames : List Arrival} {new : List Input} {totals : Totals} → IsRead s t n r frames → ReadsInputs t u r.inputs new (Ok tt) → totals ≡ totals_of (handled_by r.function frames)
+    → (IsTrue s.tells_held → HaveCome s u n.ins new frames) → Going s u n (with_inputs r new totals) frames
+read_goes {s} {t} {u} {n} {totals = totals} x reads counts come = record {
+  sound = record { names = x.sound.names; text = x.sound.text; inputs = reads.ports ∙ x.sound.inputs; outs = x.sound.outs; few = x.sound.few };
+  opened = opened_reads totals x.opened reads;
+  no_fault = record { read_faults = reads.cause.same ∙ x.no_fault.read_faults; write_faults = reads.keeps.write_faults ∙ x.no_fault.write_faults };
+  ports = x.ports;
+  come = come;
+  wrote = λ told. wrote_same reads.keeps.made (x.wrote told);
+  others = λ told. others_same s t u n reads.keeps.made (x.others told);
+  totals_are = counts;
+  few = x.few;
+}
+
+-- the fault of a record is no fault at reading
+record_read : (damage : Damage) (number : ℕ) → fault_of damage number ≡ faults.Read → ⊥
+record_read Cut number e = absurd cc
+record_read Long number e = absurd cc
+record_read Fraction number e = absurd cc
+
+-- no more frames of a port than of all
+few_from : (port : ℕ) (frames : List Arrival) → length (frames_from port frames) ≤ length frames
+few_from port frames = omega (arith, length-map (filter (λ (x : Arrival). eqb x.port port) frames) (λ (x : Arrival). x.frame), length-filter (λ (x : Arrival). eqb x.port port) frames, count_by-le-length (λ (x : Arrival). eqb x.port port) frames)
+
+up_to_of : {s : Disk} {ins : List (List ℕ)} {frames : List Arrival} {port : ℕ} {fault : CaptureFault} (damage : Damage) (number : ℕ) → fault ≡ fault_of damage number → length frames ≤ most_frames →
+    ((streams : List Stream) × AllComeIn s ins streams × RefusesRecord streams frames (record { port = port; fault = fault })) → AreUpTo s ins frames port fault
+up_to_of {s} {ins} {frames} {port} {fault} damage number is few (streams, all, inl read) = absurd (record_read damage number (sym is ∙ read))
+up_to_of {s} {ins} {frames} {port} {fault} damage number is few (streams, all, inr refused) =
+    let up_to = refused.2 in
+    let come = up_to.first.in_turn port ∙ ap (λ l. frames_from port frames ++ l) up_to.at_damage.none_left ∙ append-nil (frames_from port frames) in
+    let number_is : number_after (length (stream_at streams port).frames) ≡ length (stream_at streams port).frames + 1 = omega (arith, few, few_from port frames, ap length come) in
+    (streams, refused.0, all, up_to, refused.1 ∙ ap (fault_of refused.0) number_is, few)
+
+-- a record is refused
+pub record_stops : {s t u : Disk} {n : ReplayFiles} {r : Replaying} {frames : List Arrival} {new : List Input} {port : ℕ} {fault : CaptureFault} (damage : Damage) (number : ℕ) → fault ≡ fault_of damage number → IsRead s t n r frames
+    → ReadsInputs t u r.inputs new (Err (record { port = port; fault = fault }))
+    → (IsTrue s.tells_held → (streams : List Stream) × AllComeIn s n.ins streams × RefusesRecord streams frames (record { port = port; fault = fault }))
+    → StopsAtRecord s u n r.function port fault
+record_stops {frames = frames} damage number is x reads refused = record {
+  frames = frames;
+  ports = x.ports;
+  up_to = λ told. up_to_of damage number is x.few (refused told);
+  wrote = λ told. wrote_same reads.keeps.made (x.wrote told);
+  read_faults = reads.cause.same_else (λ read. record_read damage number (sym is ∙ read)) ∙ x.no_fault.read_faults;
+}
+
+stops_by : {s t u : Disk} {n : ReplayFiles} {r : Replaying} {frames : List Arrival} {new : List Input} {port : ℕ} (fault : CaptureFault) → IsReadOrRecord fault → IsRead s t n r frames
+    → ReadsInputs t u r.inputs new (Err (record { port = port; fault = fault }))
+    → (IsTrue s.tells_held → (streams : List Stream) × AllComeIn s n.ins streams × RefusesRecord streams frames (record { port = port; fault = fault }))
+    → StopsBegun s u n r.function (stop_at port fault)
+stops_by {frames = frames} faults.Read kind x reads refused =
+    (rw x.no_fault.read_faults at (reads.cause.fault refl), record { frames = frames; ports = x.ports; first = x.first; wrote = λ told. whole_parts (wrote_same reads.keeps.made (x.wrote told)) })
+stops_by faults.Memory (inl read) x reads refused = absurd cc
+stops_by faults.Memory (inr (Cut, number, is)) x reads refused = absurd cc
+stops_by faults.Memory (inr (Long, number, is)) x reads refused = absurd cc
+stops_by faults.Memory (inr (Fraction, number, is)) x reads refused = absurd cc
+stops_by (faults.Header field) (inl read) x reads refused = absurd cc
+stops_by (faults.Header field) (inr (Cut, number, is)) x reads refused = absurd cc
+stops_by (faults.Header field) (inr (Long, number, is)) x reads refused = absurd cc
+stops_by (faults.Header field) (inr (Fraction, number, is)) x reads refused = absurd cc
+stops_by (faults.Cut number) kind x reads refused = record_stops Cut number refl x reads refused
+stops_by (faults.Long number) kind x reads refused = record_stops Long number refl x reads refused
+stops_by (faults.Fraction number) kind x reads refused = record_stops Fraction number refl x reads refused
+
+pub read_stops : {s t u : Disk} {n : ReplayFiles} {r : Replaying} {frames : List Arrival} {new : List Input} {e : MergeFault} (totals : Totals) → IsRead s t n r frames → ReadsInputs t u r.inputs new (Err e) → IsReadOrRecord e.fault
+    → (IsTrue s.tells_held → (streams : List Stream) × AllComeIn s n.ins streams × RefusesRecord streams frames e) → HasStopped s u n (with_inputs r new totals) r.function (stop_of e)
+read_stops {s} {t} {u} {n} {e = e} totals x reads kind refused = record {
+  opened = opened_reads totals x.opened reads;
+  others = λ told. others_same s t u n reads.keeps.made (x.others told);
+  stops = stops_by e.fault kind x reads refused;
+}
+
+-- ---- more frames than there may be
+
+pub too_many : {s t : Disk} {n : ReplayFiles} {r : Replaying} {past : List Arrival} {a : Arrival} → Going s t n r past → r.totals.frames ≡ most_frames → IsNext r.inputs a → HasStopped s t n r r.function stops.Frames
+too_many {s} {t} {n} {r} {past} {a} x most next =
+    let long : length past ≡ most_frames = sym (totals_of-frames r.function past) ∙ ap (λ (totals : Totals). totals.frames) (sym x.totals_are) ∙ most in
+    record {
+      opened = x.opened;
+      others = x.others;
+      stops = record {
+        frames = past;
+        ports = x.ports;
+        too_many = λ told. all_of (x.come told) long;
+        wrote = x.wrote;
+        read_faults = x.no_fault.read_faults;
+      };
+    }
+  where
+    waits_here : {streams : List Stream} (c : Comes t r.inputs streams past) → (stream_at c.left a.port).frames ≢ []
+    waits_here c none =
+        let here = (c.still a.port next.input next.at).waiting next.waits in
+        let is = sym here.1 ∙ none in
+        cc
+
+    whole_here : {streams : List Stream} (c : Comes t r.inputs streams past) (port : ℕ) (damage : Damage) → IsAtDamage c.left port damage → ⊥
+    whole_here c port damage at = elim (cases_lt port (length r.inputs)) [
+      | inl below ↦ let here = input_at r.inputs port below in no_damage (c.still port here.0 here.1) at.none_left at.refused
+      | inr above ↦ no_damage_past c.left port damage (omega (arith, above, c.ports, c.first.ports)) at.refused
+    ]
+
+    all_of : HaveCome s t n.ins r.inputs past → length past ≡ most_frames → AreTooMany s n.ins past
+    all_of come long = (come.0, come.2.left, come.1, come.2.first, long, (a.port, waits_here come.2), whole_here come.2)
+
+-- ---- closing
+
+-- what is read stays open where what was written was closed
+pub reads_stay : {t u : Disk} (r : Replaying) {q : Result (Unit {0}) Failed} → AreReadable t r.inputs → AreWritable t (output_ids r) → ClosesWritten t u (output_ids r) q → AreReadable u r.inputs
+reads_stay {t} {u} r {q} readable writable closes =
+    let same : SameReading t u r.inputs = record {
+      tells_held = closes.held.tells_held;
+      held = closes.held.held;
+      opened = λ k d within. sym (closes.closes.others (get_or (ids_of r.inputs) k d) (λ i e below same. one_mode (t.opened (get_or (output_ids r) i e)) (writable.opened i e below) (rw same at (ids_open t r.inputs readable k d within))));
+    } in
+    AreReadable-stays same readable
+
+pub closes_all : {t u v : Disk} (r : Replaying) (q p : Result (Unit {0}) Failed) → ClosesWritten t u (output_ids r) q → ClosesInputs u v r.inputs p → ClosesAll t v r q
+closes_all {t} {u} {v} r (Ok done) p x y = record {
+  faults = record { failed = tt; same = y.keeps.write_faults ∙ x.faults.same; rises = omega (arith, x.faults.rises, y.keeps.write_faults) };
+  read_faults = y.read_faults ∙ x.read_faults;
+  held = SameHeld-trans x.held y.keeps.held;
+  made = y.keeps.made ∙ x.made;
+  closes = DiffersBy-append (ids_of r.inputs) (output_ids r) y.closes x.closes;
+}
+closes_all {t} {u} {v} r (Err e) p x y = record {
+  faults = record { failed = rw (← y.keeps.write_faults) at x.faults.failed; same = tt; rises = omega (arith, x.faults.rises, y.keeps.write_faults) };
+  read_faults = y.read_faults ∙ x.read_faults;
+  held = SameHeld-trans x.held y.keeps.held;
+  made = y.keeps.made ∙ x.made;
+  closes = DiffersBy-append (ids_of r.inputs) (output_ids r) y.closes x.closes;
+}
+
+began_same : {s t u : Disk} {n : ReplayFiles} {f : Small} → u.made ≡ t.made → Began s t n f → Began s u n f
+began_same same b = record { frames = b.frames; ports = b.ports; first = b.first; wrote = λ told. parts_same same (b.wrote told) }
+
+record_same : {s t u : Disk} {n : ReplayFiles} {f : Small} {port : ℕ} {fault : CaptureFault} → u.made ≡ t.made → u.read_faults ≡ t.read_faults → StopsAtRecord s t n f port fault → StopsAtRecord s u n f port fault
+record_same made read x = record { frames = x.frames; ports = x.ports; up_to = x.up_to; wrote = λ told. wrote_same made (x.wrote told); read_faults = read ∙ x.read_faults }
+
+stops_closed : (s t u : Disk) (n : ReplayFiles) (f : Small) (stop : RunStop) → u.made ≡ t.made → u.read_faults ≡ t.read_faults → t.write_faults ≤ u.write_faults → StopsBegun s t n f stop → StopsReplay s u n f stop
+stops_closed s t u n f (stops.Capture port (faults.Header field)) made read write x = absurd x
+stops_closed s t u n f (stops.Capture port (faults.Cut number)) made read write x = record_same made read x
+stops_closed s t u n f (stops.Capture port (faults.Long number)) made read write x = record_same made read x
+stops_closed s t u n f (stops.Capture port (faults.Fraction number)) made read write x = record_same made read x
+stops_closed s t u n f (stops.Capture port faults.Read) made read write x = absurd x
+stops_closed s t u n f (stops.Capture port faults.Memory) made read write x = absurd x
+stops_closed s t u n f stops.Read made read write x = (rw read x.0, inr (began_same made x.1))
+stops_closed s t u n f stops.Write made read write x = (let rose = x.0 in omega (arith, rose, write), read ∙ x.1, began_same made x.2)
+stops_closed s t u n f stops.Frames made read write x = record { frames = x.frames; ports = x.ports; too_many = x.too_many; wrote = λ told. wrote_same made (x.wrote told); read_faults = read ∙ x.read_faults }
+stops_closed s t u n f stops.Memory made read write x = absurd x
+
+pub not_memory : (s t : Disk) (n : ReplayFiles) (f : Small) (stop : RunStop) → StopsBegun s t n f stop → stop ≢ stops.Memory
+not_memory s t n f (stops.Capture port fault) x e = absurd cc
+not_memory s t n f stops.Read x e = absurd cc
+not_memory s t n f stops.Write x e = absurd cc
+not_memory s t n f stops.Frames x e = absurd cc
+not_memory s t n f stops.Memory x e = x
+
+pub stopped : {s t u : Disk} {n : ReplayFiles} {r : Replaying} {f : Small} {stop : RunStop} (q : Result (Unit {0}) Failed) → HasStopped s t n r f stop → ClosesAll t u r q → Replays s u n f (Err stop)
+stopped {s} {t} {u} {n} {r} {f} {stop} q x y = record {
+  held = SameHeld-trans x.opened.held y.held;
+  ids = closed_again (open_ids r) x.opened.opens y.closes;
+  others = λ told. others_same s t u n y.made (x.others told);
+  done = tt;
+  stops = stops_closed s t u n f stop y.made y.read_faults y.faults.rises x.stops;
+}
+
+pub ended : {s t u : Disk} {n : ReplayFiles} {r : Replaying} {past : List Arrival} → Going s t n r past → HasEnded t r → ClosesAll t u r (Ok tt) → Replays s u n r.function (Ok r.totals)
+ended {s} {t} {u} {n} {r} {past} x end y = record {
+  held = SameHeld-trans x.opened.held y.held;
+  ids = closed_again (open_ids r) x.opened.opens y.closes;
+  others = λ told. others_same s t u n y.made (x.others told);
+  done = record {
+    frames = past;
+    ports = x.ports;
+    all = λ told. let come = x.come told in (come.0, come.1, end.all come.0 past come.2, x.few);
+    totals_are = x.totals_are;
+    wrote = λ told. wrote_same y.made (x.wrote told);
+    no_fault = record { read_faults = y.read_faults ∙ x.no_fault.read_faults; write_faults = y.faults.same ∙ x.no_fault.write_faults };
+  };
+  stops = tt;
+}
+
+first_of : {s t : Disk} {ins : List (List ℕ)} {inputs : List Input} {past : List Arrival} → HaveCome s t ins inputs past → AreFirst s ins past
+first_of come = (come.0, come.2.left, come.1, come.2.first)
+
+pub end_fails : {s t u : Disk} {n : ReplayFiles} {r : Replaying} {past : List Arrival} {e : Failed} → Going s t n r past → ClosesAll t u r (Err e) → Replays s u n r.function (Err stops.Write)
+end_fails {s} {t} {u} {n} {r} {past} x y = record {
+  held = SameHeld-trans x.opened.held y.held;
+  ids = closed_again (open_ids r) x.opened.opens y.closes;
+  others = λ told. others_same s t u n y.made (x.others told);
+  done = tt;
+  stops = (
+    rw x.no_fault.write_faults at y.faults.failed,
+    y.read_faults ∙ x.no_fault.read_faults,
+    record { frames = past; ports = x.ports; first = λ told. first_of (x.come told); wrote = λ told. whole_parts (wrote_same y.made (x.wrote told)) },
+  );
+}

@@ -1,0 +1,40 @@
+use Rattle.std.proofs.Common.{ap}
+use Rattle.vg_replay.proofs.Stopping.{stopped, not_memory}
+use Rattle.vg_replay.proofs.Handling.{next_ends, next_end_fails}
+use Rattle.vg_replay.specs.UnderWay.{Replaying}
+use Rattle.vg_replay.proofs.under_way.Replay.next_frame.Goals as goal
+
+pub close-requires-clause-readable : goal.close-requires-clause-readable
+close-requires-clause-readable g c =
+    let done = (rw c.in-Ok-false.field-0-test at c.in-Ok-false.ensures) c.requires.0 c.requires.1 c.requires.2 c.requires.3 in
+    rw (done.0, done.1) c.requires.3.opened.readable
+
+pub close-requires-clause-writable : goal.close-requires-clause-writable
+close-requires-clause-writable g c =
+    let done = (rw c.in-Ok-false.field-0-test at c.in-Ok-false.ensures) c.requires.0 c.requires.1 c.requires.2 c.requires.3 in
+    rw (done.0, done.1) c.requires.3.opened.writable
+
+pub close-requires-in-Err-clause-readable : goal.close-requires-in-Err-clause-readable
+close-requires-in-Err-clause-readable g c = (c.in-Err.ensures c.requires.0 c.requires.1 c.requires.2 c.requires.3).opened.readable
+
+pub close-requires-in-Err-clause-writable : goal.close-requires-in-Err-clause-writable
+close-requires-in-Err-clause-writable g c = (c.in-Err.ensures c.requires.0 c.requires.1 c.requires.2 c.requires.3).opened.writable
+
+pub returns-in-Ok-true : goal.returns-in-Ok-true
+returns-in-Ok-true g c = rw c.in-Ok-true.field-0-test at c.in-Ok-true.ensures
+
+pub returns-in-Ok : goal.returns-in-Ok
+returns-in-Ok g c = λ s n past x.
+    let done = (rw c.in-Ok-false.field-0-test at c.in-Ok-false.ensures) s n past x in
+    let totals = ap (λ (r : Replaying). r.totals) c.replay.view_is in
+    rw totals (next_ends x done.0 done.1 done.2 c.in-Ok.ensures)
+
+pub returns-in-Err-close : goal.returns-in-Err-close
+returns-in-Err-close g c = λ s n past x.
+    let done = (rw c.in-Ok-false.field-0-test at c.in-Ok-false.ensures) s n past x in
+    (λ e. absurd cc, next_end_fails x done.0 done.1 c.in-Err-close.ensures)
+
+pub returns-in-Err : goal.returns-in-Err
+returns-in-Err g c = λ s n past x.
+    let halted = c.in-Err.ensures s n past x in
+    (not_memory s _ n _ c.in-Err.stop halted.stops, stopped c.close-in-Err.result halted c.close-in-Err.ensures)
