@@ -18,3 +18,4 @@ pub mod Filling
 pub mod Closing
 pub mod Opening
 pub mod Orders
+pub mod Lent

@@ -7,3 +7,4 @@ pub mod Merge
 pub mod Reading
 pub mod Buffered
 pub mod Inputs
+pub mod Lending
