@@ -1,6 +1,7 @@
 -- What bytes written over a frame leave.
 use Rattle.std.proofs.Common.{◌≡◌, ℕ, zero, suc, ◌+◌, ◌≤◌, refl, ◌∙◌, sym, ap, List, [], ◌∷◌, ◌++◌, length, take, drop, arith}
 use Rattle.std.proofs.lemmas.List.{take-take, take-append-le, length-append, length-drop, length-take-le}
+use Rattle.vg_pcap.specs.Reader.{Reader}
 use Rattle.vg_pcap.specs.Lending.{over}
 
 -- what stands behind a place doesn't matter up to there
@@ -31,3 +32,7 @@ over_whole (b ∷ old) (x ∷ w) same = ap (λ (xs : List ℕ). x ∷ xs) (over_
 -- as many bytes stay as there were
 pub length-over : (old w : List ℕ) → length (over old w) ≡ length old
 length-over old w = length-take-le (length old) (w ++ drop (length w) old) (omega (arith, length-append w (drop (length w) old), length-drop (length w) old))
+
+-- the same reader, but that its last frame has these bytes
+abbrev pub with_last : Reader → List ℕ → Reader
+with_last r bytes = record r { frame = record r.frame { bytes = bytes } }

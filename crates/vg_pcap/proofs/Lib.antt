@@ -19,3 +19,4 @@ pub mod Closing
 pub mod Opening
 pub mod Orders
 pub mod Lent
+pub mod NextPort

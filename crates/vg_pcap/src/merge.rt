@@ -85,7 +85,7 @@ impl PortInput {
 
 impl Merge {
     ghost use Rattle.std.specs.Borrow.{sem};
-    ghost use Rattle.vg_pcap.specs.Lending.{LendsNext};
+    ghost use Rattle.vg_pcap.specs.Lending.{LendsNext, IsWritten, with_next};
 
     /// Opens the captures of these names, that of port 0 first, and reads their headers. All memory is taken here. The name `-` is a port at which nothing
     /// comes in.
@@ -152,6 +152,7 @@ impl Merge {
         requires { (a : Arrival) × IsNext self.old a }
         ensures* writes_back { sem 𝓛 (LendsNext self.entry result) }
         ensures value { (a : Arrival) → IsNext self.old a → result.now ≡ a.frame.bytes }
+        ensures written { (a : Arrival) (bytes : List ℕ) → IsNext self.old a → length bytes ≡ length a.frame.bytes → IsWritten self.old (with_next self.old bytes) a bytes }
     {
         let Some(port) = self.next_port() else {
             unreachable!()
