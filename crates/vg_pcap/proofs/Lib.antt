@@ -18,3 +18,5 @@ pub mod Streams
 pub mod Starting
 pub mod Written
 pub mod Laws
+pub mod Lent
+pub mod NextPort

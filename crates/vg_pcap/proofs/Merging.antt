@@ -310,13 +310,13 @@ one_next {inputs} {a} {b} x y =
     let second-2 : Precedes b a = subst (λ (f : Framed). Precedes b (record { port = a.port; frame = f })) (sym x.frame) second in
     Precedes-antisym a b first-2 second-2
 
--- where the bytes of the next frame are changed, the next port stays
-pub same_next : {came old : List Input} {a b : Arrival} → IsChanged came old a → IsNext old b → a.port ≡ b.port
-same_next {came} {old} {a} {b} changed next =
+-- where the bytes of the next frame are changed, it is still next
+pub still_next : {came old : List Input} {a : Arrival} (changed : IsChanged came old a) →
+    IsNext old (record { port = a.port; frame = record a.frame { bytes = (changed.bytes changed.next.input changed.next.at).0 } })
+still_next {came} {old} {a} changed =
     let bytes = changed.bytes changed.next.input changed.next.at in
     let now : Input = record changed.next.input { reader = record changed.next.input.reader { frame = record a.frame { bytes = bytes.0 } } } in
-    let here : Arrival = record { port = a.port; frame = now.reader.frame } in
-    let first : IsNext old here = record {
+    record {
       input = now;
       at = bytes.2;
       waits = changed.next.waits;
@@ -327,8 +327,11 @@ same_next {came} {old} {a} {b} changed next =
           inr (ap (λ (i : Input). i.reader.frame.time) is, le_of_eq (sym e)))
           (λ (ne : port ≢ a.port). changed.next.least port other (sym (changed.others port ne) ∙ at) waits)
           (cases_eq port a.port);
-    } in
-    one_next first next
+    }
+
+-- and the next port stays
+pub same_next : {came old : List Input} {a b : Arrival} → IsChanged came old a → IsNext old b → a.port ≡ b.port
+same_next changed next = one_next (still_next changed) next
 
 -- ---- the calls
 

@@ -7,3 +7,4 @@ pub mod Merge
 pub mod Inputs
 pub mod Reading
 pub mod Buffered
+pub mod Lending

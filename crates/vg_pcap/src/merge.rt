@@ -54,6 +54,17 @@ impl Model for PortInput {
 }
 
 impl PortInput {
+    ghost use Rattle.std.specs.Borrow.{sem};
+    ghost use Rattle.vg_pcap.specs.Lending.{LendsInput};
+
+    // The bytes of the last frame, to be changed in place.
+    fn frame_mut(&mut self) -> &mut [u8]
+        ensures* writes_back { sem 𝓛 (LendsInput self.entry result) }
+        ensures value { result.now ≡ self.old.reader.frame.bytes }
+    {
+        self.reader.frame_mut()
+    }
+
     // Reads the next record, in place of the last one.
     fn refill<F: Files>(&mut self, files: &mut F) -> Result<(), CaptureFault>
         requires { IsReadable (F.disk files.old) self.old.reader.id }
@@ -73,6 +84,9 @@ impl PortInput {
 }
 
 impl Merge {
+    ghost use Rattle.std.specs.Borrow.{sem};
+    ghost use Rattle.vg_pcap.specs.Lending.{LendsNext, IsWritten, with_next};
+
     /// Opens the captures of these names, that of port 0 first, and reads their headers. All memory is taken here. The name `-` is a port at which nothing
     /// comes in.
     ///
@@ -133,6 +147,20 @@ impl Merge {
         ensures { (a : Arrival) → IsNext self.now a → result.now ≡ a.frame.bytes }
     {
         self.next_input().reader.frame()
+    }
+
+    /// The bytes of the next frame, to be changed in place.
+    pub fn frame_mut(&mut self) -> &mut [u8]
+        requires { (a : Arrival) × IsNext self.old a }
+        ensures* writes_back { sem 𝓛 (LendsNext self.entry result) }
+        ensures value { (a : Arrival) → IsNext self.old a → result.now ≡ a.frame.bytes }
+        ensures written { (a : Arrival) (bytes : List ℕ) → IsNext self.old a → length bytes ≡ length a.frame.bytes → IsWritten self.old (with_next self.old bytes) a bytes }
+    {
+        let Some(port) = self.next_port() else {
+            unreachable!()
+        };
+        let input = &mut self.inputs[port as usize];
+        input.frame_mut()
     }
 
     /// When the next frame came, in nanoseconds.

@@ -50,6 +50,9 @@ impl Model for CaptureReader {
 }
 
 impl CaptureReader {
+    ghost use Rattle.std.specs.Borrow.{sem};
+    ghost use Rattle.vg_pcap.specs.Lending.{LendsFrame};
+
     /// Opens a capture and reads its header. All memory is taken here: what is read ahead, and room for the longest frame.
     ///
     /// `Header` names the part of the header that is refused; `Read` comes where the file couldn't be opened or read, `Memory` where there is none.
@@ -136,6 +139,14 @@ impl CaptureReader {
         ensures { result.now ≡ self.now.frame.bytes }
     {
         &self.frame[..self.captured as usize]
+    }
+
+    /// The bytes of the frame that was read last, to be changed in place.
+    pub fn frame_mut(&mut self) -> &mut [u8]
+        ensures* writes_back { sem 𝓛 (LendsFrame self.entry result) }
+        ensures value { result.now ≡ self.old.frame.bytes }
+    {
+        self.frame.slice_mut(..self.captured as usize)
     }
 
     /// When it came, in nanoseconds: the latest time of a record so far.
