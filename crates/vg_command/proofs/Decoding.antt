@@ -1,11 +1,11 @@
 -- Words spell one command at most: the one that is decoded from them.
-use Rattle.std.proofs.Common.{◌≡◌, ◌∙◌, ◌<◌, ◌≤◌, ◌+◌, ◌*◌, ◌/◌, ◌^◌, ℕ, List, [], ◌∷◌, ◌++◌, length, take, drop, codes, decimal, cond, Option, Some, None, IfNone, refl, sym, ap, arith, subst}
+use Rattle.std.proofs.Common.{◌≡◌, ◌∙◌, ◌<◌, ◌/◌, ◌^◌, ℕ, List, [], ◌∷◌, ◌++◌, length, take, drop, codes, decimal, cond, Option, Some, None, IfNone, refl, sym, ap, arith}
 use Rattle.std.specs.Str.{bytes_eq}
 use Rattle.std.specs.Str.Parse.{digits_value}
 use Rattle.std.proofs.lemmas.Fmt.{decimal_is_IsNumeral}
 use Rattle.std.proofs.lemmas.List.{length-append}
 use Rattle.std.proofs.Math.Seq.{take-append_seam, drop-append_seam}
-use Rattle.vg_command.specs.Commands.{Files, file_words, AreFiles, Command, Run, Verify, Check, Replay, Try, Rerun, Show, Bench, words_of, IsAllowed, Spells, SpellsNone}
+use Rattle.vg_command.specs.Commands.{Files, file_words, Command, Run, Verify, Check, Replay, Try, Rerun, Show, Bench, words_of, IsAllowed, Spells, SpellsNone}
 use Rattle.vg_command.specs.Reading.{Splits}
 
 -- files by their words, where those of captures that come in are one half of the rest

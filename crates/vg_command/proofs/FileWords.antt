@@ -1,11 +1,9 @@
 -- The words of files, taken apart in one way only.
-use Rattle.std.proofs.Common.{◌≡◌, ◌∙◌, ◌≤◌, ◌+◌, ◌-◌, ◌*◌, ℕ, zero, suc, List, [], ◌∷◌, ◌++◌, length, take, drop, get_or, refl, sym, ap, arith, subst}
+use Rattle.std.proofs.Common.{◌≡◌, ◌∙◌, ◌≤◌, ◌-◌, ℕ, List, [], ◌∷◌, ◌++◌, length, take, drop, get_or, refl, sym, ap, arith, subst}
 use Rattle.std.specs.Prelude.{String, string_bytes}
 use Rattle.std.specs.declared.alloc.Global.{Global}
 use Rattle.std.proofs.lemmas.List.{length-append, length-drop, take-append-drop, take_all, map-append}
 use Rattle.vg_command.specs.Commands.{words_in, Files, file_words, AreFiles}
-use Rattle.vg_command.specs.Reading.{Splits}
-use Rattle.vg_command.proofs.WordLists.{length-words_in}
 
 -- two lists joined are parted at one place only
 pub parted : {A : Type 0} (xs ys xs' ys' : List A) → length xs ≡ length xs' → xs ++ ys ≡ xs' ++ ys' → (xs ≡ xs') × (ys ≡ ys')

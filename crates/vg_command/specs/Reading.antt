@@ -1,10 +1,14 @@
 -- What the functions answer that read parts of a command's words. No public clause rests on this file.
-use Rattle.std.specs.Prelude.{ℕ, ◌≡◌, ◌<◌, ◌⊎◌, List, length, slice_index}
-use Rattle.vg_command.specs.Commands.{Files, file_words, AreFiles}
+use Rattle.std.specs.Prelude.{ℕ, ◌≡◌, ◌<◌, ◌⊎◌, List, All, length, slice_index}
+use Rattle.vg_command.specs.Commands.{Files, file_words, inputs, IsName, IsNoneOf, AreFiles}
 
 -- a word begins with a plus sign, or with a zero and goes on
 abbrev pub BeginsAmiss : List ℕ → Type 0
 BeginsAmiss word = (slice_index word 0 ≡ 43) ⊎ ((slice_index word 0 ≡ 48) × (1 < length word))
+
+-- the captures that go out have names, which no input has
+abbrev pub AreOutputs : Files → Type 0
+AreOutputs n = All IsName n.outs × All (IsNoneOf (inputs n)) n.outs
 
 -- these are files that a command may have, and the words name them
 pub record Splits (c spec : List ℕ) (words : List (List ℕ)) (n : Files) : Type 0 where

@@ -3,8 +3,7 @@ ghost use Rattle.std.specs.Prelude.{IfSome, IfNone};
 ghost use Rattle.vg_command.specs.Commands.{words_in, Spells, SpellsNone};
 ghost use Rattle.vg_command.specs.View.{command_of};
 
-use crate::captures::{replay_in, run_in, try_in};
-use crate::others::{bench_in, check_in, rerun_in, show_in, verify_in};
+use crate::forms::{bench_in, check_in, replay_in, rerun_in, run_in, show_in, try_in, verify_in};
 
 /// The files of a command that handles captures, by their names. There are as many captures in as out, one for each port.
 #[derive(Clone, Copy)]
@@ -69,11 +68,19 @@ pub enum Command<'a> {
 
 /// The command that the words of a command line spell, or nothing where they spell none.
 ///
-/// The first word names the command, and the next ones are as its variant has them: `run C SPEC CONF LOG IN.. OUT..`,
-/// `verify C SPEC CERT LIMIT`, `check C SPEC CERT`, `replay C SPEC CERT CONF LOG IN.. OUT..`, `try C SPEC CONF LOG IN.. OUT..`,
-/// `rerun C SPEC FILE`, `show NAME PART` and `bench NAME SEED COUNT`. There are 1 to 16 IN words and as many OUT words. CONF and
-/// IN alone may be `-`, and a file that is written is named by no other word, byte for byte. Numbers are decimal, without leading
-/// zeros: LIMIT is 1 to 10,000,000, SEED below 2^64, COUNT 1 to 1,000,000.
+/// The first word names the command, and the next ones are as here:
+///
+/// - `run C SPEC CONF LOG IN.. OUT..`, and `try` with the same words
+/// - `replay C SPEC CERT CONF LOG IN.. OUT..`
+/// - `verify C SPEC CERT LIMIT`
+/// - `check C SPEC CERT`
+/// - `rerun C SPEC FILE`
+/// - `show NAME PART`
+/// - `bench NAME SEED COUNT`
+///
+/// There are 1 to 16 IN words and as many OUT words. CONF and IN alone may be `-`. A file that is written is named by no
+/// other word, byte for byte. Numbers are decimal, without leading zeros: LIMIT is 1 to 10,000,000, SEED below 2^64,
+/// COUNT 1 to 1,000,000.
 pub fn command_in(words: &[String]) -> Option<Command<'_>>
     ensures command { IfSome result (λ command. Spells (words_in words.now) (command_of command)) }
     ensures none { IfNone result (SpellsNone (words_in words.now)) }

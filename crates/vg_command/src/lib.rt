@@ -1,11 +1,11 @@
 //! The command line: which words spell which command.
 #![tactic(auto)]
 
-mod captures;
 mod command;
+mod forms;
 mod names;
 mod numbers;
-mod others;
+mod shipped;
 
 pub use command::{Command, FileNames, command_in};
 

@@ -1,8 +1,8 @@
 //! The files that words name.
 ghost use Rattle.std.specs.Prelude.{◌≡◌, ◌≢◌, ◌↔◌, [], ◌∷◌, length, IsTrue, IfSome, IfNone, All, AllPairs};
-ghost use Rattle.vg_command.specs.Commands.{words_in, IsName, IsNoneOf, AreFiles};
+ghost use Rattle.vg_command.specs.Commands.{words_in, inputs, IsName, IsNoneOf, AreFiles};
 ghost use Rattle.vg_command.specs.View.{files_of};
-ghost use Rattle.vg_command.specs.Reading.{Splits, SplitsNone};
+ghost use Rattle.vg_command.specs.Reading.{AreOutputs, Splits, SplitsNone};
 
 use crate::command::FileNames;
 
@@ -23,14 +23,15 @@ pub fn are_names(one: &str, two: &str, three: &str) -> bool
     is_name(one) && is_name(two) && is_name(three)
 }
 
+// Whether two names are the same, byte for byte.
 fn is_same(a: &str, b: &str) -> bool
     ensures { IsTrue result ↔ (a.now ≡ b.now) }
 {
     a == b
 }
 
-/// Whether a name is none of these words.
-pub fn is_none_of(name: &str, words: &[String]) -> bool
+// Whether a name is none of these words.
+fn is_none_of(name: &str, words: &[String]) -> bool
     ensures { IsTrue result ↔ IsNoneOf (words_in words.now) name.now }
 {
     for word in words {
@@ -70,7 +71,7 @@ fn are_apart(words: &[String]) -> bool
 
 // Whether a name is that of no text, and of no capture that comes in.
 fn is_no_input(name: &str, n: &FileNames<'_>) -> bool
-    ensures { IsTrue result ↔ IsNoneOf (n.now.c.now ∷ n.now.spec.now ∷ n.now.conf.now ∷ words_in n.now.ins.now) name.now }
+    ensures { IsTrue result ↔ IsNoneOf (inputs (files_of n.now)) name.now }
 {
     if is_same(name, n.c) || is_same(name, n.spec) || is_same(name, n.conf) {
         return false;
@@ -80,7 +81,7 @@ fn is_no_input(name: &str, n: &FileNames<'_>) -> bool
 
 // Whether each capture that goes out has a name, which no input has.
 fn are_outputs(n: &FileNames<'_>) -> bool
-    ensures { IsTrue result ↔ (All IsName (words_in n.now.outs.now) × All (IsNoneOf (n.now.c.now ∷ n.now.spec.now ∷ n.now.conf.now ∷ words_in n.now.ins.now)) (words_in n.now.outs.now)) }
+    ensures { IsTrue result ↔ AreOutputs (files_of n.now) }
 {
     for out in n.outs {
         let name = out.as_str();

@@ -1,7 +1,6 @@
-use Rattle.std.proofs.Common.{ℕ, List, ◌∷◌, ◌≢◌, ◌∙◌, length, sym, arith}
+use Rattle.std.proofs.Common.{◌≢◌, ◌∙◌, length, sym, arith}
 use Rattle.std.proofs.lemmas.Bool.{false≢true, eqb-false}
-use Rattle.vg_command.specs.Commands.{words_in, AreFiles}
-use Rattle.vg_command.specs.View.{files_of}
+use Rattle.vg_command.specs.Commands.{words_in}
 use Rattle.vg_command.proofs.WordLists.{length-words_in, none_of-outs, none_of-front, none_of-back, refuted}
 use Rattle.vg_command.proofs.names.are_files.Goals as goal
 use Rattle.vg_command.proofs.names.are_files.Goals.{then-not-is_no_input-via-then-not-is_no_input, then-not-is_no_input-via-else-not-is_no_input+then-not-is_none_of}

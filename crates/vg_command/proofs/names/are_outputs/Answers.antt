@@ -1,4 +1,4 @@
-use Rattle.std.proofs.Common.{ℕ, List, ◌∷◌, refl, arith}
+use Rattle.std.proofs.Common.{◌∷◌, refl, arith}
 use Rattle.std.proofs.lemmas.Bool.{false≢true}
 use Rattle.vg_command.specs.Commands.{words_in, IsName, IsNoneOf}
 use Rattle.vg_command.proofs.WordLists.{text_at, before-more, all-before, all-at, there, refuted}

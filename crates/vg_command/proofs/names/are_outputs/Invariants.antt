@@ -1,4 +1,4 @@
-use Rattle.std.proofs.Common.{◌≡◌, ℕ, ◌<◌, List, ◌∷◌, get_or}
+use Rattle.std.proofs.Common.{ℕ, ◌<◌, List, ◌∷◌, get_or}
 use Rattle.vg_command.specs.Commands.{words_in, IsName, IsNoneOf}
 use Rattle.vg_command.proofs.names.are_outputs.Given as goal
 

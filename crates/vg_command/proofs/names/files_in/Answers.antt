@@ -1,4 +1,4 @@
-use Rattle.std.proofs.Common.{◌≡◌, ◌∙◌, sym, ap, arith}
+use Rattle.std.proofs.Common.{◌≡◌, ◌∙◌, sym, arith}
 use Rattle.vg_command.specs.Commands.{Files, words_in, file_words}
 use Rattle.vg_command.proofs.WordLists.{length-words_in, refuted}
 use Rattle.vg_command.proofs.FileWords.{split_once, pieces}

@@ -1,4 +1,3 @@
-use Rattle.std.proofs.Common.{◌≡◌, Bool, false, List, ℕ}
 use Rattle.std.proofs.lemmas.Bool.{false≢true}
 use Rattle.vg_command.specs.Commands.{words_in}
 use Rattle.vg_command.proofs.WordLists.{none_of-inputs, none_of-parts, refuted}

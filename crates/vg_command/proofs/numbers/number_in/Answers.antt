@@ -1,4 +1,4 @@
-use Rattle.std.proofs.Common.{◌∙◌, sym, ap}
+use Rattle.std.proofs.Common.{sym}
 use Rattle.vg_command.proofs.WordLists.{refuted}
 use Rattle.vg_command.proofs.NumberWords.{amiss, written, unread}
 use Rattle.vg_command.proofs.numbers.number_in.Goals as goal

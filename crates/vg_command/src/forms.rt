@@ -1,11 +1,12 @@
-//! The commands that handle no captures of the command line.
-ghost use Rattle.std.specs.Prelude.{◌↔◌, ◌∷◌, codes, IsTrue, IfSome, IfNone, Contains};
-ghost use Rattle.vg_command.specs.Commands.{words_in, Spells, SpellsNone, shipped, parts};
+//! The forms of the commands: what the words after a command's name spell.
+ghost use Rattle.std.specs.Prelude.{◌∷◌, codes, IfSome, IfNone};
+ghost use Rattle.vg_command.specs.Commands.{words_in, Spells, SpellsNone};
 ghost use Rattle.vg_command.specs.View.{command_of};
 
 use crate::command::Command;
-use crate::names::{are_names, is_neither};
+use crate::names::{are_names, files_in, is_name, is_neither, is_no_output};
 use crate::numbers::{count_in, number_in};
+use crate::shipped::{is_part, is_shipped};
 
 // The most learned clauses that may be allowed for a question.
 const MOST_CLAUSES: u32 = 10_000_000;
@@ -13,21 +14,16 @@ const MOST_CLAUSES: u32 = 10_000_000;
 // The most frames that may be made.
 const MOST_FRAMES: u32 = 1_000_000;
 
-// Whether a word is the name of a shipped function.
-fn is_shipped(name: &str) -> bool
-    ensures { IsTrue result ↔ Contains shipped name.now }
+/// What the words after `run` spell: `C SPEC CONF LOG IN.. OUT..`.
+pub fn run_in(words: &[String]) -> Option<Command<'_>>
+    ensures command { IfSome result (λ command. Spells (codes "run" ∷ words_in words.now) (command_of command)) }
+    ensures none { IfNone result (SpellsNone (codes "run" ∷ words_in words.now)) }
 {
-    matches!(
-        name,
-        "nat" | "bridge" | "firewall" | "policer" | "balancer" | "router"
-    )
-}
-
-// Whether a word is the name of a text of each shipped function.
-fn is_part(part: &str) -> bool
-    ensures { IsTrue result ↔ Contains parts part.now }
-{
-    matches!(part, "c" | "spec" | "conf")
+    let [c, spec, rest @ ..] = words else {
+        return None;
+    };
+    let files = files_in(c.as_str(), spec.as_str(), rest)?;
+    Some(Command::Run(files))
 }
 
 /// What the words after `verify` spell: `C SPEC CERT LIMIT`.
@@ -69,6 +65,35 @@ pub fn check_in(words: &[String]) -> Option<Command<'_>>
     } else {
         None
     }
+}
+
+/// What the words after `replay` spell: `C SPEC CERT CONF LOG IN.. OUT..`.
+pub fn replay_in(words: &[String]) -> Option<Command<'_>>
+    ensures command { IfSome result (λ command. Spells (codes "replay" ∷ words_in words.now) (command_of command)) }
+    ensures none { IfNone result (SpellsNone (codes "replay" ∷ words_in words.now)) }
+{
+    let [c, spec, certificate, rest @ ..] = words else {
+        return None;
+    };
+    let certificate = certificate.as_str();
+    let files = files_in(c.as_str(), spec.as_str(), rest)?;
+    if is_name(certificate) && is_no_output(certificate, &files) {
+        Some(Command::Replay { certificate, files })
+    } else {
+        None
+    }
+}
+
+/// What the words after `try` spell: `C SPEC CONF LOG IN.. OUT..`.
+pub fn try_in(words: &[String]) -> Option<Command<'_>>
+    ensures command { IfSome result (λ command. Spells (codes "try" ∷ words_in words.now) (command_of command)) }
+    ensures none { IfNone result (SpellsNone (codes "try" ∷ words_in words.now)) }
+{
+    let [c, spec, rest @ ..] = words else {
+        return None;
+    };
+    let files = files_in(c.as_str(), spec.as_str(), rest)?;
+    Some(Command::Try(files))
 }
 
 /// What the words after `rerun` spell: `C SPEC FILE`.

@@ -4,8 +4,8 @@ use Rattle.std.specs.Str.Parse.{digits_value}
 use Rattle.vg_command.specs.Commands.{words_in, Verify}
 use Rattle.vg_command.proofs.WordLists.{text_at, length-words_in, four, refuted}
 use Rattle.vg_command.proofs.Decoding.{decoded, none_by, if_none}
-use Rattle.vg_command.proofs.others.verify_in.Goals as goal
-use Rattle.vg_command.proofs.others.verify_in.Goals.{then-not-are_names-via-then-not-are_names, then-not-are_names-via-else-not-are_names+then-not-is_neither}
+use Rattle.vg_command.proofs.forms.verify_in.Goals as goal
+use Rattle.vg_command.proofs.forms.verify_in.Goals.{then-not-are_names-via-then-not-are_names, then-not-are_names-via-else-not-are_names+then-not-is_neither}
 
 pub returns-then-not-are_names-clause-none : goal.returns-then-not-are_names-clause-none
 returns-then-not-are_names-clause-none c =

@@ -1,4 +1,4 @@
-use Rattle.std.proofs.Common.{◌≡◌, ◌≤◌, ◌∙◌, ℕ, List, [], ◌∷◌, codes, length, drop, ap, sym, arith}
+use Rattle.std.proofs.Common.{◌≤◌, ◌∙◌, ℕ, List, ◌∷◌, codes, length, ap, sym, arith}
 use Rattle.std.specs.Prelude.{string_bytes}
 use Rattle.std.proofs.lemmas.List.{drop-map}
 use Rattle.vg_command.specs.Commands.{words_in, Replay}
@@ -6,8 +6,8 @@ use Rattle.vg_command.specs.View.{files_of}
 use Rattle.vg_command.proofs.WordLists.{text_at, length-words_in, three_and, refuted}
 use Rattle.vg_command.proofs.FileWords.{to_end}
 use Rattle.vg_command.proofs.Decoding.{none_by, found-replay}
-use Rattle.vg_command.proofs.captures.replay_in.Goals as goal
-use Rattle.vg_command.proofs.captures.replay_in.Goals.{else-is_name-via-then-is_name+else-is_no_output, else-is_name-via-else-is_name}
+use Rattle.vg_command.proofs.forms.replay_in.Goals as goal
+use Rattle.vg_command.proofs.forms.replay_in.Goals.{else-is_name-via-then-is_name+else-is_no_output, else-is_name-via-else-is_name}
 
 pub returns-else-is_name-clause-none : goal.returns-else-is_name-clause-none
 returns-else-is_name-clause-none c =
