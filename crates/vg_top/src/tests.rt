@@ -82,7 +82,7 @@ fn ran(
     held.push(named(alloc, "swap.spec", spec)?)?;
     held.push(named(alloc, "in0", captures.0)?)?;
     held.push(named(alloc, "in1", captures.1)?)?;
-    let mut files = MemFiles::new(alloc, held, 7, 1000, Vec::from_slice(alloc, &[fails])?)?;
+    let mut files = MemFiles::new(alloc, held, 8, 1000, Vec::from_slice(alloc, &[fails])?)?;
     let mut out = MemSink::new(alloc, 1000, Vec::new(alloc))?;
     let words = words_of(alloc, line)?;
     let status = run(alloc, words.as_slice(), &mut files, &mut out);
