@@ -28,21 +28,28 @@ def make(name, port):
             out.write(body[:size])
 
 
+def fields(child, name):
+    """The fields of a file about a process, by their names."""
+    try:
+        with open(f"/proc/{child}/{name}") as lines:
+            return dict(line.rstrip().split(":", 1) for line in lines)
+    except OSError:
+        return {}
+
+
 def run(words):
     start = time.monotonic()
     child = os.posix_spawnp(words[0], words, os.environ)
-    # The child has ended, but its counts are still there.
-    os.waitid(os.P_PID, child, os.WEXITED | os.WNOWAIT)
+    # The most memory that it held is asked for while it runs. When it has ended, its other counts are still there.
+    most = "-"
+    while os.waitid(os.P_PID, child, os.WEXITED | os.WNOWAIT | os.WNOHANG) is None:
+        most = fields(child, "status").get("VmHWM", most)
+        time.sleep(0.02)
     wall = time.monotonic() - start
-    counts = {}
-    try:
-        with open(f"/proc/{child}/io") as lines:
-            counts = dict(line.split(": ") for line in lines)
-    except OSError:
-        pass
+    counts = fields(child, "io")
     _, status, usage = os.wait4(child, 0)
     calls = [counts.get(name, "-").strip() for name in ("syscw", "syscr")]
-    print(f"{wall:.2f} {usage.ru_utime:.2f}", *calls, usage.ru_maxrss)
+    print(f"{wall:.2f} {usage.ru_utime:.2f}", *calls, most.split()[0])
     return os.waitstatus_to_exitcode(status)
 
 

@@ -21,7 +21,7 @@ least() {
 }
 
 for _ in 1 2 3; do
-    python3 "$measure" run "$top/bin/vigor" run swap.c swap.spec - log in0 in1 out0 out1 >>printed || exit 1
+    python3 "$measure" run "$top/crates/vigor/out/vigor" run swap.c swap.spec - log in0 in1 out0 out1 >>printed || exit 1
     if command -v mergecap >/dev/null; then
         python3 "$measure" run mergecap -F nsecpcap -w merged in0 in1 >>merges || exit 1
     fi
