@@ -8,8 +8,8 @@ words_in words = map string_bytes words
 
 -- ---- the files of a command that handles captures
 
--- a C text, its specification and configuration, a log, and the captures that come in and go out, by port; `-` stands for a configuration without
--- text, and for a port at which nothing comes in
+-- a C text, its specification and configuration, a log, and the captures that come in and go out, by port; `-` stands
+-- for a configuration without text, and for a port at which nothing comes in
 pub record Files : Type 0 where
   pub c : List ℕ
   pub spec : List ℕ
@@ -22,6 +22,10 @@ pub record Files : Type 0 where
 abbrev pub file_words : Files → List (List ℕ)
 file_words n = n.conf ∷ n.log ∷ n.ins ++ n.outs
 
+-- those that are read
+abbrev pub inputs : Files → List (List ℕ)
+inputs n = n.c ∷ n.spec ∷ n.conf ∷ n.ins
+
 -- a word names a file
 abbrev pub IsName : List ℕ → Type 0
 IsName word = word ≢ codes "-"
@@ -30,8 +34,8 @@ IsName word = word ≢ codes "-"
 abbrev pub IsNoneOf : List (List ℕ) → List ℕ → Type 0
 IsNoneOf others name = All (λ other. name ≢ other) others
 
--- there are 1 to 16 ports; each word but a configuration's and a capture's that comes in is a name, and a file that is written has a name of its own,
--- byte for byte
+-- there are 1 to 16 ports; each word but a configuration's and a capture's that comes in is a name, and a file that is
+-- written has a name of its own, byte for byte
 pub record AreFiles (n : Files) : Type 0 where
   pub ports : length n.ins ≡ length n.outs
   pub some : 1 ≤ length n.ins
@@ -40,8 +44,8 @@ pub record AreFiles (n : Files) : Type 0 where
   pub spec : IsName n.spec
   pub log : IsName n.log
   pub outs : All IsName n.outs
-  pub own_log : IsNoneOf (n.c ∷ n.spec ∷ n.conf ∷ n.ins ++ n.outs) n.log
-  pub own_outs : All (IsNoneOf (n.c ∷ n.spec ∷ n.conf ∷ n.ins)) n.outs
+  pub own_log : IsNoneOf (inputs n ++ n.outs) n.log
+  pub own_outs : All (IsNoneOf (inputs n)) n.outs
   pub apart : AllPairs ◌≢◌ n.outs
 
 -- ---- the commands

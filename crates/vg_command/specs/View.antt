@@ -1,5 +1,4 @@
 -- What contracts see of a command in memory.
-use Rattle.std.specs.Prelude.{map, string_bytes}
 use Rattle.vg_command.specs.Commands.{Files, words_in}
 use Rattle.vg_command.specs.Commands as commands
 use Rattle.vg_command.specs.declared.command.FileNames.{FileNames}

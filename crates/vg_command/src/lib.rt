@@ -2,6 +2,12 @@
 #![tactic(auto)]
 
 mod command;
-mod ffi;
+mod forms;
+mod names;
+mod numbers;
+mod shipped;
 
 pub use command::{Command, FileNames, command_in};
+
+#[cfg(test)]
+mod tests;

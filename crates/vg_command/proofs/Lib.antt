@@ -1,0 +1,4 @@
+mod WordLists
+mod NumberWords
+mod FileWords
+pub mod Decoding
