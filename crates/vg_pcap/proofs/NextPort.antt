@@ -1,12 +1,11 @@
 -- The port of the next frame as a function of the inputs, and what is left where its bytes are changed.
 use Rattle.std.specs.Prelude.{nat_lt}
-use Rattle.std.proofs.Common.{◌≡◌, ◌≢◌, ℕ, zero, suc, ◌+◌, ◌<◌, ◌≤◌, ◌⊎◌, inl, inr, ⊎_elim, refl, ◌∙◌, sym, ap, subst, List, [], ◌∷◌, length, set, All, slice_get, if◌then◌else◌, Bool, true, false, Some, None, Option, arith, length-set, true≢false}
+use Rattle.std.proofs.Common.{◌≡◌, ℕ, zero, suc, ◌+◌, ◌<◌, ◌≤◌, inl, inr, ⊎_elim, refl, ◌∙◌, sym, ap, subst, List, [], ◌∷◌, length, set, slice_get, if◌then◌else◌, Bool, true, false, Some, None, Option, arith, length-set, true≢false}
 use Rattle.std.proofs.lemmas.Bool.{cases_lt, ltb-true, ltb-false}
 use Rattle.std.proofs.lemmas.List.Elements.{All-set}
 use Rattle.std.proofs.lemmas.Option.{same_Some, slice_get_within}
 use Rattle.vg_pcap.specs.Frames.{Framed}
 use Rattle.vg_pcap.specs.Arrivals.{Arrival, Precedes}
-use Rattle.vg_pcap.specs.Reader.{Reader}
 use Rattle.vg_pcap.specs.Merge.{Input, IsNext, IsChanged, waiting_at}
 use Rattle.vg_pcap.specs.Inputs.{AreInputs, IsSound}
 use Rattle.vg_pcap.specs.Lending.{over, with_written, Waiting, first_of, next_from, written_at, with_next, IsWritten}
@@ -61,6 +60,7 @@ first_here port i inputs w later = record { place = 0; is = omega arith; at = re
         (λ (lt : i.reader.frame.time < other.reader.frame.time). inl lt)
         (λ (ge : other.reader.frame.time ≤ i.reader.frame.time). let same : i.reader.frame.time ≡ other.reader.frame.time = omega arith in inr (same, low))
         (cases_lt i.reader.frame.time other.reader.frame.time)
+
     least : (q p : ℕ) (other : Input) → p ≡ port + q → slice_get (i ∷ inputs) q ≡ Some other → other.waits ≡ true → Precedes (waiting_at port i) (waiting_at p other)
     least zero p other e at waits =
         let same : i.reader.frame.time ≡ other.reader.frame.time = ap (λ (o : Input). o.reader.frame.time) (same_Some i other at) in
@@ -161,7 +161,7 @@ written_next {inputs} {a} bytes next same =
         bytes,
         same,
         slice_get-set_same inputs a.port now lt
-        ∙ ap (λ (i : Input). Some (record i { reader = record i.reader { frame = record a.frame { bytes = bytes } } })) (same_Some input x (sym next.at ∙ at)),
+            ∙ ap (λ (i : Input). Some (record i { reader = record i.reader { frame = record a.frame { bytes = bytes } } })) (same_Some input x (sym next.at ∙ at)),
       );
     } in
     let all : with_next inputs bytes ≡ set inputs a.port now = with_next_is next bytes ∙ ap (set inputs a.port) is in

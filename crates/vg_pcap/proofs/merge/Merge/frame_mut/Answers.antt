@@ -17,8 +17,7 @@ returns c =
     let next = c.in-Some.ensures.next.1 in
     let x = c.index_mut-input.result.now in
     let lt : c.in-Some.port < length items = slice_get_within items c.in-Some.port next.input next.at in
-    let at : slice_get items c.in-Some.port ≡ Some x = slice_get_read items (length items) c.in-Some.port x refl lt c.index_mut-input.ensures.value in
-    (
+    let at : slice_get items c.in-Some.port ≡ Some x = slice_get_read items (length items) c.in-Some.port x refl lt c.index_mut-input.ensures.value in (
       (refl, λ w. rw (← c.self.view_is) (lent_next x w next at)),
       record {
         writes_back = tt;
