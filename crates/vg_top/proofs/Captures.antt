@@ -1,5 +1,5 @@
 -- What comes in under names is one thing, and so is what a replay comes to.
-use Rattle.std.proofs.Common.{◌≡◌, ◌≢◌, ◌<◌, ◌≤◌, ◌⊎◌, inl, inr, ◌∙◌, ℕ, List, [], ◌∷◌, zero, suc, length, codes, get_or, slice_get, Some, refl, sym, ap, arith}
+use Rattle.std.proofs.Common.{◌≡◌, ◌<◌, inl, inr, ◌∙◌, ℕ, List, [], ◌∷◌, zero, suc, length, slice_get, Some, refl, sym, ap, arith}
 use Rattle.std.proofs.lemmas.Bool.{cases_lt}
 use Rattle.std.proofs.Math.Nat.{eq-or-lt_of_le}
 use Rattle.vg_base.specs.Files.{Disk}
@@ -7,7 +7,7 @@ use Rattle.vg_pcap.specs.declared.faults.HeaderField.{HeaderField}
 use Rattle.vg_pcap.specs.Captures.{IsBadHeader}
 use Rattle.vg_pcap.specs.Captures as captures
 use Rattle.vg_pcap.specs.Frames.{Stream, HoldsStream}
-use Rattle.vg_pcap.specs.Arrivals.{Arrival, no_frames, stream_at, ComeUpTo}
+use Rattle.vg_pcap.specs.Arrivals.{Arrival, stream_at, ComeUpTo}
 use Rattle.vg_pcap.specs.Reader.{ComesIn, HasBadHeader, fault_of}
 use Rattle.vg_pcap.specs.Merge.{AllComeIn, IsFirstBadHeader}
 use Rattle.vg_pcap.proofs.Laws.{HoldsStream-same, IsBadHeader-none, IsBadHeader-same}

@@ -1,5 +1,5 @@
 -- The files of a run are those of a replay.
-use Rattle.std.proofs.Common.{◌≢◌, ◌∷◌, ◌++◌, ℕ, List, All}
+use Rattle.std.proofs.Common.{◌≢◌, ◌∷◌, ℕ, List}
 use Rattle.std.proofs.lemmas.List.Elements.{All-tail}
 use Rattle.vg_command.specs.Commands.{Files, AreFiles, IsNoneOf}
 use Rattle.vg_replay.specs.Replays.{AreReplayFiles}

@@ -9,8 +9,8 @@ use Rattle.vg_core.specs.declared.small.Small.{Small}
 use Rattle.vg_pcap.specs.Frames.{header, record_of}
 use Rattle.vg_pcap.specs.Arrivals.{Arrival}
 use Rattle.vg_core.specs.declared.verdict.Verdict.{Verdict}
-use Rattle.vg_replay.specs.Outputs.{goes_to, handle_at, handled_by, piece_to, capture_to, totals_of}
-use Rattle.vg_replay.specs.Replays.{ReplayFiles, IsPart, WroteAll, WroteParts, HavePorts, Began, AreFirst, AreAll, AreUpTo, AreTooMany}
+use Rattle.vg_replay.specs.Outputs.{goes_to, handle_at, handled_by, piece_to, capture_to}
+use Rattle.vg_replay.specs.Replays.{ReplayFiles, IsPart, WroteAll, WroteParts, AreFirst}
 use Rattle.vg_top.specs.declared.report.Report.{Report}
 use Rattle.vg_top.specs.declared.stop.Stop.{Stop}
 use Rattle.vg_top.specs.declared.stop.Stop.TheVariants.{Wrong, Usage, Header, Record, Read, Write, Memory, Limit, Frames, NotBuilt}
@@ -18,8 +18,7 @@ use Rattle.vg_top.specs.Agreement.{Agree, IsMostSteps}
 use Rattle.vg_top.specs.Effects.{Unwritten, BeganReplay, Finished, IsDone}
 use Rattle.vg_top.specs.Endings.{Ending, Stopped, Done, ComesTo}
 use Rattle.vg_top.specs.Lines.{verified_line, totals_line}
-use Rattle.vg_top.specs.Records.{fault_of_record}
-use Rattle.vg_top.specs.Runs.{IsRun, RefusesWords, replay_files}
+use Rattle.vg_top.specs.Runs.{IsRun, RefusesWords}
 use Rattle.vg_top.specs.Running.{HasRun, StopsRun, StopsAfter, Prints}
 use Rattle.vg_top.specs.Statuses.{status_of, status_at, IsStatus, IsFaultOrMemory}
 use Rattle.vg_top.proofs.Leaving.{begins}

@@ -1,5 +1,5 @@
 -- From a replay to a run: what holds from where the replay began holds from where the run began.
-use Rattle.std.proofs.Common.{◌≡◌, ◌⊎◌, inl, inr, ◌∙◌, ℕ, List, IsTrue, Result, Ok, Err, refl, sym, ap}
+use Rattle.std.proofs.Common.{◌≡◌, inl, inr, ◌∙◌, ℕ, List, IsTrue, Result, Ok, ap}
 use Rattle.vg_base.proofs.Disks.{SameHeld-trans, SameIds-trans}
 use Rattle.vg_base.specs.Files.{Disk, SameHeld, SameIds}
 use Rattle.vg_command.specs.Commands.{Files}
@@ -13,18 +13,17 @@ use Rattle.vg_pcap.specs.Merge.{AllComeIn, IsFirstBadHeader}
 use Rattle.vg_replay.specs.declared.stop.RunStop.{RunStop}
 use Rattle.vg_replay.specs.declared.stop.RunStop.TheVariants as stops
 use Rattle.vg_replay.specs.declared.totals.Totals.{Totals}
-use Rattle.vg_replay.specs.Replays.{ReplayFiles, KeepsOthers, WroteAll, WroteParts, AreFirst, AreAll, AreUpTo, AreTooMany, HasReplayed, StopsAtHeader, StopsAtRecord, StopsAtMost, Began, StopsReplay, Replays}
+use Rattle.vg_replay.specs.Replays.{ReplayFiles, KeepsOthers, WroteAll, WroteParts, AreFirst, AreAll, AreUpTo, AreTooMany, HasReplayed, StopsAtHeader, StopsAtRecord, Began, StopsReplay, Replays}
 use Rattle.vg_top.specs.declared.setup.Functions.{Functions}
 use Rattle.vg_top.specs.declared.report.Report.{Report}
 use Rattle.vg_top.specs.declared.stop.Damage.{Damage}
 use Rattle.vg_top.specs.declared.stop.Damage.TheVariants.{Cut, Long, Fraction}
-use Rattle.vg_top.specs.declared.stop.Stop.{Stop}
-use Rattle.vg_top.specs.declared.stop.Stop.TheVariants.{Header, Record, Frames}
+use Rattle.vg_top.specs.declared.stop.Stop.TheVariants.{Header, Record}
 use Rattle.vg_top.specs.Agreement.{IsPathCount, IsMostSteps}
 use Rattle.vg_top.specs.Effects.{Unwritten}
 use Rattle.vg_top.specs.Records.{fault_of_record}
 use Rattle.vg_top.specs.Runs.{replay_files}
-use Rattle.vg_top.specs.Running.{HasRun, StopsIn, BeginsIn, StopsAfter, StopsRun}
+use Rattle.vg_top.specs.Running.{HasRun, StopsIn, BeginsIn, StopsRun}
 use Rattle.vg_top.specs.Setup.{ReadsFunctions}
 use Rattle.vg_top.specs.Stops.{stop_of}
 
@@ -123,9 +122,9 @@ module _ {s t : Disk} (u : Disk) {n : Files} (f : Functions) (x : ReadsFunctions
       spec = f.spec;
       verified = x.verified;
       captures = λ told.
-        let bad = y.header (held f x told) in
-        let is : bad.0 ≡ field = cc in
-        rw is at (header_before {s = s} {t = t} (same f x) bad.2);
+          let bad = y.header (held f x told) in
+          let is : bad.0 ≡ field = cc in
+          rw is at (header_before {s = s} {t = t} (same f x) bad.2);
     };
     unwritten = unwritten y.made y.no_fault.write_faults;
     read_faults = y.no_fault.read_faults ∙ x.reads.same;
@@ -138,11 +137,13 @@ module _ {s t : Disk} (u : Disk) {n : Files} (f : Functions) (x : ReadsFunctions
   replay_stops (stops.Capture port (faults.Fraction number)) keeps y = after_record port number Fraction keeps y
   replay_stops (stops.Capture port faults.Read) keeps y = absurd y
   replay_stops (stops.Capture port faults.Memory) keeps y = absurd y
-  replay_stops stops.Read keeps y =
-      (rw x.reads.same at y.0, elim y.1 [
-        | inl m ↦ inl (unwritten m.0 m.1)
-        | inr b ↦ inr (began_before keeps b)
-      ])
+  replay_stops stops.Read keeps y = (
+    rw x.reads.same at y.0,
+    elim y.1 [
+      | inl m ↦ inl (unwritten m.0 m.1)
+      | inr b ↦ inr (began_before keeps b)
+    ],
+  )
   replay_stops stops.Write keeps y = (rw x.reads.keeps.write_faults at y.0, y.1 ∙ x.reads.same, began_before keeps y.2)
   replay_stops stops.Frames keeps y = record {
     c = f.c;

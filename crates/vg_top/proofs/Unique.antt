@@ -4,7 +4,7 @@ use Rattle.std.proofs.lemmas.Bool.{cases_lt}
 use Rattle.std.proofs.Math.Nat.{eq-or-lt_of_le}
 use Rattle.vg_base.specs.Files.{Disk}
 use Rattle.vg_command.proofs.Decoding as commands
-use Rattle.vg_command.specs.Commands.{Files, Command, Run}
+use Rattle.vg_command.specs.Commands.{Files, Run}
 use Rattle.vg_core.specs.declared.small.Small.{Small}
 use Rattle.vg_core.specs.declared.small.Lang.TheVariants.{C, Spec}
 use Rattle.vg_core.specs.Spelling.{Spells, SpellsNone}
@@ -20,7 +20,7 @@ use Rattle.vg_top.specs.declared.stop.Unbuilt.TheVariants.{Words, Text}
 use Rattle.vg_top.specs.Agreement.{Agree, IsFirstDifference}
 use Rattle.vg_top.specs.Endings.{Ending, Stopped, Done, EndsIn, ComesTo, IsLonger, IsWithin}
 use Rattle.vg_top.specs.Records.{fault_of_record}
-use Rattle.vg_top.specs.Runs.{IsRun, IsUnbuilt, IsBuilt}
+use Rattle.vg_top.specs.Runs.{IsRun, IsUnbuilt}
 use Rattle.vg_top.proofs.Captures.{same_header_port, same_header_field, header_all, header_up_to, header_many, same_all, all_up_to, all_many, same_up_to, up_to_many}
 
 -- ---- the decisions of a run, one after another
@@ -79,30 +79,135 @@ decided s n (Stopped Usage) told x =
 decided s n (Stopped (Wrong at port)) told x =
     let p = x.functions in
     let f = p.functions in
-    inr (f.c_text, f.texts.c, inr (f.spec_text, f.texts.spec, inr (x.c, f.c_spells, inr (x.spec, f.spec_spells, inr (p.below, inr (p.ports,
-        inl (port, x.difference, ap (λ (k : ℕ). Stopped (Wrong k port)) x.place)))))))
+    inr (
+      f.c_text,
+      f.texts.c,
+      inr (
+        f.spec_text,
+        f.texts.spec,
+        inr (
+          x.c,
+          f.c_spells,
+          inr (
+            x.spec,
+            f.spec_spells,
+            inr (
+              p.below,
+              inr (
+                p.ports,
+                inl (port, x.difference, ap (λ (k : ℕ). Stopped (Wrong k port)) x.place),
+              ),
+            ),
+          ),
+        ),
+      ),
+    )
 decided s n (Stopped (Header port field)) told x =
     let p = x.verified.functions in
     let f = p.functions in
-    inr (f.c_text, f.texts.c, inr (f.spec_text, f.texts.spec, inr (x.c, f.c_spells, inr (x.spec, f.spec_spells, inr (p.below, inr (p.ports,
-        inr (x.verified.agree, header port field refl (x.captures told))))))))
+    inr (
+      f.c_text,
+      f.texts.c,
+      inr (
+        f.spec_text,
+        f.texts.spec,
+        inr (
+          x.c,
+          f.c_spells,
+          inr (
+            x.spec,
+            f.spec_spells,
+            inr (
+              p.below,
+              inr (
+                p.ports,
+                inr (x.verified.agree, header port field refl (x.captures told)),
+              ),
+            ),
+          ),
+        ),
+      ),
+    )
 decided s n (Stopped (Record port number damage)) told x =
     let p = x.verified.functions in
     let f = p.functions in
     let handled = x.captures told in
-    inr (f.c_text, f.texts.c, inr (f.spec_text, f.texts.spec, inr (x.c, f.c_spells, inr (x.spec, f.spec_spells, inr (p.below, inr (p.ports,
-        inr (x.verified.agree, up_to port number damage handled.0 refl handled.1)))))))
+    inr (
+      f.c_text,
+      f.texts.c,
+      inr (
+        f.spec_text,
+        f.texts.spec,
+        inr (
+          x.c,
+          f.c_spells,
+          inr (
+            x.spec,
+            f.spec_spells,
+            inr (
+              p.below,
+              inr (
+                p.ports,
+                inr (x.verified.agree, up_to port number damage handled.0 refl handled.1),
+              ),
+            ),
+          ),
+        ),
+      ),
+    )
 decided s n (Stopped Frames) told x =
     let p = x.verified.functions in
     let f = p.functions in
     let handled = x.captures told in
-    inr (f.c_text, f.texts.c, inr (f.spec_text, f.texts.spec, inr (x.c, f.c_spells, inr (x.spec, f.spec_spells, inr (p.below, inr (p.ports,
-        inr (x.verified.agree, many handled.0 refl handled.1)))))))
+    inr (
+      f.c_text,
+      f.texts.c,
+      inr (
+        f.spec_text,
+        f.texts.spec,
+        inr (
+          x.c,
+          f.c_spells,
+          inr (
+            x.spec,
+            f.spec_spells,
+            inr (
+              p.below,
+              inr (
+                p.ports,
+                inr (x.verified.agree, many handled.0 refl handled.1),
+              ),
+            ),
+          ),
+        ),
+      ),
+    )
 decided s n (Done c spec frames) told x =
     let p = x.0.functions in
     let f = p.functions in
-    inr (f.c_text, f.texts.c, inr (f.spec_text, f.texts.spec, inr (c, f.c_spells, inr (spec, f.spec_spells, inr (p.below, inr (p.ports,
-        inr (x.0.agree, all frames refl (x.1 told))))))))
+    inr (
+      f.c_text,
+      f.texts.c,
+      inr (
+        f.spec_text,
+        f.texts.spec,
+        inr (
+          c,
+          f.c_spells,
+          inr (
+            spec,
+            f.spec_spells,
+            inr (
+              p.below,
+              inr (
+                p.ports,
+                inr (x.0.agree, all frames refl (x.1 told)),
+              ),
+            ),
+          ),
+        ),
+      ),
+    )
 decided s n (Stopped (NotBuilt Words)) told x = absurd x
 decided s n (Stopped Read) told x = absurd x
 decided s n (Stopped Write) told x = absurd x

@@ -1,12 +1,11 @@
 -- Why no two functions that agree were read from two texts.
-use Rattle.std.proofs.Common.{◌≡◌, ◌<◌, ◌≤◌, ◌^◌, ◌⊎◌, inl, inr, ◌∙◌, ℕ, List, length, Result, Ok, Err, refl, arith}
+use Rattle.std.proofs.Common.{inl, inr, ℕ, List, length, Result, Ok, Err, arith}
 use Rattle.vg_base.specs.Files.{Disk}
 use Rattle.vg_command.specs.Commands.{Files}
 use Rattle.vg_core.specs.declared.small.Small.{Small}
 use Rattle.vg_core.specs.declared.small.Lang.TheVariants.{C, Spec}
 use Rattle.vg_core.specs.Spelling.{Spells}
 use Rattle.vg_replay.specs.Replays.{IsOfText}
-use Rattle.vg_top.specs.declared.limits.TheConstants.{MAX_TEXT}
 use Rattle.vg_top.specs.declared.setup.Functions.{Functions}
 use Rattle.vg_top.specs.declared.setup.Texts.{Texts}
 use Rattle.vg_top.specs.declared.stop.Stop.{Stop}

@@ -6,8 +6,7 @@ use Rattle.vg_command.specs.Commands.{Files}
 use Rattle.vg_core.specs.declared.small.Small.{Small}
 use Rattle.vg_pcap.specs.Arrivals.{Arrival}
 use Rattle.vg_replay.specs.Outputs.{handled_by, capture_to, log_of, totals_of}
-use Rattle.vg_replay.specs.Replays.{ReplayFiles, KeepsOthers, WroteAll, AreAll, AreUpTo, AreTooMany, HavePorts, Began, NoFault}
-use Rattle.vg_top.specs.declared.stop.Damage.{Damage}
+use Rattle.vg_replay.specs.Replays.{KeepsOthers, WroteAll, AreAll, AreUpTo, AreTooMany, HavePorts, Began, NoFault}
 use Rattle.vg_top.specs.declared.stop.Stop.{Stop}
 use Rattle.vg_top.specs.declared.stop.Stop.TheVariants.{Wrong, Usage, Header, Record, Read, Write, Memory, Limit, Frames, NotBuilt}
 use Rattle.vg_top.specs.Agreement.{IsPathCount, IsMostSteps}

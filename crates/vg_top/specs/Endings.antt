@@ -6,7 +6,6 @@ use Rattle.vg_core.specs.declared.small.Small.{Small}
 use Rattle.vg_core.specs.declared.small.Lang.TheVariants.{C, Spec}
 use Rattle.vg_core.specs.Spelling as small
 use Rattle.vg_core.specs.Spelling.{Spells}
-use Rattle.vg_pcap.specs.declared.faults.HeaderField.{HeaderField}
 use Rattle.vg_pcap.specs.Arrivals.{Arrival}
 use Rattle.vg_pcap.specs.Merge.{IsFirstBadHeader}
 use Rattle.vg_replay.specs.Replays.{SendsBelow, AreAll, AreUpTo, AreTooMany}

@@ -1,5 +1,5 @@
 -- What a run reads before it replays. No public clause rests on this file.
-use Rattle.std.specs.Prelude.{ℕ, ◌≡◌, ◌≢◌, ◌⊎◌, List, length, Result, IfOk, IfErr, OnOk, Vec}
+use Rattle.std.specs.Prelude.{ℕ, ◌≡◌, ◌≢◌, ◌⊎◌, List, Result, IfOk, IfErr, OnOk, Vec}
 use Rattle.std.specs.declared.alloc.Global.{Global}
 use Rattle.vg_base.specs.Files.{Disk, Rose, ReadKeeps, SameIds}
 use Rattle.vg_command.specs.Commands.{Files}

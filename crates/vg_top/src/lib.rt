@@ -15,4 +15,3 @@ pub use top::{Status, refuse, run};
 
 #[cfg(test)]
 mod tests;
-

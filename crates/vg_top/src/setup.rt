@@ -8,8 +8,8 @@ use crate::agreement::{first_difference, sends_below};
 use crate::limits::MAX_TEXT;
 use crate::stop::{Stop, Unbuilt};
 use std::alloc::Global;
-use vg_command::FileNames;
 use vg_base::{Files, LoadFault, MAX_OPEN, load};
+use vg_command::FileNames;
 use vg_core::{Lang, Small, SmallFault, read_small};
 
 /// The C text and the specification.

@@ -32,11 +32,17 @@ pub enum Damage {
 pub enum Stop {
     /// The C function and its specification give a frame of this port different verdicts. The name of the C function stands
     /// `at` this byte of its text.
-    Wrong { at: u32, port: u16 },
+    Wrong {
+        at: u32,
+        port: u16,
+    },
     /// The words are those of no command, or name captures of another number of ports than the specification declares.
     Usage,
     /// The header of this port's capture is refused. Nothing was created.
-    Header { port: u16, field: HeaderField },
+    Header {
+        port: u16,
+        field: HeaderField,
+    },
     /// A record of this port's capture is refused; records are counted from 1. The frames up to the port's last good one were
     /// handled, and none where its first record is refused.
     Record {

@@ -51,11 +51,7 @@ fn at_times(alloc: Global, times: &[u8]) -> Result<Vec<u8>, AllocError> {
     Ok(bytes)
 }
 
-fn named(
-    alloc: Global,
-    name: &str,
-    bytes: Vec<u8>,
-) -> Result<(String, Vec<u8>), AllocError> {
+fn named(alloc: Global, name: &str, bytes: Vec<u8>) -> Result<(String, Vec<u8>), AllocError> {
     Ok((String::from_str(alloc, name)?, bytes))
 }
 
@@ -115,7 +111,10 @@ fn swaps_one_frame(rt: HostRuntime) -> Result<(), Fail> {
         );
         let log = files.written("log").ok_or("no log")?;
         assert_eq!(rt; log, b"1 in 0 to 1 steps 3\n".as_slice());
-        assert_eq!(rt; files.written("out0").ok_or("no out0")?, NANOSECONDS.as_slice());
+        assert_eq!(rt;
+            files.written("out0").ok_or("no out0")?,
+            NANOSECONDS.as_slice()
+        );
         assert_eq!(rt;
             files.written("out1").ok_or("no out1")?,
             with_zeros(alloc, &NANOSECONDS, &OUT_HEAD)?.as_slice()
@@ -134,8 +133,14 @@ fn nothing_comes_in(rt: HostRuntime) -> Result<(), Fail> {
         out.written(),
         b"verified paths 2 steps 3\nframes 0 sent 0 dropped 0 flooded 0\n".as_slice()
     );
-    assert_eq!(rt; files.written("out0").ok_or("no out0")?, NANOSECONDS.as_slice());
-    assert_eq!(rt; files.written("out1").ok_or("no out1")?, NANOSECONDS.as_slice());
+    assert_eq!(rt;
+        files.written("out0").ok_or("no out0")?,
+        NANOSECONDS.as_slice()
+    );
+    assert_eq!(rt;
+        files.written("out1").ok_or("no out1")?,
+        NANOSECONDS.as_slice()
+    );
     assert_eq!(rt; files.written("log").ok_or("no log")?, b"".as_slice());
     Ok(())
 }
@@ -152,8 +157,7 @@ fn merges_two_captures(rt: HostRuntime) -> Result<(), Fail> {
     );
     assert_eq!(rt;
         files.written("log").ok_or("no log")?,
-        b"1 in 0 to 1 steps 3\n2 in 0 to 1 steps 3\n3 in 1 to 0 steps 3\n4 in 0 to 1 steps 3\n"
-            .as_slice()
+        b"1 in 0 to 1 steps 3\n2 in 0 to 1 steps 3\n3 in 1 to 0 steps 3\n4 in 0 to 1 steps 3\n".as_slice()
     );
     // The time that falls is raised to the latest before it.
     assert_eq!(rt;
@@ -201,7 +205,9 @@ fn refused_captures(rt: HostRuntime) -> Result<(), Fail> {
     ];
     for (place, byte, printed) in table {
         let mut in1 = at_times(alloc, &[5])?;
-        in1[place] = byte;
+        if let Some(at) = in1.get_mut(place) {
+            *at = byte;
+        }
         let captures = (at_times(alloc, &[5])?, in1);
         let (status, files, out) = ran(alloc, (SWAP_C, SWAP_SPEC), captures, TWO_INPUTS, 0)?;
         assert_eq!(rt; status, Status(5), "{printed}");
@@ -213,7 +219,10 @@ fn refused_captures(rt: HostRuntime) -> Result<(), Fail> {
     let (status, _, out) = ran(
         alloc,
         (SWAP_C, SWAP_SPEC),
-        (Vec::from_slice(alloc, b"\x34\xcd\xb2\xa1")?, Vec::new(alloc)),
+        (
+            Vec::from_slice(alloc, b"\x34\xcd\xb2\xa1")?,
+            Vec::new(alloc),
+        ),
         WORDS,
         0,
     )?;
@@ -242,15 +251,63 @@ fn refusals_create_nothing(rt: HostRuntime) -> Result<(), Fail> {
         ((SWAP_C, "ports 2;"), WORDS, 0, 12, "not built spec\n"),
         ((third, SWAP_SPEC), WORDS, 0, 12, "not built c\n"),
         (swap, "run swap.c swap.spec - log in0 out0", 0, 2, usage),
-        (swap, "run swap.c swap.spec - log in0 - out0 out0", 0, 2, usage),
-        (swap, "run swap.c swap.spec - log in0 - out0 in0", 0, 2, usage),
-        (swap, "run swap.c swap.spec - out0 in0 - out0 out1", 0, 2, usage),
+        (
+            swap,
+            "run swap.c swap.spec - log in0 - out0 out0",
+            0,
+            2,
+            usage,
+        ),
+        (
+            swap,
+            "run swap.c swap.spec - log in0 - out0 in0",
+            0,
+            2,
+            usage,
+        ),
+        (
+            swap,
+            "run swap.c swap.spec - out0 in0 - out0 out1",
+            0,
+            2,
+            usage,
+        ),
         (swap, "run", 0, 2, usage),
-        (swap, "run swap.c swap.spec in1 log in0 - out0 out1", 0, 12, "not built words\n"),
-        (swap, "try swap.c swap.spec - log in0 - out0 out1", 0, 12, "not built words\n"),
-        (swap, "verify swap.c swap.spec certificate 1000", 0, 12, "not built words\n"),
-        (swap, "run none.c swap.spec - log in0 - out0 out1", 0, 6, "read fault\n"),
-        (swap, "run swap.c swap.spec - log none - out0 out1", 0, 6, "read fault\n"),
+        (
+            swap,
+            "run swap.c swap.spec in1 log in0 - out0 out1",
+            0,
+            12,
+            "not built words\n",
+        ),
+        (
+            swap,
+            "try swap.c swap.spec - log in0 - out0 out1",
+            0,
+            12,
+            "not built words\n",
+        ),
+        (
+            swap,
+            "verify swap.c swap.spec certificate 1000",
+            0,
+            12,
+            "not built words\n",
+        ),
+        (
+            swap,
+            "run none.c swap.spec - log in0 - out0 out1",
+            0,
+            6,
+            "read fault\n",
+        ),
+        (
+            swap,
+            "run swap.c swap.spec - log none - out0 out1",
+            0,
+            6,
+            "read fault\n",
+        ),
         (swap, WORDS, 3, 6, "read fault\n"),
     ];
     for (texts, line, fails, status, printed) in table {

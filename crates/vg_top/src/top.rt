@@ -48,11 +48,7 @@ fn run_in(words: &[String]) -> Result<FileNames<'_>, Stop>
 }
 
 // Reads, verifies and replays.
-fn run_files<F: Files>(
-    alloc: Global,
-    files: &mut F,
-    names: &FileNames<'_>,
-) -> Result<Report, Stop>
+fn run_files<F: Files>(alloc: Global, files: &mut F, names: &FileNames<'_>) -> Result<Report, Stop>
     requires room { (F.disk files.old).open_count + 33 ≤ MAX_OPEN }
     requires allowed { AreFiles (files_of names.now) }
     ensures { Runs (F.disk files.old) (F.disk files.new) (files_of names.now) result }
@@ -118,9 +114,9 @@ pub fn run<F: Files, O: Sink>(alloc: Global, words: &[String], files: &mut F, ou
         IsStopped (words_in words.now) (F.disk files.old) (F.disk files.new) (O.flow out.old) (O.flow out.new) Stop.Usage }
     ensures capture { result.0 ≡ 5 →
         ((port : ℕ) × (field : HeaderField) ×
-            IsStopped (words_in words.now) (F.disk files.old) (F.disk files.new) (O.flow out.old) (O.flow out.new) (Stop.Header port field))
+        IsStopped (words_in words.now) (F.disk files.old) (F.disk files.new) (O.flow out.old) (O.flow out.new) (Stop.Header port field))
         ⊎ ((port : ℕ) × (number : ℕ) × (damage : Damage) ×
-            IsStopped (words_in words.now) (F.disk files.old) (F.disk files.new) (O.flow out.old) (O.flow out.new) (Stop.Record port number damage)) }
+        IsStopped (words_in words.now) (F.disk files.old) (F.disk files.new) (O.flow out.old) (O.flow out.new) (Stop.Record port number damage)) }
     ensures limit { result.0 ≡ 11 →
         ((lang : Lang) × IsStopped (words_in words.now) (F.disk files.old) (F.disk files.new) (O.flow out.old) (O.flow out.new) (Stop.Limit lang))
         ⊎ IsStopped (words_in words.now) (F.disk files.old) (F.disk files.new) (O.flow out.old) (O.flow out.new) Stop.Frames }

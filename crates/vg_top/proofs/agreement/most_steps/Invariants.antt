@@ -1,4 +1,3 @@
-use Rattle.std.proofs.Common.{ℕ, ◌<◌, ◌≤◌, ◌≡◌}
 use Rattle.vg_top.specs.Agreement.{IsMostSteps}
 use Rattle.vg_top.proofs.agreement.most_steps.Given as goal
 

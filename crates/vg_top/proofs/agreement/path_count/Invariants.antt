@@ -1,4 +1,4 @@
-use Rattle.std.proofs.Common.{ℕ, ◌≤◌}
+use Rattle.std.proofs.Common.{◌≤◌}
 use Rattle.vg_top.specs.Agreement.{CountsWays}
 use Rattle.vg_top.proofs.agreement.path_count.Given as goal
 

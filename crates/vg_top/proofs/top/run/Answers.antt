@@ -1,6 +1,6 @@
 use Rattle.std.proofs.Common.{◌++◌, inr}
 use Rattle.vg_top.specs.Lines.{verified_line, totals_line}
-use Rattle.vg_top.proofs.Leaving.{leaves, leaves_words, stopped, finished}
+use Rattle.vg_top.proofs.Leaving.{leaves, stopped, finished}
 use Rattle.vg_top.proofs.Printing.{known_stop, known_done, has_finished, is_done, began_done, outputs_after, exactly_done, exactly_stopped, exactly_words}
 use Rattle.vg_top.proofs.top.run.Goals as goal
 

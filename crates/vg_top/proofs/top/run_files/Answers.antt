@@ -1,5 +1,3 @@
-use Rattle.std.proofs.Common.{Ok, Err}
-use Rattle.vg_command.specs.View.{files_of}
 use Rattle.vg_top.specs.declared.report.Report.{Report}
 use Rattle.vg_top.proofs.NamesApart.{are_replay_files}
 use Rattle.vg_top.proofs.Replayed.{replay_stops, replay_done, held_after, ids_after}
