@@ -33,7 +33,7 @@ room_left {inputs = inputs} ins outs most x long room = omega (arith, x.opens.0.
 
 -- nothing has come so far
 nothing_yet : {s t : Disk} {ins : List (List ℕ)} {inputs : List Input} → StartsMerge s t ins (Ok inputs) → IsTrue s.tells_held → AreFirst s ins []
-nothing_yet x told = let come = x.comes told in (come.0, come.0, come.1, none_come come.0)
+nothing_yet x told = let come = x.comes told in (come.0, come.0, come.1, none_come come.0, (λ port damage at. tt), omega arith)
 
 -- every output was created, and holds what it should of no frames
 pub begun : {s t u : Disk} {n : ReplayFiles} {inputs : List Input} {ids : List ℕ} {log_id : ℕ} (f : Small) (totals : Totals) → AreReplayFiles n → IsOfText f → length n.outs ≤ 63 → StartsMerge s t n.ins (Ok inputs)
@@ -110,11 +110,13 @@ uncreated {s} {t} {u} {v} {n} {inputs} f q names x y z =
               let later : IsTrue t.tells_made = rw x.keeps.held.tells_made told in
               record {
                 outs = λ port name at. rw (capture_to-none port f) (part_back s t u v name header x.keeps.made z.keeps.made (y.parts later names.apart port name at));
-                lined = [];
-                others = [];
-                frames_are = refl;
                 log = inl (after n.log ∙ y.log_made later (log_is_none names) ∙ made n.log);
-                captures = inl refl;
+                handled = [];
+                begun = [];
+                one = omega arith;
+                frames_are = refl;
+                whole = inl refl;
+                line = inl (inl (after n.log ∙ y.log_made later (log_is_none names) ∙ made n.log));
               };
         },
       );

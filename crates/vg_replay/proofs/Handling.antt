@@ -14,7 +14,7 @@ use Rattle.vg_pcap.specs.Merge.{Input, IsNext, Comes, Advances}
 use Rattle.vg_replay.specs.declared.stop.RunStop.TheVariants as stops
 use Rattle.vg_replay.specs.declared.totals.Totals.{Totals}
 use Rattle.vg_replay.proofs.Pieces.{totals_of-frames, totals_of-few, totals_of-more}
-use Rattle.vg_replay.proofs.Stopping.{IsRead, with_inputs, opened_writes, read_goes, read_stops, ended, end_fails}
+use Rattle.vg_replay.proofs.Stopping.{IsRead, with_inputs, opened_writes, damage_behind, read_goes, read_stops, ended, end_fails}
 use Rattle.vg_replay.proofs.Wrote.{frame_keeps, frame_same, frame_rose, wrote_more, wrote_parts, others_more}
 use Rattle.vg_replay.specs.Counts.{AreFew, counted}
 use Rattle.vg_replay.specs.Outputs.{handle_at, verdict_by}
@@ -38,11 +38,11 @@ one_more x not = omega (arith, not, x.few, past_number x)
 pub few_more : {s t : Disk} {n : ReplayFiles} {r : Replaying} {past : List Arrival} (port : ℕ) → Going s t n r past → r.totals.frames ≢ most_frames → AreFew r.totals (steps_at r.function.tests port)
 few_more {r = r} {past = past} port x not = rw x.totals_are (totals_of-few r.function past port x.sound.text (one_more x not))
 
-first_more : {s t : Disk} {n : ReplayFiles} {r : Replaying} {past : List Arrival} (a : Arrival) → Going s t n r past → IsFirstLeft r.inputs a → IsTrue s.tells_held → AreFirst s n.ins (past ++ a ∷ [])
-first_more {t = t} {past = past} a x first told =
+first_more : {s t : Disk} {n : ReplayFiles} {r : Replaying} {past : List Arrival} (a : Arrival) → Going s t n r past → r.totals.frames ≢ most_frames → IsFirstLeft r.inputs a → IsTrue s.tells_held → AreFirst s n.ins (past ++ a ∷ [])
+first_more {t = t} {past = past} a x not first told =
     let come = x.come told in
     let more = first t come.0 past come.2 in
-    (come.0, more.0, come.1, more.1)
+    (come.0, more.0, come.1, more.1, damage_behind a come.2 more.1, (let few = one_more x not in omega (arith, few, length-append past (a ∷ []))))
 
 ports_more : {s t : Disk} {n : ReplayFiles} {r : Replaying} {past : List Arrival} (a : Arrival) → Going s t n r past → IsNext r.inputs a → HavePorts n (past ++ a ∷ [])
 ports_more {n = n} {r = r} {past = past} a x next =
@@ -59,16 +59,16 @@ frame_written {past = past} a x not next first writes =
       opened = opened_writes x.opened keeps;
       no_fault = record { read_faults = keeps.read_faults ∙ x.no_fault.read_faults; write_faults = frame_same writes ∙ x.no_fault.write_faults };
       ports = ports_more a x next;
-      first = first_more a x first;
+      first = first_more a x not first;
       wrote = λ told. wrote_more a x.sound x.opened told (x.wrote told) number writes;
       others = λ told. others_more (Ok tt) x.sound x.opened told (x.others told) writes;
       few = let few = one_more x not in omega (arith, few, length-append past (a ∷ []));
     }
 
 -- a frame couldn't be written
-pub frame_fails : {s t u : Disk} {n : ReplayFiles} {r : Replaying} {past : List Arrival} {e : Failed} (a : Arrival) → Going s t n r past → IsNext r.inputs a → IsFirstLeft r.inputs a
+pub frame_fails : {s t u : Disk} {n : ReplayFiles} {r : Replaying} {past : List Arrival} {e : Failed} (a : Arrival) → Going s t n r past → r.totals.frames ≢ most_frames → IsNext r.inputs a → IsFirstLeft r.inputs a
     → WritesFrame t u r.outs r.log (r.totals.frames + 1) (handle_at r.function a) (Err e) → HasStopped s u n r r.function stops.Write
-frame_fails {past = past} {e = e} a x next first writes =
+frame_fails {past = past} {e = e} a x not next first writes =
     let keeps = frame_keeps (Err e) writes in
     let number = ap (λ k. k + 1) (past_number x) in
     record {
@@ -77,7 +77,7 @@ frame_fails {past = past} {e = e} a x next first writes =
       stops = (
         rw x.no_fault.write_faults at (frame_rose writes),
         keeps.read_faults ∙ x.no_fault.read_faults,
-        record { frames = past ++ a ∷ []; ports = ports_more a x next; first = first_more a x first; wrote = λ told. wrote_parts a x.sound x.opened told (x.wrote told) number writes },
+        record { frames = past ++ a ∷ []; ports = ports_more a x next; first = first_more a x not first; wrote = λ told. wrote_parts a x.sound x.opened told (x.wrote told) number writes },
       );
     }
 

@@ -1,8 +1,8 @@
 -- A replay that reads on, ends or stops.
-use Rattle.std.proofs.lemmas.Bool.{cases_lt}
-use Rattle.std.proofs.lemmas.List.{length-map}
+use Rattle.std.proofs.lemmas.Bool.{cases_lt, cases_eq}
+use Rattle.std.proofs.lemmas.List.{length-map, append_cancel_left}
 use Rattle.std.proofs.lemmas.List.Sums.{length-filter, count_by-le-length}
-use Rattle.std.proofs.Common.{◌≡◌, ◌≢◌, ◌≤◌, ◌+◌, ◌∙◌, ℕ, List, [], ◌++◌, length, get_or, filter, All, IsTrue, Option, Some, None, Result, Ok, Err, inl, inr, refl, sym, ap, append-nil, arith, eqb}
+use Rattle.std.proofs.Common.{◌≡◌, ◌≢◌, ◌≤◌, ◌+◌, ◌∙◌, ℕ, List, [], ◌∷◌, ◌++◌, length, get_or, filter, All, IsTrue, Option, Some, None, Result, Ok, Err, inl, inr, refl, sym, ap, append-nil, arith, eqb}
 use Rattle.vg_base.proofs.Disks.{SameHeld-trans}
 use Rattle.vg_base.specs.declared.faults.Failed.{Failed}
 use Rattle.vg_base.specs.Files.{Disk, Reads, Writes, Opened, IsOpen, writing, WriteKeeps}
@@ -11,10 +11,11 @@ use Rattle.vg_pcap.specs.declared.faults.CaptureFault.{CaptureFault}
 use Rattle.vg_pcap.specs.declared.faults.CaptureFault.TheVariants as faults
 use Rattle.vg_pcap.specs.declared.merge.MergeFault.{MergeFault}
 use Rattle.vg_pcap.proofs.Staying.{SameReading, AreReadable-stays, ids_open}
+use Rattle.vg_pcap.proofs.Arriving.{EndsAt-push, frames_from-push_other}
 use Rattle.vg_pcap.proofs.Merging.{no_damage, no_damage_past, input_at}
 use Rattle.vg_pcap.specs.Captures.{Damage, Cut, Long, Fraction}
-use Rattle.vg_pcap.specs.Frames.{Stream}
-use Rattle.vg_pcap.specs.Arrivals.{Arrival, stream_at, frames_from, IsAtDamage}
+use Rattle.vg_pcap.specs.Frames.{Framed, Stream}
+use Rattle.vg_pcap.specs.Arrivals.{Arrival, stream_at, frames_from, ComeFirst, EndsAt, IsAtDamage}
 use Rattle.vg_pcap.specs.Reader.{fault_of, number_after}
 use Rattle.vg_pcap.specs.Merge.{Input, ids_of, AreReadable, IsNext, IsReadOrRecord, Comes, AllComeIn, ReadsInputs, RefusesRecord, ClosesInputs}
 use Rattle.vg_replay.specs.declared.stop.RunStop.{RunStop}
@@ -91,11 +92,13 @@ wrote_same same wrote = record { outs = rw same wrote.outs; log = rw same wrote.
 parts_same : {s t u : Disk} {n : ReplayFiles} {f : Small} {past : List Arrival} → u.made ≡ t.made → WroteParts s t n f past → WroteParts s u n f past
 parts_same same w = record {
   outs = rw same w.outs;
-  lined = w.lined;
-  others = w.others;
-  frames_are = w.frames_are;
   log = rw same w.log;
-  captures = rw same w.captures;
+  handled = w.handled;
+  begun = w.begun;
+  one = w.one;
+  frames_are = w.frames_are;
+  whole = rw same w.whole;
+  line = rw same w.line;
 }
 
 pub others_same : (s t u : Disk) (n : ReplayFiles) → u.made ≡ t.made → KeepsOthers s t n → KeepsOthers s u n
@@ -186,6 +189,26 @@ read_stops {s} {t} {u} {n} {e = e} totals x reads kind refused = record {
   stops = stops_by e.fault kind x reads refused;
 }
 
+-- ---- no refused record is next
+
+no_damage_left : {t : Disk} {inputs : List Input} {streams : List Stream} {past : List Arrival} (c : Comes t inputs streams past) (port : ℕ) (damage : Damage) → IsAtDamage c.left port damage → ⊥
+no_damage_left {inputs = inputs} c port damage at = elim (cases_lt port (length inputs)) [
+  | inl below ↦ let here = input_at inputs port below in no_damage (c.still port here.0 here.1) at.none_left at.refused
+  | inr above ↦ no_damage_past c.left port damage (omega (arith, above, c.ports, c.first.ports)) at.refused
+]
+
+-- behind one frame more a refused record is next at its port alone
+pub damage_behind : {t : Disk} {inputs : List Input} {streams left : List Stream} {past : List Arrival} (a : Arrival) → Comes t inputs streams past → ComeFirst streams (past ++ a ∷ []) left → (port : ℕ) (damage : Damage) →
+    IsAtDamage left port damage → EndsAt (past ++ a ∷ []) port
+damage_behind {left = left} {past = past} a c more port damage at = elim (cases_eq a.port port) [
+  | inl here ↦ rw (← here) (EndsAt-push a past)
+  | inr ne ↦
+      let come = ap (λ (l : List Framed). l ++ (stream_at left port).frames) (frames_from-push_other port a past ne) in
+      let same : (stream_at c.left port).frames ≡ (stream_at left port).frames =
+          append_cancel_left (frames_from port past) (stream_at c.left port).frames (stream_at left port).frames (sym (c.first.in_turn port) ∙ more.in_turn port ∙ come) in
+      absurd (no_damage_left c port damage (record { none_left = same ∙ at.none_left; refused = c.first.ends port ∙ sym (more.ends port) ∙ at.refused }))
+]
+
 -- ---- more frames than there may be
 
 pub too_many : {s t : Disk} {n : ReplayFiles} {r : Replaying} {past : List Arrival} {a : Arrival} → Going s t n r past → r.totals.frames ≡ most_frames → IsNext r.inputs a → HasStopped s t n r r.function stops.Frames
@@ -209,14 +232,8 @@ too_many {s} {t} {n} {r} {past} {a} x most next =
         let is = sym here.1 ∙ none in
         cc
 
-    whole_here : {streams : List Stream} (c : Comes t r.inputs streams past) (port : ℕ) (damage : Damage) → IsAtDamage c.left port damage → ⊥
-    whole_here c port damage at = elim (cases_lt port (length r.inputs)) [
-      | inl below ↦ let here = input_at r.inputs port below in no_damage (c.still port here.0 here.1) at.none_left at.refused
-      | inr above ↦ no_damage_past c.left port damage (omega (arith, above, c.ports, c.first.ports)) at.refused
-    ]
-
     all_of : HaveCome s t n.ins r.inputs past → length past ≡ most_frames → AreTooMany s n.ins past
-    all_of come long = (come.0, come.2.left, come.1, come.2.first, long, (a.port, waits_here come.2), whole_here come.2)
+    all_of come long = (come.0, come.2.left, come.1, come.2.first, long, (a.port, waits_here come.2), no_damage_left come.2)
 
 -- ---- closing
 
@@ -296,8 +313,8 @@ ended {s} {t} {u} {n} {r} {past} x end y = record {
   stops = tt;
 }
 
-first_of : {s t : Disk} {ins : List (List ℕ)} {inputs : List Input} {past : List Arrival} → HaveCome s t ins inputs past → AreFirst s ins past
-first_of come = (come.0, come.2.left, come.1, come.2.first)
+first_of : {s t : Disk} {ins : List (List ℕ)} {inputs : List Input} {past : List Arrival} → HaveCome s t ins inputs past → length past ≤ most_frames → AreFirst s ins past
+first_of come few = (come.0, come.2.left, come.1, come.2.first, (λ port damage at. absurd (no_damage_left come.2 port damage at)), few)
 
 pub end_fails : {s t u : Disk} {n : ReplayFiles} {r : Replaying} {past : List Arrival} {e : Failed} → Going s t n r past → ClosesAll t u r (Err e) → Replays s u n r.function (Err stops.Write)
 end_fails {s} {t} {u} {n} {r} {past} x y = record {
@@ -308,6 +325,6 @@ end_fails {s} {t} {u} {n} {r} {past} x y = record {
   stops = (
     rw x.no_fault.write_faults at y.faults.failed,
     y.read_faults ∙ x.no_fault.read_faults,
-    record { frames = past; ports = x.ports; first = λ told. first_of (x.come told); wrote = λ told. whole_parts (wrote_same y.made (x.wrote told)) },
+    record { frames = past; ports = x.ports; first = λ told. first_of (x.come told) x.few; wrote = λ told. whole_parts (wrote_same y.made (x.wrote told)) },
   );
 }

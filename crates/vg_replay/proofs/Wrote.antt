@@ -97,16 +97,21 @@ wrote_parts {u = u} {n = n} {r = r} {past = past} {number = number} {e = e} a so
       λ port name at. appends.2.others name (not_log sound.names port name at) ∙ captures_more a (told_of sound opened told) wrote both.1 port name at in
       record {
         outs = λ port name at. inr (capture_to port (handled_by f (past ++ a ∷ [])), [], captures port name at, sym (append-nil (capture_to port (handled_by f (past ++ a ∷ [])))));
-        lined = past ++ a ∷ [];
-        others = [];
-        frames_are = sym (append-nil (past ++ a ∷ []));
+        handled = past;
+        begun = a ∷ [];
+        one = omega arith;
+        frames_are = refl;
         log = inr (
           log_of (handled_by f past) ++ take appends.0 line,
           drop appends.0 line,
           appends.2.grown (log_of (handled_by f past)) (log_kept (Ok tt) sound.names (told_of sound opened told) wrote both.1),
           rw (log_of-more f past a, ← is, append_assoc, take-append-drop) refl,
         );
-        captures = inr (λ port name at. ([], rw append-nil (captures port name at)));
+        whole = inr (
+          (λ port name at. (piece_to port (handle_at f a), rw (capture_to-more port f past a) at (captures port name at))),
+          (take appends.0 line, appends.2.grown (log_of (handled_by f past)) (log_kept (Ok tt) sound.names (told_of sound opened told) wrote both.1)),
+        );
+        line = inr (λ port name at. ([], rw append-nil (captures port name at)));
       }
   | inr puts ↦
       let f = r.function in
@@ -117,11 +122,16 @@ wrote_parts {u = u} {n = n} {r = r} {past = past} {number = number} {e = e} a so
         outs = λ port name at.
             let part = begun port name at in
             inr (capture_to port (handled_by f past) ++ part.0, part.1, part.2, rw (capture_to-more port f past a, part.3, append_assoc) refl);
-        lined = past;
-        others = a ∷ [];
+        log = inr (log_of (handled_by f past), line_of number (handle_at f a), log_kept (Err e) sound.names all wrote puts.1, rw (log_of-more f past a, ← is) refl);
+        handled = past;
+        begun = a ∷ [];
+        one = omega arith;
         frames_are = refl;
-        log = inr (log_of (handled_by f past), [], log_kept (Err e) sound.names all wrote puts.1, sym (append-nil (log_of (handled_by f past))));
-        captures = inr (λ port name at. let part = begun port name at in (part.0, part.2));
+        whole = inr (
+          (λ port name at. let part = begun port name at in (part.0, part.2)),
+          ([], rw append-nil (log_kept (Err e) sound.names all wrote puts.1)),
+        );
+        line = inl (inr (log_of (handled_by f past), [], log_kept (Err e) sound.names all wrote puts.1, sym (append-nil (log_of (handled_by f past)))));
       }
 ]
 
@@ -145,9 +155,11 @@ others_more {n = n} (Err e) sound opened told others w name none = elim w.whole_
 pub whole_parts : {s t : Disk} {n : ReplayFiles} {f : Small} {past : List Arrival} → WroteAll s t n f past → WroteParts s t n f past
 whole_parts {s} {t} {n} {f} {past} wrote = record {
   outs = λ port name at. inr (capture_to port (handled_by f past), [], wrote.outs port name at, sym (append-nil (capture_to port (handled_by f past))));
-  lined = past;
-  others = [];
-  frames_are = sym (append-nil past);
   log = inr (log_of (handled_by f past), [], wrote.log, sym (append-nil (log_of (handled_by f past))));
-  captures = inr (λ port name at. ([], rw append-nil (wrote.outs port name at)));
+  handled = past;
+  begun = [];
+  one = omega arith;
+  frames_are = sym (append-nil past);
+  whole = inr ((λ port name at. ([], rw append-nil (wrote.outs port name at))), ([], rw append-nil wrote.log));
+  line = inr (λ port name at. ([], rw append-nil (wrote.outs port name at)));
 }

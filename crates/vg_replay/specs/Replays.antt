@@ -10,7 +10,7 @@ use Rattle.vg_pcap.specs.declared.faults.CaptureFault.TheVariants as faults
 use Rattle.vg_pcap.specs.declared.faults.HeaderField.{HeaderField}
 use Rattle.vg_pcap.specs.Captures.{Damage}
 use Rattle.vg_pcap.specs.Frames.{Stream}
-use Rattle.vg_pcap.specs.Arrivals.{Arrival, stream_at, ComeFirst, AllCome, ComeUpTo, IsAtDamage}
+use Rattle.vg_pcap.specs.Arrivals.{Arrival, stream_at, EndsAt, ComeFirst, AllCome, ComeUpTo, IsAtDamage}
 use Rattle.vg_pcap.specs.Reader.{fault_of}
 use Rattle.vg_pcap.specs.Merge.{AllComeIn, IsFirstBadHeader}
 use Rattle.vg_replay.specs.declared.totals.Totals.{Totals}
@@ -68,16 +68,21 @@ IsPart s t name whole =
 abbrev pub Holds : Disk → List ℕ → List ℕ → Type 0
 Holds t name bytes = (more : List ℕ) × (t.made name ≡ Some (bytes ++ more))
 
--- Each output holds no more than first bytes of what it should of these frames. The log follows the captures: it has no byte of a line but those of
--- these first frames, and where there are such, every capture holds them whole.
+-- every capture begins with what it should of these frames
+abbrev pub HoldCaptures : Disk → ReplayFiles → Small → List Arrival → Type 0
+HoldCaptures t n f frames = (port : ℕ) (name : List ℕ) → slice_get n.outs port ≡ Some name → Holds t name (capture_to port (handled_by f frames))
+
+-- Each output holds no more than first bytes of what it should of these frames. All of them were handled whole but at most the last one: the captures
+-- have those frames, and the log their lines. The line of the last one was begun only where every capture has it.
 pub record WroteParts (s t : Disk) (n : ReplayFiles) (f : Small) (frames : List Arrival) : Type 0 where
   pub outs : (port : ℕ) (name : List ℕ) → slice_get n.outs port ≡ Some name → IsPart s t name (capture_to port (handled_by f frames))
-  pub lined : List Arrival
-  pub others : List Arrival
-  pub frames_are : frames ≡ lined ++ others
-  pub log : IsPart s t n.log (log_of (handled_by f lined))
-  pub captures : (lined ≡ [])
-      ⊎ ((port : ℕ) (name : List ℕ) → slice_get n.outs port ≡ Some name → Holds t name (capture_to port (handled_by f lined)))
+  pub log : IsPart s t n.log (log_of (handled_by f frames))
+  pub handled : List Arrival
+  pub begun : List Arrival
+  pub one : length begun ≤ 1
+  pub frames_are : frames ≡ handled ++ begun
+  pub whole : (handled ≡ []) ⊎ (HoldCaptures t n f handled × Holds t n.log (log_of (handled_by f handled)))
+  pub line : IsPart s t n.log (log_of (handled_by f handled)) ⊎ HoldCaptures t n f frames
 
 -- ---- which frames are handled
 
@@ -85,9 +90,11 @@ pub record WroteParts (s t : Disk) (n : ReplayFiles) (f : Small) (frames : List 
 abbrev pub most_frames : ℕ
 most_frames = 2 ^ 32 - 1
 
--- the frames are first ones of what comes in under these names, in order
+-- the frames are first ones of what comes in under these names, in order, none of them behind a refused record, and no more than there may be
 abbrev pub AreFirst : Disk → List (List ℕ) → List Arrival → Type 0
-AreFirst s ins frames = (streams : List Stream) × (left : List Stream) × AllComeIn s ins streams × ComeFirst streams frames left
+AreFirst s ins frames =
+    (streams : List Stream) × (left : List Stream) × AllComeIn s ins streams × ComeFirst streams frames left
+    × ((port : ℕ) (damage : Damage) → IsAtDamage left port damage → EndsAt frames port) × (length frames ≤ most_frames)
 
 -- they are all of them
 abbrev pub AreAll : Disk → List (List ℕ) → List Arrival → Type 0

@@ -7,10 +7,12 @@ use Rattle.vg_base.specs.Sink.{Flow}
 use Rattle.vg_command.specs.Commands.{Files}
 use Rattle.vg_core.specs.declared.small.Small.{Small}
 use Rattle.vg_pcap.specs.Frames.{header, record_of}
-use Rattle.vg_pcap.specs.Arrivals.{Arrival}
+use Rattle.vg_pcap.specs.declared.faults.CaptureFault.{CaptureFault}
+use Rattle.vg_pcap.specs.Captures.{Damage, CaptureEnd, Whole, Refused}
+use Rattle.vg_pcap.specs.Arrivals.{Arrival, EndsAt}
 use Rattle.vg_core.specs.declared.verdict.Verdict.{Verdict}
 use Rattle.vg_replay.specs.Outputs.{goes_to, handle_at, handled_by, piece_to, capture_to}
-use Rattle.vg_replay.specs.Replays.{ReplayFiles, IsPart, WroteAll, WroteParts, AreFirst}
+use Rattle.vg_replay.specs.Replays.{ReplayFiles, IsPart, Holds, WroteAll, WroteParts, AreFirst, AreAll, AreUpTo, AreTooMany}
 use Rattle.vg_top.specs.declared.report.Report.{Report}
 use Rattle.vg_top.specs.declared.stop.Stop.{Stop}
 use Rattle.vg_top.specs.declared.stop.Stop.TheVariants.{Wrong, Usage, Header, Record, Read, Write, Memory, Limit, Frames, NotBuilt}
@@ -93,15 +95,37 @@ is_done s t r run has (inr failed) is = absurd (omega (arith, failed.0, is))
 whole_part : (s t : Disk) (name : List ℕ) (whole : List ℕ) → t.made name ≡ Some whole → IsPart s t name whole
 whole_part s t name whole made = inr (whole, [], made, sym (append-nil whole))
 
+whole_holds : (t : Disk) (name whole : List ℕ) → t.made name ≡ Some whole → Holds t name whole
+whole_holds t name whole made = ([], made ∙ ap Some (sym (append-nil whole)))
+
 parts_of_all : (s t : Disk) {n : ReplayFiles} {c : Small} (frames : List Arrival) → WroteAll s t n c frames → WroteParts s t n c frames
 parts_of_all s t frames all = record {
   outs = λ port name at. whole_part s t name _ (all.outs port name at);
-  lined = frames;
-  others = [];
-  frames_are = sym (append-nil frames);
   log = whole_part s t _ _ all.log;
-  captures = inr (λ port name at. ([], all.outs port name at ∙ ap Some (sym (append-nil _))));
+  handled = frames;
+  begun = [];
+  one = omega arith;
+  frames_are = sym (append-nil frames);
+  whole = inr ((λ port name at. whole_holds t name _ (all.outs port name at)), whole_holds t _ _ all.log);
+  line = inr (λ port name at. whole_holds t name _ (all.outs port name at));
 }
+
+-- the frames that were handled are first ones
+
+first_of_all : {s : Disk} {ins : List (List ℕ)} {frames : List Arrival} → AreAll s ins frames → AreFirst s ins frames
+first_of_all all = (all.0, all.2.left, all.1, all.2.first, (λ port damage at. absurd (whole_refused (all.2.whole port) (all.2.first.ends port) at.refused)), all.3)
+  where
+    whole_refused : {a b : CaptureEnd} {damage : Damage} → b ≡ Whole → a ≡ b → a ≡ Refused damage → ⊥
+    whole_refused whole ends refused = cc
+
+first_up_to : {s : Disk} {ins : List (List ℕ)} {frames : List Arrival} {port : ℕ} {fault : CaptureFault} → AreUpTo s ins frames port fault → AreFirst s ins frames
+first_up_to {frames = frames} {port = port} up_to = (up_to.0, up_to.3.left, up_to.2, up_to.3.first, (λ other damage at. elim (up_to.3.no_other other damage at) [
+    | inl same ↦ rw same up_to.3.right_after
+    | inr none ↦ rw none.0 tt
+  ]), up_to.5)
+
+first_of_many : {s : Disk} {ins : List (List ℕ)} {frames : List Arrival} → AreTooMany s ins frames → AreFirst s ins frames
+first_of_many many = (many.0, many.1, many.2, many.3, (λ port damage at. absurd (many.6 port damage at)), omega (arith, many.4))
 
 pub began_done : {words : List (List ℕ)} (s t : Disk) {n : Files} (r : Report) → IsRun words n → HasRun s t n r → BeganReplay words s t
 began_done s t {n} r run has = record {
@@ -113,7 +137,7 @@ began_done s t {n} r run has = record {
   began = record {
     frames = has.replayed.frames;
     ports = has.replayed.ports;
-    first = λ told. let all = has.replayed.all told in (all.0, all.2.left, all.1, all.2.first);
+    first = λ told. first_of_all (has.replayed.all told);
     wrote = λ told. parts_of_all s t has.replayed.frames (has.replayed.wrote told);
   };
   others = has.others;
@@ -138,8 +162,8 @@ outputs_after s t Read run (_, inl none) = inl none
 outputs_after s t Read run (_, inr b) = inr (begins s t run b)
 outputs_after s t Write run x = inr (begins s t run x.2)
 outputs_after s t Memory run x = inl x.0
-outputs_after s t {n} (Record port number damage) run x = inr (began_after s t run (λ frames up_to. (up_to.0, up_to.3.left, up_to.2, up_to.3.first)) x)
-outputs_after s t {n} Frames run x = inr (began_after s t run (λ frames many. (many.0, many.1, many.2, many.3)) x)
+outputs_after s t {n} (Record port number damage) run x = inr (began_after s t run (λ frames up_to. first_up_to up_to) x)
+outputs_after s t {n} Frames run x = inr (began_after s t run (λ frames many. first_of_many many) x)
 outputs_after s t (Header port field) run x = inl x.unwritten
 outputs_after s t Usage run x = inl x.unwritten
 outputs_after s t (Wrong at port) run x = inl x.unwritten

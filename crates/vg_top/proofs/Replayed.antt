@@ -34,7 +34,7 @@ module _ {s t : Disk} (same : t.held ≡ s.held) where
   all_before x = record { ports = x.ports; each = λ port name at. rw same at (x.each port name at) }
 
   first_before : {ins : List (List ℕ)} {frames : List Arrival} → AreFirst t ins frames → AreFirst s ins frames
-  first_before x = (x.0, x.1, all_before x.2, x.3)
+  first_before x = (x.0, x.1, all_before x.2, x.3, x.4, x.5)
 
   AreAll-before : {ins : List (List ℕ)} {frames : List Arrival} → AreAll t ins frames → AreAll s ins frames
   AreAll-before x = (x.0, all_before x.1, x.2, x.3)
@@ -61,11 +61,13 @@ WroteAll-before s t u x = record { outs = x.outs; log = x.log }
 WroteParts-before : (s t u : Disk) {n : ReplayFiles} {f : Small} {frames : List Arrival} → t.made ≡ s.made → WroteParts t u n f frames → WroteParts s u n f frames
 WroteParts-before s t u made x = record {
   outs = λ port name at. rw made at (x.outs port name at);
-  lined = x.lined;
-  others = x.others;
-  frames_are = x.frames_are;
   log = rw made at x.log;
-  captures = x.captures;
+  handled = x.handled;
+  begun = x.begun;
+  one = x.one;
+  frames_are = x.frames_are;
+  whole = x.whole;
+  line = rw made at x.line;
 }
 
 -- ---- the run

@@ -32,7 +32,7 @@ returns-then-is_err g c =
     let first : IsFirstLeft c.args.self.now.inputs a = subst (λ (r : Replaying). IsFirstLeft r.inputs a) c.self.view_is (c.in-Some.ensures.first a c.in-Some.ensures.next.1) in
     let failed : IsErr c.write_frame.result = search rules in
     let writes = rw (failed_is c.write_frame.result failed) at (c.write_frame.ensures.writes frame next) in
-    λ s n past x. rw c.write_frame.ensures.same (frame_fails a x next first writes)
+    λ s n past x. rw c.write_frame.ensures.same (frame_fails a x (λ e. c.if-self.false (ap (λ (r : Replaying). r.totals.frames) c.self.view_is ∙ e)) next first writes)
 
 pub counted-self-inside-requires : goal.counted-self-inside-requires
 counted-self-inside-requires g c =
