@@ -6,6 +6,8 @@ mod lines;
 mod outputs;
 mod replaying;
 mod stop;
+#[cfg(test)]
+mod tests;
 mod totals;
 mod under_way;
 

@@ -1,0 +1,208 @@
+ghost use Rattle.std.specs.Prelude.{◌≡◌, ◌<◌, ◌↔◌, IsTrue, IfOk, [], ◌∷◌, codes, length, map, string_bytes};
+ghost use Rattle.vg_base.specs.Memory.{disk_of};
+ghost use Rattle.vg_replay.specs.Replays.{IsOfText, SendsBelow};
+
+use super::*;
+use std::alloc::{AllocError, Global};
+use std::test::Fail;
+use vg_base::{Files, MemFiles};
+use vg_core::{Lang, Small, read_small};
+use vg_pcap::{CaptureFault, HeaderField};
+
+// What port 0 gets goes to port 2, and the rest to port 0.
+const TO_TWO: &str =
+    "int nf_process(uint16_t port, uint64_t now) { if (port == 0) return 2; return 0; }";
+
+// The header of a capture: little-endian, nanoseconds, version 2.4, snap length 262,144, Ethernet.
+const HEADER: [u8; 24] = [
+    0x4d, 0x3c, 0xb2, 0xa1, 2, 0, 4, 0, 0, 0, 0, 0, 0, 0, 0, 0, 0, 0, 4, 0, 1, 0, 0, 0,
+];
+
+// A record of a frame of two bytes that was three bytes long, at this time in nanoseconds.
+fn record(time: u8, byte: u8) -> [u8; 18] {
+    [0, 0, 0, 0, time, 0, 0, 0, 2, 0, 0, 0, 3, 0, 0, 0, byte, 7]
+}
+
+// A capture of frames at these times; the first byte of each tells its place.
+fn capture(alloc: Global, times: &[u8]) -> Result<Vec<u8>, AllocError> {
+    let mut bytes = Vec::from_slice(alloc, &HEADER)?;
+    let mut place = 0;
+    for time in times {
+        bytes.extend_from_slice(&record(*time, place))?;
+        place = if place < 9 { place + 1 } else { place };
+    }
+    Ok(bytes)
+}
+
+fn named(alloc: Global, name: &str, bytes: Vec<u8>) -> Result<(String, Vec<u8>), AllocError> {
+    Ok((String::from_str(alloc, name)?, bytes))
+}
+
+// Files with the captures of port 0 and of port 1, of which calls fail as planned.
+fn files_of(alloc: Global, first: Vec<u8>, second: Vec<u8>, fails: &[u64]) -> Result<MemFiles, Fail>
+    ensures { IfOk result (λ m. (disk_of m).open_count ≡ 0) }
+{
+    let mut held = Vec::new(alloc);
+    held.push(named(alloc, "in0", first)?)?;
+    held.push(named(alloc, "in1", second)?)?;
+    let files = MemFiles::new(alloc, held, 8, 1000, Vec::from_slice(alloc, fails)?)?;
+    Ok(files)
+}
+
+// Three names.
+fn three(alloc: Global, a: &str, b: &str, c: &str) -> Result<Vec<String>, AllocError>
+    ensures { IfOk result (λ names. map string_bytes names.items ≡ a.now ∷ b.now ∷ c.now ∷ []) }
+{
+    let mut names = Vec::new(alloc);
+    names.push(String::from_str(alloc, a)?)?;
+    names.push(String::from_str(alloc, b)?)?;
+    names.push(String::from_str(alloc, c)?)?;
+    Ok(names)
+}
+
+// Whether each value of a function is below this.
+fn sends_below(f: &Small, ports: u16) -> bool
+    ensures { IsTrue result ↔ SendsBelow ports f.now }
+{
+    f.last < ports && f.tests.as_slice().iter().all(|t| t.value < ports)
+}
+
+// A function that sends to the ports 0 to 2.
+fn function_of(alloc: Global, text: &str) -> Result<Small, Fail>
+    requires { length text.now < 1000 }
+    ensures text { IfOk result IsOfText }
+    ensures ports { IfOk result (SendsBelow 3) }
+{
+    let small = read_small(alloc, text.as_bytes(), Lang::C)?;
+    if sends_below(&small, 3) {
+        Ok(small)
+    } else {
+        Err("a value is no port".into())
+    }
+}
+
+// Replays three ports, of which the last gets nothing.
+fn replay_three(alloc: Global, files: &mut MemFiles) -> Result<Result<Totals, RunStop>, Fail>
+    requires { (disk_of files.old).open_count ≡ 0 }
+{
+    let small = function_of(alloc, TO_TWO)?;
+    let ins = three(alloc, "in0", "in1", "-")?;
+    let outs = three(alloc, "out0", "out1", "out2")?;
+    Ok(replay(alloc, small, files, "log", &ins, &outs))
+}
+
+#[test]
+fn frames_are_merged(rt: HostRuntime) -> Result<(), Fail> {
+    let alloc = rt.alloc();
+    let mut files = files_of(
+        alloc,
+        capture(alloc, &[5, 3, 9])?,
+        capture(alloc, &[5])?,
+        &[],
+    )?;
+    let totals = Totals {
+        frames: 4,
+        sent: 4,
+        dropped: 0,
+        flooded: 0,
+        steps: 12,
+    };
+    assert_eq!(rt; replay_three(alloc, &mut files)?, Ok(totals));
+    let log =
+        "1 in 0 to 2 steps 3\n2 in 0 to 2 steps 3\n3 in 1 to 0 steps 3\n4 in 0 to 2 steps 3\n";
+    assert_eq!(rt; files.written("log").ok_or("no log")?, log.as_bytes());
+    assert_eq!(rt;
+        files.written("out0").ok_or("no out0")?,
+        capture(alloc, &[5])?.as_slice()
+    );
+    assert_eq!(rt; files.written("out1").ok_or("no out1")?, HEADER.as_slice());
+    assert_eq!(rt;
+        files.written("out2").ok_or("no out2")?,
+        capture(alloc, &[5, 5, 9])?.as_slice()
+    );
+    Ok(())
+}
+
+#[test]
+fn a_cut_record_ends_it(rt: HostRuntime) -> Result<(), Fail> {
+    let alloc = rt.alloc();
+    let mut cut = capture(alloc, &[5, 3, 9])?;
+    cut.truncate(24 + 3 * 18 - 1);
+    let mut files = files_of(alloc, cut, capture(alloc, &[5])?, &[])?;
+    let stop = RunStop::Capture {
+        port: 0,
+        fault: CaptureFault::Cut(3),
+    };
+    assert_eq!(rt; replay_three(alloc, &mut files)?, Err(stop));
+    let log = "1 in 0 to 2 steps 3\n2 in 0 to 2 steps 3\n";
+    assert_eq!(rt; files.written("log").ok_or("no log")?, log.as_bytes());
+    assert_eq!(rt; files.written("out0").ok_or("no out0")?, HEADER.as_slice());
+    assert_eq!(rt;
+        files.written("out2").ok_or("no out2")?,
+        capture(alloc, &[5, 5])?.as_slice()
+    );
+    Ok(())
+}
+
+#[test]
+fn a_bad_header_creates_nothing(rt: HostRuntime) -> Result<(), Fail> {
+    let alloc = rt.alloc();
+    let short = Vec::from_slice(alloc, &HEADER[..23])?;
+    let mut files = files_of(alloc, capture(alloc, &[5])?, short, &[])?;
+    let stop = RunStop::Capture {
+        port: 1,
+        fault: CaptureFault::Header(HeaderField::Length),
+    };
+    assert_eq!(rt; replay_three(alloc, &mut files)?, Err(stop));
+    assert!(rt; files.written("out0").is_none());
+    assert!(rt; files.written("log").is_none());
+    Ok(())
+}
+
+// Each call on the files fails in turn. That is told at two opens and four reads, at four creations and the headers of three captures, at a frame and a
+// line for each of three frames, and at the closing of four outputs; and not at the closing of two inputs.
+#[test]
+fn each_fault_is_told(rt: HostRuntime) -> Result<(), Fail> {
+    let alloc = rt.alloc();
+    let mut told = Vec::new(alloc);
+    for call in 1..60u64 {
+        let mut files = files_of(
+            alloc,
+            capture(alloc, &[5, 3])?,
+            capture(alloc, &[4])?,
+            &[call],
+        )?;
+        match replay_three(alloc, &mut files)? {
+            Ok(totals) => assert_eq!(rt; totals.frames, 3),
+            Err(RunStop::Read) | Err(RunStop::Write) => told.push(call)?,
+            Err(_) => return Err("another stop".into()),
+        }
+    }
+    assert_eq!(rt; told.len(), 23);
+    Ok(())
+}
+
+#[test]
+fn frame_by_frame(rt: HostRuntime) -> Result<(), Fail> {
+    let alloc = rt.alloc();
+    let mut files = files_of(alloc, capture(alloc, &[5, 3])?, capture(alloc, &[])?, &[])?;
+    let small = function_of(alloc, TO_TWO)?;
+    let ins = three(alloc, "in0", "in1", "-")?;
+    let outs = three(alloc, "out0", "out1", "out2")?;
+    let Ok(begun) = Replay::start(alloc, small, &mut files, "log", &ins, &outs) else {
+        return Err("not begun".into());
+    };
+    assert_eq!(rt; files.written("out2").ok_or("no out2")?, HEADER.as_slice());
+    let Ok(Next::Again(next)) = begun.next_frame(&mut files) else {
+        return Err("no frame".into());
+    };
+    assert_eq!(rt;
+        files.written("out2").ok_or("no out2")?,
+        capture(alloc, &[5])?.as_slice()
+    );
+    let Ok(totals) = next.run(&mut files) else {
+        return Err("not run".into());
+    };
+    assert_eq!(rt; totals.frames, 2);
+    Ok(())
+}
