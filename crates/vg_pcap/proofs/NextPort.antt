@@ -1,15 +1,17 @@
 -- The port of the next frame as a function of the inputs, and what is left where its bytes are changed.
 use Rattle.std.specs.Prelude.{nat_lt}
-use Rattle.std.proofs.Common.{◌≡◌, ℕ, zero, suc, ◌+◌, ◌<◌, ◌≤◌, inl, inr, ⊎_elim, refl, ◌∙◌, sym, ap, subst, List, [], ◌∷◌, length, set, slice_get, if◌then◌else◌, Bool, true, false, Some, None, Option, arith, length-set, true≢false}
-use Rattle.std.proofs.lemmas.Bool.{cases_lt, ltb-true, ltb-false}
+use Rattle.std.proofs.Common.{◌≡◌, ◌≢◌, ℕ, zero, suc, ◌+◌, ◌<◌, ◌≤◌, ◌⊎◌, inl, inr, ⊎_elim, refl, ◌∙◌, sym, ap, subst, List, [], ◌∷◌, length, set, All, slice_get, if◌then◌else◌, Bool, true, false, Some, None, Option, arith, length-set, true≢false}
+use Rattle.std.proofs.lemmas.Bool.{cases_eq, cases_lt, ltb-true, ltb-false}
 use Rattle.std.proofs.lemmas.List.Elements.{All-set}
 use Rattle.std.proofs.lemmas.Option.{same_Some, slice_get_within}
+use Rattle.vg_base.specs.Files.{Disk}
 use Rattle.vg_pcap.specs.Frames.{Framed}
 use Rattle.vg_pcap.specs.Arrivals.{Arrival, Precedes}
-use Rattle.vg_pcap.specs.Merge.{Input, IsNext, IsChanged, waiting_at}
+use Rattle.vg_pcap.specs.Reader.{IsReadable}
+use Rattle.vg_pcap.specs.Merge.{Input, AreReadable, IsNext, IsChanged, waiting_at}
 use Rattle.vg_pcap.specs.Inputs.{AreInputs, IsSound}
 use Rattle.vg_pcap.specs.Lending.{over, with_written, Waiting, first_of, next_from, written_at, with_next, IsWritten}
-use Rattle.vg_pcap.proofs.Arriving.{slice_get-set_same, slice_get-set_other, All-at_place}
+use Rattle.vg_pcap.proofs.Arriving.{slice_get-set_same, slice_get-set_other, All-at_place, All-from_places}
 use Rattle.vg_pcap.proofs.Ports.{apart-set}
 use Rattle.vg_pcap.proofs.Lent.{over_whole, length-over}
 use Rattle.vg_pcap.proofs.Merging.{one_next, still_next}
@@ -60,7 +62,6 @@ first_here port i inputs w later = record { place = 0; is = omega arith; at = re
         (λ (lt : i.reader.frame.time < other.reader.frame.time). inl lt)
         (λ (ge : other.reader.frame.time ≤ i.reader.frame.time). let same : i.reader.frame.time ≡ other.reader.frame.time = omega arith in inr (same, low))
         (cases_lt i.reader.frame.time other.reader.frame.time)
-
     least : (q p : ℕ) (other : Input) → p ≡ port + q → slice_get (i ∷ inputs) q ≡ Some other → other.waits ≡ true → Precedes (waiting_at port i) (waiting_at p other)
     least zero p other e at waits =
         let same : i.reader.frame.time ≡ other.reader.frame.time = ap (λ (o : Input). o.reader.frame.time) (same_Some i other at) in
@@ -94,6 +95,9 @@ next_is_first : (port : ℕ) (inputs : List Input) → IsFirstIf port inputs (ne
 next_is_first port [] = λ q other at waits. let lt = slice_get_within [] q other at in omega arith
 next_is_first port (i ∷ inputs) = first_step port i inputs i.waits refl (next_from (port + 1) inputs) (next_is_first (port + 1) inputs)
 
+same_waiting : (x : Waiting) (port : ℕ) (input : Input) → x.port ≡ port → x.input ≡ input → x ≡ record { port = port; input = input }
+same_waiting x port input p i = ap (λ (k : ℕ). record { port = k; input = x.input }) p ∙ ap (λ (there : Input). record { port = port; input = there }) i
+
 -- the frame that comes first is the next one
 first_is_next : (inputs : List Input) (a : Arrival) (next : IsNext inputs a) (o : Option Waiting) → IsFirstIf 0 inputs o → o ≡ Some (record { port = a.port; input = next.input })
 first_is_next inputs a next None none = absurd (none a.port next.input next.at next.waits)
@@ -109,7 +113,7 @@ first_is_next inputs a next (Some x) first =
     } in
     let port : x.port ≡ a.port = one_next is_next next in
     let input : x.input ≡ next.input = same_Some x.input next.input (sym at ∙ (ap (λ k. slice_get inputs k) port ∙ next.at)) in
-    ap (λ (k : ℕ). Some (record { port = k; input = x.input })) port ∙ ap (λ (i : Input). Some (record { port = a.port; input = i })) input
+    ap (λ (w : Waiting). Some w) (same_waiting x a.port next.input port input)
 
 with_next_is : {inputs : List Input} {a : Arrival} (next : IsNext inputs a) (bytes : List ℕ) → with_next inputs bytes ≡ set inputs a.port (with_written next.input bytes)
 with_next_is {inputs} {a} next bytes =
@@ -161,8 +165,21 @@ written_next {inputs} {a} bytes next same =
         bytes,
         same,
         slice_get-set_same inputs a.port now lt
-            ∙ ap (λ (i : Input). Some (record i { reader = record i.reader { frame = record a.frame { bytes = bytes } } })) (same_Some input x (sym next.at ∙ at)),
+        ∙ ap (λ (i : Input). Some (record i { reader = record i.reader { frame = record a.frame { bytes = bytes } } })) (same_Some input x (sym next.at ∙ at)),
       );
     } in
     let all : with_next inputs bytes ≡ set inputs a.port now = with_next_is next bytes ∙ ap (set inputs a.port) is in
     rw all (record { changed = changed; next = still_next changed })
+
+-- where the bytes of the next frame are changed, the files stay as they are
+pub readable_changed : (s : Disk) {came now : List Input} {a : Arrival} → IsChanged came now a → AreReadable s came → AreReadable s now
+readable_changed s {came} {now} {a} changed readable =
+    All-from_places (λ (i : Input). IsReadable s i.reader.id) now
+    (λ port x at. ⊎_elim
+    (λ (e : port ≡ a.port).
+    let input = changed.next.input in
+    let there : slice_get now a.port ≡ Some x = ap (λ k. slice_get now k) (sym e) ∙ at in
+    let is = same_Some _ x (sym (changed.bytes input changed.next.at).2 ∙ there) in
+    subst (λ (i : Input). IsReadable s i.reader.id) is (All-at_place (λ (i : Input). IsReadable s i.reader.id) came a.port input readable changed.next.at))
+    (λ (ne : port ≢ a.port). All-at_place (λ (i : Input). IsReadable s i.reader.id) came port x readable (sym (changed.others port ne) ∙ at))
+    (cases_eq port a.port))

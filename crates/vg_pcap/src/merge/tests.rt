@@ -1,4 +1,7 @@
-ghost use Rattle.vg_pcap.specs.Merge.{AreReadable};
+ghost use Rattle.std.specs.Prelude.{List, ℕ};
+ghost use Rattle.vg_pcap.specs.Arrivals.{Arrival};
+ghost use Rattle.vg_pcap.specs.Merge.{AreReadable, IsNext};
+ghost use Rattle.vg_pcap.specs.Lending.{IsWritten};
 
 use super::*;
 use crate::faults::HeaderField;
@@ -38,6 +41,30 @@ fn next<F: Files>(
     Ok(Some((port, time, byte)))
 }
 
+// Puts this byte in the place of each one of the next frame.
+fn fill_next(merge: &mut Merge, byte: u8)
+    requires { (a : Arrival) × IsNext merge.old a }
+    ensures { (a : Arrival) → IsNext merge.old a → (bytes : List ℕ) × IsWritten merge.old merge.new a bytes }
+{
+    merge.frame_mut().fill(byte);
+}
+
+// The same as `next`, where the frame is filled with a byte before.
+fn next_filled<F: Files>(
+    merge: &mut Merge,
+    files: &mut F,
+    byte: u8,
+) -> Result<Option<(u16, u64, Option<u8>)>, MergeFault>
+    requires { AreReadable (F.disk files.old) merge.old }
+    ensures { AreReadable (F.disk files.new) merge.new }
+{
+    let Some(_) = merge.next_port() else {
+        return Ok(None);
+    };
+    fill_next(merge, byte);
+    next(merge, files)
+}
+
 #[test]
 fn frames_come_by_time_then_port_then_place(rt: HostRuntime) -> Result<(), Fail> {
     let alloc = rt.alloc();
@@ -56,6 +83,28 @@ fn frames_come_by_time_then_port_then_place(rt: HostRuntime) -> Result<(), Fail>
     assert_eq!(rt; next(&mut merge, &mut files), Ok(Some((1, 5, Some(4)))));
     assert_eq!(rt; next(&mut merge, &mut files), Ok(Some((0, 9, Some(3)))));
     assert_eq!(rt; next(&mut merge, &mut files), Ok(None));
+    assert_eq!(rt; merge.close(&mut files), Ok(()));
+    Ok(())
+}
+
+#[test]
+fn a_frame_that_is_changed_in_place_keeps_its_time(rt: HostRuntime) -> Result<(), Fail> {
+    let alloc = rt.alloc();
+    let ins = [
+        String::from_str(alloc, "in0")?,
+        String::from_str(alloc, "in1")?,
+    ];
+    let mut held = Vec::new(alloc);
+    held.push((ins[0].clone()?, capture(alloc, &[(6, 1), (9, 2)])?))?;
+    held.push((ins[1].clone()?, capture(alloc, &[(5, 3), (6, 4)])?))?;
+    let mut files = MemFiles::new(alloc, held, 2, 0, Vec::new(alloc))?;
+    let mut merge = Merge::start(alloc, &mut files, &ins)?;
+    merge.fill(&mut files)?;
+    assert_eq!(rt; next_filled(&mut merge, &mut files, 77), Ok(Some((1, 5, Some(77)))));
+    assert_eq!(rt; next(&mut merge, &mut files), Ok(Some((0, 6, Some(1)))));
+    assert_eq!(rt; next_filled(&mut merge, &mut files, 88), Ok(Some((1, 6, Some(88)))));
+    assert_eq!(rt; next(&mut merge, &mut files), Ok(Some((0, 9, Some(2)))));
+    assert_eq!(rt; next_filled(&mut merge, &mut files, 99), Ok(None));
     assert_eq!(rt; merge.close(&mut files), Ok(()));
     Ok(())
 }
