@@ -1,6 +1,6 @@
 -- The port of the next frame as a function of the inputs, and what is left where its bytes are changed.
 use Rattle.std.specs.Prelude.{nat_lt}
-use Rattle.std.proofs.Common.{◌≡◌, ◌≢◌, ℕ, zero, suc, ◌+◌, ◌<◌, ◌≤◌, ◌⊎◌, inl, inr, ⊎_elim, refl, ◌∙◌, sym, ap, subst, List, [], ◌∷◌, length, set, All, slice_get, if◌then◌else◌, Bool, true, false, Some, None, Option, arith, length-set, true≢false}
+use Rattle.std.proofs.Common.{◌≡◌, ◌≢◌, ℕ, zero, suc, ◌+◌, ◌<◌, ◌≤◌, inl, inr, ⊎_elim, refl, ◌∙◌, sym, ap, subst, List, [], ◌∷◌, length, set, slice_get, if◌then◌else◌, Bool, true, false, Some, None, Option, arith, length-set, true≢false}
 use Rattle.std.proofs.lemmas.Bool.{cases_eq, cases_lt, ltb-true, ltb-false}
 use Rattle.std.proofs.lemmas.List.Elements.{All-set}
 use Rattle.std.proofs.lemmas.Option.{same_Some, slice_get_within}
@@ -62,6 +62,7 @@ first_here port i inputs w later = record { place = 0; is = omega arith; at = re
         (λ (lt : i.reader.frame.time < other.reader.frame.time). inl lt)
         (λ (ge : other.reader.frame.time ≤ i.reader.frame.time). let same : i.reader.frame.time ≡ other.reader.frame.time = omega arith in inr (same, low))
         (cases_lt i.reader.frame.time other.reader.frame.time)
+
     least : (q p : ℕ) (other : Input) → p ≡ port + q → slice_get (i ∷ inputs) q ≡ Some other → other.waits ≡ true → Precedes (waiting_at port i) (waiting_at p other)
     least zero p other e at waits =
         let same : i.reader.frame.time ≡ other.reader.frame.time = ap (λ (o : Input). o.reader.frame.time) (same_Some i other at) in
@@ -165,7 +166,7 @@ written_next {inputs} {a} bytes next same =
         bytes,
         same,
         slice_get-set_same inputs a.port now lt
-        ∙ ap (λ (i : Input). Some (record i { reader = record i.reader { frame = record a.frame { bytes = bytes } } })) (same_Some input x (sym next.at ∙ at)),
+            ∙ ap (λ (i : Input). Some (record i { reader = record i.reader { frame = record a.frame { bytes = bytes } } })) (same_Some input x (sym next.at ∙ at)),
       );
     } in
     let all : with_next inputs bytes ≡ set inputs a.port now = with_next_is next bytes ∙ ap (set inputs a.port) is in

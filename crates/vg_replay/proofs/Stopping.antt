@@ -205,7 +205,7 @@ damage_behind {left = left} {past = past} a c more port damage at = elim (cases_
   | inr ne ↦
       let come = ap (λ (l : List Framed). l ++ (stream_at left port).frames) (frames_from-push_other port a past ne) in
       let same : (stream_at c.left port).frames ≡ (stream_at left port).frames =
-          append_cancel_left (frames_from port past) (stream_at c.left port).frames (stream_at left port).frames (sym (c.first.in_turn port) ∙ more.in_turn port ∙ come) in
+      append_cancel_left (frames_from port past) (stream_at c.left port).frames (stream_at left port).frames (sym (c.first.in_turn port) ∙ more.in_turn port ∙ come) in
       absurd (no_damage_left c port damage (record { none_left = same ∙ at.none_left; refused = c.first.ends port ∙ sym (more.ends port) ∙ at.refused }))
 ]
 
