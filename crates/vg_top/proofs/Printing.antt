@@ -9,7 +9,7 @@ use Rattle.vg_core.specs.declared.small.Small.{Small}
 use Rattle.vg_pcap.specs.Frames.{header, record_of}
 use Rattle.vg_pcap.specs.declared.faults.CaptureFault.{CaptureFault}
 use Rattle.vg_pcap.specs.Captures.{Damage, CaptureEnd, Whole, Refused}
-use Rattle.vg_pcap.specs.Arrivals.{Arrival, EndsAt}
+use Rattle.vg_pcap.specs.Arrivals.{Arrival}
 use Rattle.vg_core.specs.declared.verdict.Verdict.{Verdict}
 use Rattle.vg_replay.specs.Outputs.{goes_to, handle_at, handled_by, piece_to, capture_to}
 use Rattle.vg_replay.specs.Replays.{ReplayFiles, IsPart, Holds, WroteAll, WroteParts, AreFirst, AreAll, AreUpTo, AreTooMany}
@@ -119,10 +119,17 @@ first_of_all all = (all.0, all.2.left, all.1, all.2.first, (λ port damage at. a
     whole_refused whole ends refused = cc
 
 first_up_to : {s : Disk} {ins : List (List ℕ)} {frames : List Arrival} {port : ℕ} {fault : CaptureFault} → AreUpTo s ins frames port fault → AreFirst s ins frames
-first_up_to {frames = frames} {port = port} up_to = (up_to.0, up_to.3.left, up_to.2, up_to.3.first, (λ other damage at. elim (up_to.3.no_other other damage at) [
+first_up_to {frames = frames} {port = port} up_to = (
+  up_to.0,
+  up_to.3.left,
+  up_to.2,
+  up_to.3.first,
+  (λ other damage at. elim (up_to.3.no_other other damage at) [
     | inl same ↦ rw same up_to.3.right_after
     | inr none ↦ rw none.0 tt
-  ]), up_to.5)
+  ]),
+  up_to.5,
+)
 
 first_of_many : {s : Disk} {ins : List (List ℕ)} {frames : List Arrival} → AreTooMany s ins frames → AreFirst s ins frames
 first_of_many many = (many.0, many.1, many.2, many.3, (λ port damage at. absurd (many.6 port damage at)), omega (arith, many.4))
