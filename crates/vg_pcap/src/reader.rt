@@ -124,8 +124,9 @@ impl CaptureReader {
         let Some(head) = found else {
             return Ok(false);
         };
+        let time = self.latest.max(head.time(self.encoding));
         self.count = number;
-        self.latest = self.latest.max(head.time(self.encoding));
+        self.latest = time;
         self.captured = head.size;
         self.original = head.original;
         Ok(true)

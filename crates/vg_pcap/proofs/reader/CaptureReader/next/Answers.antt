@@ -1,4 +1,4 @@
-use Rattle.std.proofs.Common.{◌≡◌, ◌∙◌, max, length, vec_len, ap, arith}
+use Rattle.std.proofs.Common.{◌≡◌, ◌∙◌, max, length, vec_len, ap}
 use Rattle.std.proofs.lemmas.List.{with_items_is}
 use Rattle.vg_pcap.proofs.Streams.{reads_record, reads_none, reads_refused}
 use Rattle.vg_pcap.proofs.reader.CaptureReader.next.Goals as goal
@@ -13,6 +13,6 @@ pub returns : goal.returns
 returns g c =
     let frame = c.self.inside.frame in
     let room : length c.take_record.new.frame ≡ vec_len frame = c.take_record.auto.frame ∙ c.as_mut_slice-frame.ensures.len in
-    let time = c.max-self-inside.ensures ∙ ap (max c.self.inside.latest) c.time.ensures in
+    let time = c.max-time.ensures ∙ ap (max c.self.inside.latest) c.time.ensures in
     let takes = rw c.in-Some.is at c.in-Ok.ensures in
     rw (← c.self.view_is) (reads_record _ _ _ _ _ _ c.in-Some.head takes c.saturating_add-number.ensures time (with_items_is frame c.take_record.new.frame room) c.self.invariant.0 (room ∙ c.self.invariant.1))
