@@ -117,10 +117,7 @@ impl CaptureReader {
     {
         let number = self.count.saturating_add(1);
         let frame = self.frame.as_mut_slice();
-        let found = match take_record(&mut self.source, files, self.encoding, frame, number) {
-            Ok(found) => found,
-            Err(fault) => return Err(fault),
-        };
+        let found = take_record(&mut self.source, files, self.encoding, frame, number)?;
         let Some(head) = found else {
             return Ok(false);
         };
