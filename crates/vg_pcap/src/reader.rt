@@ -120,15 +120,13 @@ impl CaptureReader {
     {
         let number = self.count.saturating_add(1);
         let frame = self.frame.as_mut_slice();
-        let found = match take_record(&mut self.source, files, self.encoding, frame, number) {
-            Ok(found) => found,
-            Err(fault) => return Err(fault),
-        };
+        let found = take_record(&mut self.source, files, self.encoding, frame, number)?;
         let Some(head) = found else {
             return Ok(false);
         };
+        let time = self.latest.max(head.time(self.encoding));
         self.count = number;
-        self.latest = self.latest.max(head.time(self.encoding));
+        self.latest = time;
         self.captured = head.size;
         self.original = head.original;
         Ok(true)

@@ -34,9 +34,7 @@ impl CaptureWriter {
         requires { (F.disk files.old).open_count < MAX_OPEN }
         ensures { StartsWriting (F.disk files.old) (F.disk files.new) name.now result }
     {
-        let Ok(id) = files.create(name) else {
-            return Err(Failed);
-        };
+        let id = files.create(name)?;
         let Ok(()) = put_all(files, id, &header_bytes()) else {
             let _ = files.close(id);
             return Err(Failed);
