@@ -1,5 +1,5 @@
 -- What bytes written over a frame leave.
-use Rattle.std.proofs.Common.{◌≡◌, ℕ, zero, suc, ◌+◌, ◌≤◌, refl, ◌∙◌, sym, ap, List, [], ◌∷◌, ◌++◌, length, take, drop, arith}
+use Rattle.std.proofs.Common.{◌≡◌, ℕ, zero, suc, ◌≤◌, refl, ◌∙◌, sym, ap, List, [], ◌∷◌, ◌++◌, length, take, drop, arith}
 use Rattle.std.proofs.lemmas.List.{take-take, take-append-le, length-append, length-drop, length-take-le}
 use Rattle.vg_pcap.specs.Reader.{Reader}
 use Rattle.vg_pcap.specs.Lending.{over}

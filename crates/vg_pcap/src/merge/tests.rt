@@ -100,9 +100,15 @@ fn a_frame_that_is_changed_in_place_keeps_its_time(rt: HostRuntime) -> Result<()
     let mut files = MemFiles::new(alloc, held, 2, 0, Vec::new(alloc))?;
     let mut merge = Merge::start(alloc, &mut files, &ins)?;
     merge.fill(&mut files)?;
-    assert_eq!(rt; next_filled(&mut merge, &mut files, 77), Ok(Some((1, 5, Some(77)))));
+    assert_eq!(rt;
+        next_filled(&mut merge, &mut files, 77),
+        Ok(Some((1, 5, Some(77))))
+    );
     assert_eq!(rt; next(&mut merge, &mut files), Ok(Some((0, 6, Some(1)))));
-    assert_eq!(rt; next_filled(&mut merge, &mut files, 88), Ok(Some((1, 6, Some(88)))));
+    assert_eq!(rt;
+        next_filled(&mut merge, &mut files, 88),
+        Ok(Some((1, 6, Some(88))))
+    );
     assert_eq!(rt; next(&mut merge, &mut files), Ok(Some((0, 9, Some(2)))));
     assert_eq!(rt; next_filled(&mut merge, &mut files, 99), Ok(None));
     assert_eq!(rt; merge.close(&mut files), Ok(()));
