@@ -1,14 +1,12 @@
 -- Headers at the front of a file.
-use Rattle.std.proofs.Common.{◌≡◌, ◌≢◌, ◌≤◌, ◌<◌, ℕ, ◌+◌, List, [], ◌++◌, length, take, drop, take_all, refl, sym, ap, ◌∙◌, append_assoc, append-nil, length-append, length-drop, arith}
+use Rattle.std.proofs.Common.{◌≡◌, ◌≤◌, ℕ, ◌+◌, List, [], ◌++◌, length, take, drop, refl, sym, ap, ◌∙◌, append_assoc, append-nil, length-append, length-drop, arith}
 use Rattle.std.proofs.lemmas.List.{drop_at, take_at, length-take-le, take-append-drop, take-append-le, drop-append-le}
 use Rattle.std.proofs.Math.Seq.{take-add}
-use Rattle.vg_base.specs.Files.{AreBytes}
-use Rattle.vg_pcap.specs.Captures.{Order, Encoding, HasHeader, HasMagic, IsBadHeader, header_bytes, magic_bytes, version_bytes, link_bytes, number_bytes}
+use Rattle.vg_pcap.specs.Captures.{Encoding, HasHeader, HasMagic, IsBadHeader, header_bytes, magic_bytes, version_bytes, link_bytes}
 use Rattle.vg_pcap.specs.declared.faults.HeaderField.{HeaderField}
 use Rattle.vg_pcap.specs.declared.faults.HeaderField.TheVariants.{Length, Magic, Version, Link}
-use Rattle.vg_pcap.specs.Reading.{number_in}
-use Rattle.vg_pcap.proofs.NumberBytes.{AreBytes-drop, number_is, number_told, length-number_bytes}
-use Rattle.vg_pcap.proofs.Pieces.{same_front, four_pieces, no_items}
+use Rattle.vg_pcap.proofs.NumberBytes.{length-number_bytes}
+use Rattle.vg_pcap.proofs.Pieces.{four_pieces, no_items}
 
 pub length-header_bytes : (encoding : Encoding) (ignored : List ℕ) → length ignored ≡ 12 → length (header_bytes encoding ignored) ≡ 24
 unfolding header_bytes

@@ -1,11 +1,11 @@
 -- Numbers as bytes: what was written is read, and what was read is written.
-use Rattle.std.proofs.Common.{◌≡◌, ◌≤◌, ◌<◌, ℕ, zero, suc, ◌+◌, ◌*◌, ◌/◌, ◌%◌, ◌^◌, List, [], ◌∷◌, ◌++◌, length, take, drop, slice_index, refl, sym, ap, ◌∙◌, length-take, arith}
-use Rattle.std.proofs.Math.Nat.{div-div-eq-div-mul, pow-succ', mod-lt}
+use Rattle.std.proofs.Common.{◌≡◌, ◌≤◌, ◌<◌, ℕ, zero, suc, ◌+◌, ◌*◌, ◌/◌, ◌%◌, ◌^◌, List, [], ◌∷◌, ◌++◌, length, take, drop, slice_index, refl, sym, ap, ◌∙◌, arith}
+use Rattle.std.proofs.Math.Nat.{div-div-eq-div-mul, pow-succ'}
 use Rattle.std.proofs.lemmas.Nat.{div-mul-add}
-use Rattle.std.proofs.lemmas.List.{drop_at, get_or-drop, get_or-take, length-take-le, take-append-drop}
-use Rattle.std.specs.Int.{byte_at, bytes_low_first, bytes_high_first}
+use Rattle.std.proofs.lemmas.List.{drop_at, get_or-drop, length-take-le, take-append-drop}
+use Rattle.std.specs.Int.{byte_at, bytes_low_first}
 use Rattle.byteorder.specs.Endian.{little_number, little_bytes, big_number, big_bytes}
-use Rattle.byteorder.specs.Numbers.{little_from-cons, little_from-lt, big_from-cons, big_from-lt, big_from-take, length-bytes_low_first, length-bytes_high_first, little_number-reads_back, big_number-reads_back, big_from-bytes}
+use Rattle.byteorder.specs.Numbers.{little_from-cons, little_from-lt, big_from-cons, big_from-lt, big_from-take, length-bytes_low_first, length-bytes_high_first, little_number-reads_back, big_number-reads_back}
 use Rattle.vg_base.specs.Files.{AreBytes}
 use Rattle.vg_pcap.specs.Captures.{Order, Little, Big, number_bytes}
 use Rattle.vg_pcap.specs.Reading.{number_in}

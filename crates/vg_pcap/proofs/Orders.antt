@@ -1,11 +1,11 @@
 -- The order of arrivals is one: laws on the definitions, which no code cites.
-use Rattle.std.proofs.Common.{◌≡◌, ◌≢◌, ℕ, zero, suc, ◌+◌, ◌<◌, ◌≤◌, ◌⊎◌, ◌==◌, inl, inr, refl, ◌∙◌, sym, ap, subst, List, [], ◌∷◌, ◌++◌, length, get_or, map, filter, All, AllPairs, Contains, arith, append-nil, length-append, append_assoc, eq-eqb, ne_eqb}
+use Rattle.std.proofs.Common.{◌≡◌, ◌≢◌, ℕ, suc, ◌≤◌, ◌⊎◌, ◌==◌, inl, inr, refl, ◌∙◌, sym, ap, subst, List, [], ◌∷◌, ◌++◌, length, filter, All, AllPairs, Contains, arith, append-nil, length-append, append_assoc, eq-eqb, ne_eqb}
 use Rattle.std.proofs.lemmas.Bool.{cases_eq}
 use Rattle.std.proofs.lemmas.List.{map-append, append_cancel_left}
 use Rattle.std.proofs.lemmas.List.Elements.{All-head, All-tail, filter-append}
-use Rattle.vg_pcap.specs.Captures.{Damage, CaptureEnd, Whole, Refused}
+use Rattle.vg_pcap.specs.Captures.{Damage, Refused}
 use Rattle.vg_pcap.specs.Frames.{Framed, Stream}
-use Rattle.vg_pcap.specs.Arrivals.{Arrival, no_frames, stream_at, frames_from, Precedes, ComeFirst, EndsAt, IsAtDamage, AllCome, ComeUpTo}
+use Rattle.vg_pcap.specs.Arrivals.{Arrival, stream_at, frames_from, Precedes, ComeFirst, EndsAt, IsAtDamage, AllCome, ComeUpTo}
 
 -- ---- frames of a port
 
@@ -149,7 +149,7 @@ left_of_more : {streams : List Stream} (b more : List Arrival) {la lb : List Str
     left_at lb port ≡ frames_from port more ++ left_at la port
 left_of_more b more {la} {lb} x y port =
     append_cancel_left (frames_from port b) (left_at lb port) (frames_from port more ++ left_at la port)
-        (sym (y.in_turn port) ∙ x.in_turn port ∙ ap (λ (l : List Framed). l ++ left_at la port) (frames_from-both port b more) ∙ append_assoc (frames_from port b) (frames_from port more) (left_at la port))
+    (sym (y.in_turn port) ∙ x.in_turn port ∙ ap (λ (l : List Framed). l ++ left_at la port) (frames_from-both port b more) ∙ append_assoc (frames_from port b) (frames_from port more) (left_at la port))
 
 -- where nothing came at any port there is no arrival
 no_arrivals : (more : List Arrival) → ((port : ℕ) → frames_from port more ≡ []) → more ≡ []
@@ -245,13 +245,13 @@ same_damage {p = p} {q = q} {d = d} {e = e} x y same =
 pub ComeUpTo-same : {streams : List Stream} (a b : List Arrival) {p q : ℕ} {d e : Damage} → ComeUpTo streams a p d → ComeUpTo streams b q e → (a ≡ b) × (p ≡ q) × (d ≡ e)
 ComeUpTo-same {streams} a b {p} {q} {d} {e} x y =
     let same : a ≡ b = elim (ComeFirst-order x.first y.first) [
-          | inl more ↦
-              let longer : ComeUpTo streams (b ++ more.0) p d = rw more.1 at x in
-              more.1 ∙ ap (λ (l : List Arrival). b ++ l) (no_later b more.0 y longer) ∙ append-nil b
-          | inr more ↦
-              let longer : ComeUpTo streams (a ++ more.0) q e = rw more.1 at y in
-              sym (more.1 ∙ ap (λ (l : List Arrival). a ++ l) (no_later a more.0 x longer) ∙ append-nil a)
-        ] in
+      | inl more ↦
+          let longer : ComeUpTo streams (b ++ more.0) p d = rw more.1 at x in
+          more.1 ∙ ap (λ (l : List Arrival). b ++ l) (no_later b more.0 y longer) ∙ append-nil b
+      | inr more ↦
+          let longer : ComeUpTo streams (a ++ more.0) q e = rw more.1 at y in
+          sym (more.1 ∙ ap (λ (l : List Arrival). a ++ l) (no_later a more.0 x longer) ∙ append-nil a)
+    ] in
     let there : ComeUpTo streams b p d = rw same at x in
     (same, same_port there y, same_damage there y (same_port there y))
 

@@ -1,13 +1,12 @@
 -- Bytes that are read ahead, and then given.
-use Rattle.std.proofs.Common.{◌≡◌, ◌≢◌, ◌≤◌, ◌<◌, ◌+◌, ◌-◌, ℕ, zero, suc, min, List, [], ◌∷◌, ◌++◌, length, take, drop, Option, Some, None, IsTrue, Result, Ok, Err, refl, sym, ap, ◌∙◌, append_assoc, append-nil, length-append, length-drop, length-take, take_all, arith}
+use Rattle.std.proofs.Common.{◌≡◌, ◌≤◌, ◌<◌, ◌+◌, ◌-◌, ℕ, min, List, [], ◌++◌, length, take, drop, Option, Some, None, IsTrue, Ok, refl, sym, ap, ◌∙◌, append_assoc, length-append, length-drop, arith}
 use Rattle.std.proofs.lemmas.List.{drop_at, take_at, drop-drop, length-take-le, take-append-drop, take-append-le}
 use Rattle.std.proofs.Math.Seq.{take-add, take-append-add}
 use borrow.Rule.Slice.PartMut.{put_mid, post_of, same_len_mid}
-use Rattle.vg_base.specs.declared.faults.Failed.{Failed}
-use Rattle.vg_base.specs.Files.{Disk, ReadsNext, ReadKeeps, reading, Counts}
+use Rattle.vg_base.specs.Files.{Disk, ReadsNext}
 use Rattle.vg_base.proofs.Disks.{ReadKeeps-trans, ReadsNext-keeps}
-use Rattle.vg_pcap.specs.Reader.{IsBefore, IsReadable}
-use Rattle.vg_pcap.specs.Buffered.{Source, Stays, Gives, Refills, ReadsSome, ReadsInto}
+use Rattle.vg_pcap.specs.Reader.{IsBefore}
+use Rattle.vg_pcap.specs.Buffered.{Source, Stays, Gives, Refills}
 use Rattle.vg_pcap.proofs.Pieces.{no_items}
 
 -- ---- pieces of the buffer

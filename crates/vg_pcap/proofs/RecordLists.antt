@@ -1,13 +1,13 @@
 -- Records, one after another, up to an end.
-use Rattle.std.proofs.Common.{◌≡◌, ◌≢◌, ◌≤◌, ◌<◌, ◌+◌, ◌^◌, ◌⊎◌, inl, inr, ℕ, zero, suc, Option, Some, None, List, [], ◌∷◌, ◌++◌, length, take, drop, refl, sym, ap, ◌∙◌, append_assoc, append-nil, length-append, length-drop, All, Bool, true, false, if◌then◌else◌, nat_le, nat_lt, arith}
+use Rattle.std.proofs.Common.{◌≡◌, ◌≢◌, ◌≤◌, ◌<◌, ◌+◌, ◌^◌, ◌⊎◌, inl, inr, ℕ, zero, suc, Option, Some, None, List, [], ◌∷◌, ◌++◌, length, take, drop, refl, sym, ap, ◌∙◌, append_assoc, length-append, All, if◌then◌else◌, nat_le, nat_lt, arith}
 use Rattle.std.specs.List.{flat_map}
-use Rattle.std.proofs.lemmas.List.{drop_at, take-append-drop, length-take-le}
+use Rattle.std.proofs.lemmas.List.{drop_at}
 use Rattle.std.proofs.lemmas.List.Elements.{All-nil, All-cons}
-use Rattle.std.proofs.lemmas.Bool.{le-leb, lt-ltb, cases_lt}
+use Rattle.std.proofs.lemmas.Bool.{cases_lt}
 use Rattle.std.proofs.lemmas.Bool.Decides.{nat_tests}
 use Rattle.vg_base.specs.Files.{AreBytes}
-use Rattle.vg_pcap.specs.Captures.{Encoding, Resolution, Microseconds, Nanoseconds, Record, RecordHead, HasHead, head_of, IsGood, record_bytes, head_bytes, Damage, Cut, Long, Fraction, IsDamaged, CaptureEnd, Whole, Refused, EndsWith, AreRecords, units_per_second, longest}
-use Rattle.vg_pcap.specs.Reading.{HasRecord, record_of_head}
+use Rattle.vg_pcap.specs.Captures.{Encoding, Microseconds, Nanoseconds, Record, RecordHead, HasHead, head_of, IsGood, record_bytes, head_bytes, Damage, Cut, Long, Fraction, IsDamaged, CaptureEnd, Whole, Refused, EndsWith, AreRecords, units_per_second, longest}
+use Rattle.vg_pcap.specs.Reading.{HasRecord}
 use Rattle.vg_pcap.proofs.NumberBytes.{AreBytes-drop}
 use Rattle.vg_pcap.proofs.Pieces.{same_front, no_items}
 use Rattle.vg_pcap.proofs.Taken.{HasRecord-of_head}

@@ -1,20 +1,18 @@
 -- Where a reader starts.
-use Rattle.std.proofs.Common.{◌≡◌, ◌≢◌, ◌⊎◌, ◌≤◌, ◌<◌, ◌+◌, inl, inr, ℕ, Option, Some, None, List, [], ◌∷◌, ◌++◌, length, drop, true, false, IsTrue, IsSome, Result, Ok, Err, refl, sym, ap, ◌∙◌, codes, arith}
+use Rattle.std.proofs.Common.{◌≡◌, ◌≢◌, inl, inr, ℕ, Option, Some, None, List, [], ◌++◌, length, IsTrue, IsSome, Result, Ok, Err, refl, sym, ◌∙◌, codes, arith}
 use mathlib.Core.Path.{fun_ext}
 use Rattle.std.proofs.lemmas.Bool.{cases_eq}
 use Rattle.std.proofs.lemmas.List.{drop_at}
 use Rattle.vg_base.specs.declared.faults.Failed.{Failed}
-use Rattle.vg_base.specs.Files.{Disk, Reads, IsOpen, AreBytes, OpensRead, OpensOne, Closes, ClosesOne, SameIds, ReadKeeps, reading}
-use Rattle.vg_base.proofs.Disks.{ReadKeeps-trans, told_before, SameHeld-trans, SameHeld-refl}
+use Rattle.vg_base.specs.Files.{Disk, Reads, IsOpen, AreBytes, OpensRead, Closes}
+use Rattle.vg_base.proofs.Disks.{ReadKeeps-trans, told_before, SameHeld-refl}
 use Rattle.vg_pcap.specs.declared.faults.CaptureFault.{CaptureFault}
-use Rattle.vg_pcap.specs.declared.faults.CaptureFault.TheVariants as faults
-use Rattle.vg_pcap.specs.declared.faults.HeaderField.{HeaderField}
 use Rattle.vg_pcap.specs.declared.encoding.Encoding as coded_encoding
-use Rattle.vg_pcap.specs.Captures.{Encoding, HasHeader, IsBadHeader, header_bytes, AreRecords, CaptureEnd, Whole}
+use Rattle.vg_pcap.specs.Captures.{Encoding, HasHeader, header_bytes}
 use Rattle.vg_pcap.specs.Frames.{Stream, frames_after, HoldsStream}
 use Rattle.vg_pcap.specs.Arrivals.{no_frames}
-use Rattle.vg_pcap.specs.Reader.{Reader, IsReadable, ComesIn, IsBefore, StillComes, HasBadHeader, Starts, HasReadCause}
-use Rattle.vg_pcap.specs.Buffered.{Source, Stays}
+use Rattle.vg_pcap.specs.Reader.{Reader, IsReadable, IsBefore, StillComes, Starts, HasReadCause}
+use Rattle.vg_pcap.specs.Buffered.{Source}
 use Rattle.vg_pcap.specs.Reading.{TakesHeader, encoding_view}
 use Rattle.vg_pcap.proofs.NumberBytes.{AreBytes-drop}
 use Rattle.vg_pcap.proofs.Taken.{cause_ok, cause_same}

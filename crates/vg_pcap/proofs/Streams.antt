@@ -1,12 +1,11 @@
 -- What is still to come from a reader.
-use Rattle.std.proofs.Common.{◌≡◌, ◌≢◌, ◌⊎◌, ◌<◌, ◌≤◌, ◌+◌, ◌*◌, ◌^◌, inl, inr, ℕ, max, Option, Some, None, List, [], ◌∷◌, ◌++◌, length, take, drop, true, false, IsTrue, IsSome, Result, Ok, Err, refl, sym, ap, ◌∙◌, arith}
+use Rattle.std.proofs.Common.{◌≡◌, ◌<◌, ◌+◌, ◌*◌, ◌^◌, inl, inr, ℕ, max, Some, None, List, [], ◌∷◌, length, take, true, false, IsTrue, Ok, Err, refl, sym, ap, ◌∙◌, arith}
 use Rattle.std.proofs.lemmas.List.{length-take-le}
 use Rattle.vg_base.specs.Files.{Disk}
 use Rattle.vg_base.proofs.Disks.{told_before}
 use Rattle.vg_pcap.specs.declared.faults.CaptureFault.{CaptureFault}
-use Rattle.vg_pcap.specs.declared.faults.CaptureFault.TheVariants as faults
 use Rattle.vg_pcap.specs.declared.records.RecordHead as coded_head
-use Rattle.vg_pcap.specs.Captures.{Encoding, Microseconds, Nanoseconds, units_per_second, nanoseconds_per_unit, longest, Record, Damage, IsDamaged, CaptureEnd, Whole, Refused, AreRecords}
+use Rattle.vg_pcap.specs.Captures.{Encoding, Microseconds, Nanoseconds, units_per_second, nanoseconds_per_unit, longest, Record, Damage, IsDamaged}
 use Rattle.vg_pcap.specs.Frames.{Framed, Stream, frames_after, frame_of, time_of}
 use Rattle.vg_pcap.specs.Reader.{Reader, ReadsNext, IsBefore, StillComes, IsNextOf, fault_of, number_after}
 use Rattle.vg_pcap.specs.Buffered.{Source}

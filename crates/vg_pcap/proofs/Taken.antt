@@ -1,14 +1,14 @@
 -- What was taken from the front of the bytes of a capture.
-use Rattle.std.proofs.Common.{◌≡◌, ◌≢◌, ◌≤◌, ◌<◌, ◌+◌, ◌⊎◌, inl, inr, ℕ, List, [], ◌++◌, length, take, drop, take_all, refl, sym, ap, ◌∙◌, append_assoc, length-append, length-drop, Result, Ok, Err, IsErrOf, arith}
+use Rattle.std.proofs.Common.{◌≡◌, ◌≢◌, ◌≤◌, ◌<◌, inl, inr, ℕ, List, ◌++◌, length, take, drop, take_all, sym, ap, ◌∙◌, append_assoc, Ok, Err, IsErrOf, arith}
 use Rattle.std.proofs.lemmas.List.{take_at, take-append-drop, length-take-le}
 use Rattle.vg_base.specs.Files.{Disk}
-use Rattle.vg_pcap.specs.Captures.{Encoding, RecordHead, HasHead, head_bytes, head_of, Record, IsGood, Damage, Cut, Long, Fraction, IsDamaged, units_per_second, longest}
+use Rattle.vg_pcap.specs.Captures.{Encoding, RecordHead, HasHead, head_bytes, Damage, Cut, Long, Fraction, IsDamaged, units_per_second, longest}
 use Rattle.vg_pcap.specs.declared.faults.CaptureFault.{CaptureFault}
 use Rattle.vg_pcap.specs.declared.faults.CaptureFault.TheVariants as faults
 use Rattle.vg_pcap.specs.Reader.{HasReadCause, fault_of}
 use Rattle.vg_pcap.specs.Buffered.{Source, Gives}
 use Rattle.vg_pcap.specs.Reading.{HasGoodHead, HasRecord, record_of_head}
-use Rattle.vg_pcap.proofs.RecordBytes.{HasHead-length, HasHead-more}
+use Rattle.vg_pcap.proofs.RecordBytes.{HasHead-more}
 
 -- where all that was asked for was given, the bytes begin with it
 pub Gives-whole : {t : Disk} {new : Source} {n : ℕ} {into bytes : List ℕ} → length into ≡ n → Gives t new n into bytes → bytes ≡ into ++ drop n bytes

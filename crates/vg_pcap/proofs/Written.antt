@@ -1,17 +1,17 @@
 -- What a writer puts down.
-use Rattle.std.proofs.Common.{◌≡◌, ◌≢◌, ◌≤◌, ◌+◌, ℕ, Some, None, inl, inr, List, [], ◌++◌, length, take, drop, IsTrue, Result, Ok, Err, refl, sym, ap, ◌∙◌, append_assoc, length-append, arith}
+use Rattle.std.proofs.Common.{◌≡◌, ◌≤◌, ◌+◌, ℕ, inl, inr, List, [], ◌++◌, length, take, drop, Result, Ok, Err, sym, ap, ◌∙◌, append_assoc, length-append, arith}
 use mathlib.Core.Path.{fun_ext}
 use borrow.Rule.Slice.PartMut.{put_mid}
 use Rattle.std.proofs.lemmas.Bool.{cases_eq}
 use Rattle.std.proofs.lemmas.List.{take_at, take-append-drop}
 use Rattle.std.proofs.lemmas.Slice.{take-put_mid}
 use Rattle.vg_base.specs.declared.faults.Failed.{Failed}
-use Rattle.vg_base.specs.Files.{Disk, Writes, IsOpen, Creates, WritesAll, Closes, SameIds, writing, Appends}
+use Rattle.vg_base.specs.Files.{Disk, Writes, Creates, WritesAll, Closes}
 use Rattle.vg_base.proofs.Disks.{SameHeld-trans, WriteKeeps-open, WritesAll-then, WritesAll-stops}
 use Rattle.vg_pcap.specs.Captures.{RecordHead, head_bytes}
 use Rattle.vg_pcap.specs.Frames.{Framed, written_encoding, record_of, header}
 use Rattle.vg_pcap.specs.Reading.{written_head}
-use Rattle.vg_pcap.specs.Writer.{StartsWriting, IsBegun}
+use Rattle.vg_pcap.specs.Writer.{StartsWriting}
 use Rattle.vg_pcap.proofs.RecordBytes.{length-head_bytes}
 
 -- ---- a frame

@@ -1,5 +1,5 @@
 -- What is seen of bytes that are read ahead of what is given, and what reading them does. No public clause rests on this file.
-use Rattle.std.specs.Prelude.{ℕ, ◌<◌, ◌≤◌, ◌≡◌, ◌≢◌, List, [], length, take, drop, IsTrue, Option, Some, None, Result, IfOk}
+use Rattle.std.specs.Prelude.{ℕ, ◌<◌, ◌≤◌, ◌≡◌, ◌≢◌, List, [], length, take, drop, IsTrue, Option, Some, Result, IfOk}
 use Rattle.vg_base.specs.declared.faults.Failed.{Failed}
 use Rattle.vg_base.specs.Files.{Disk, Counts, ReadKeeps}
 use Rattle.vg_pcap.specs.Reader.{IsBefore, IsReadable}

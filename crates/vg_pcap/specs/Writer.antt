@@ -1,5 +1,5 @@
 -- What is seen of a writer of a capture, and what its calls do. A writer is seen as the id of its file.
-use Rattle.std.specs.Prelude.{ℕ, ◌≡◌, ◌≢◌, ◌⊎◌, ◌++◌, ◌≤◌, List, take, length, IsTrue, Some, Result, IfOk, OnErr}
+use Rattle.std.specs.Prelude.{ℕ, ◌≡◌, ◌≢◌, ◌⊎◌, ◌≤◌, List, take, length, IsTrue, Some, Result, IfOk, OnErr}
 use Rattle.vg_base.specs.declared.faults.Failed.{Failed}
 use Rattle.vg_base.specs.Files.{Disk, Writes, writing, Counts, SameHeld, SameIds, OpensOne}
 use Rattle.vg_pcap.specs.Frames.{header}

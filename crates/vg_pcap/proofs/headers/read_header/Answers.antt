@@ -1,4 +1,4 @@
-use Rattle.std.proofs.Common.{◌≡◌, ◌≤◌, length, drop, refl, arith}
+use Rattle.std.proofs.Common.{refl, arith}
 use Rattle.std.proofs.lemmas.Bool.{false≢true}
 use Rattle.vg_pcap.specs.Reading.{encoding_view}
 use Rattle.vg_pcap.proofs.FileHeaders.{HasHeader-whole, magic_of}

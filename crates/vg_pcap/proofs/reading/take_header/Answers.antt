@@ -1,4 +1,4 @@
-use Rattle.std.proofs.Common.{◌≡◌, length, drop, refl, inr, arith}
+use Rattle.std.proofs.Common.{◌≡◌, drop, refl, inr, arith}
 use Rattle.vg_pcap.proofs.FileHeaders.{HasHeader-more, IsBadHeader-more}
 use Rattle.vg_pcap.proofs.Taken.{Gives-whole, cause_ok, cause_else}
 use Rattle.vg_pcap.proofs.reading.take_header.Goals as goal

@@ -1,4 +1,4 @@
-use Rattle.std.proofs.Common.{◌≡◌, ◌∙◌, length, drop, refl, sym, inr, arith}
+use Rattle.std.proofs.Common.{◌≡◌, ◌∙◌, length, drop, refl, inr, arith}
 use Rattle.std.proofs.lemmas.List.{length-take-le}
 use Rattle.vg_base.proofs.Disks.{told_before}
 use Rattle.vg_pcap.specs.Captures.{Cut}

@@ -1,4 +1,4 @@
-use Rattle.std.proofs.Common.{◌≡◌, ◌+◌, ◌-◌, ℕ, List, take, drop, ap, sym, ◌∙◌, arith}
+use Rattle.std.proofs.Common.{◌≡◌, ◌+◌, ◌-◌, ℕ, List, take, drop, ap, ◌∙◌, arith}
 use Rattle.vg_pcap.specs.Buffered.{Source}
 use Rattle.vg_pcap.proofs.ReadAhead.{given_parts}
 use Rattle.vg_pcap.proofs.buffered.Buffered.give.Goals as goal

@@ -1,4 +1,4 @@
-use Rattle.std.proofs.Common.{◌≡◌, ◌≤◌, ◌<◌, ◌+◌, length, sym, ap, ◌∙◌, arith}
+use Rattle.std.proofs.Common.{◌∙◌, arith}
 use Rattle.vg_base.proofs.Disks.{told_before}
 use Rattle.vg_pcap.proofs.ReadAhead.{Stays-trans, Gives-more, given_all, length-put, length-part}
 use Rattle.vg_pcap.proofs.buffered.Buffered.read_into.Goals as goal

@@ -1,4 +1,4 @@
-use Rattle.std.proofs.Common.{◌≡◌, ◌≤◌, ◌-◌, ℕ, List, length, take, drop, IsTrue}
+use Rattle.std.proofs.Common.{◌≡◌, ◌≤◌, ◌-◌, ℕ, List, length, IsTrue}
 use Rattle.vg_pcap.specs.Reader.{IsBefore}
 use Rattle.vg_pcap.specs.Buffered.{Stays, Gives}
 use Rattle.vg_pcap.proofs.buffered.Buffered.read_into.Given as goal

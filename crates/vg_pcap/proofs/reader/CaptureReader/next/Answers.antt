@@ -1,4 +1,4 @@
-use Rattle.std.proofs.Common.{◌≡◌, ◌∙◌, max, length, vec_len, ap, arith}
+use Rattle.std.proofs.Common.{◌≡◌, ◌∙◌, max, length, vec_len, ap}
 use Rattle.std.proofs.lemmas.List.{with_items_is}
 use Rattle.vg_pcap.proofs.Streams.{reads_record, reads_none, reads_refused}
 use Rattle.vg_pcap.proofs.reader.CaptureReader.next.Goals as goal

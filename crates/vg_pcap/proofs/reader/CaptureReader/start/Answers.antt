@@ -1,8 +1,7 @@
-use Rattle.std.proofs.Common.{◌≡◌, ◌≢◌, ◌∙◌, codes, sym, refl, true, false}
+use Rattle.std.proofs.Common.{◌≢◌, ◌∙◌, codes, sym}
 use Rattle.std.proofs.lemmas.Bool.{false≢true}
 use Rattle.std.proofs.lemmas.Slice.Eq.{bytes_eq-Decides}
-use Rattle.vg_pcap.specs.Reading.{encoding_view}
-use Rattle.vg_pcap.proofs.Starting.{IsFresh, starts_empty, starts_file, starts_refused}
+use Rattle.vg_pcap.proofs.Starting.{starts_empty, starts_file, starts_refused}
 use Rattle.vg_pcap.proofs.reader.CaptureReader.start.Goals as goal
 
 pub returns-then-eq : goal.returns-then-eq

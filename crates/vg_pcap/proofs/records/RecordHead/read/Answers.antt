@@ -1,5 +1,5 @@
 use Rattle.std.proofs.Common.{arith}
-use Rattle.vg_pcap.specs.Reading.{encoding_view, head_view}
+use Rattle.vg_pcap.specs.Reading.{encoding_view}
 use Rattle.vg_pcap.proofs.RecordBytes.{HasHead-sixteen}
 use Rattle.vg_pcap.proofs.records.RecordHead.read.Goals as goal
 

@@ -1,5 +1,3 @@
-use Rattle.std.proofs.Common.{◌≡◌, ◌++◌, ◌∙◌, length, take, drop, sym, ap}
-use Rattle.std.proofs.lemmas.List.{take-append-drop}
 use Rattle.std.proofs.lemmas.Result.{err_from_is_err_and}
 use Rattle.vg_pcap.proofs.Written.{first_piece, put_both, put_first, in_two}
 use Rattle.vg_pcap.proofs.writer.CaptureWriter.put.Goals as goal
