@@ -10,7 +10,7 @@ use Rattle.vg_pcap.specs.Arrivals.{Arrival, Precedes}
 use Rattle.vg_pcap.specs.Reader.{IsReadable}
 use Rattle.vg_pcap.specs.Merge.{Input, AreReadable, IsNext, IsChanged, waiting_at}
 use Rattle.vg_pcap.specs.Inputs.{AreInputs, IsSound}
-use Rattle.vg_pcap.specs.Lending.{over, with_written, Waiting, first_of, next_from, written_at, with_next, IsWritten}
+use Rattle.vg_pcap.specs.Lending.{over, over_input, Waiting, first_of, next_from, over_waiting, over_next, IsWritten}
 use Rattle.vg_pcap.proofs.Arriving.{slice_get-set_same, slice_get-set_other, All-at_place, All-from_places}
 use Rattle.vg_pcap.proofs.Ports.{apart-set}
 use Rattle.vg_pcap.proofs.Lent.{over_whole, length-over}
@@ -116,9 +116,9 @@ first_is_next inputs a next (Some x) first =
     let input : x.input ≡ next.input = same_Some x.input next.input (sym at ∙ (ap (λ k. slice_get inputs k) port ∙ next.at)) in
     ap (λ (w : Waiting). Some w) (same_waiting x a.port next.input port input)
 
-with_next_is : {inputs : List Input} {a : Arrival} (next : IsNext inputs a) (bytes : List ℕ) → with_next inputs bytes ≡ set inputs a.port (with_written next.input bytes)
-with_next_is {inputs} {a} next bytes =
-    ap (λ (o : Option Waiting). written_at inputs o bytes) (first_is_next inputs a next (next_from 0 inputs) (next_is_first 0 inputs))
+over_next_is : {inputs : List Input} {a : Arrival} (next : IsNext inputs a) (bytes : List ℕ) → over_next inputs bytes ≡ set inputs a.port (over_input next.input bytes)
+over_next_is {inputs} {a} next bytes =
+    ap (λ (o : Option Waiting). over_waiting inputs o bytes) (first_is_next inputs a next (next_from 0 inputs) (next_is_first 0 inputs))
 
 -- ---- what is left where its bytes are changed
 
@@ -132,16 +132,16 @@ pub next_bytes : {inputs : List Input} {a b : Arrival} (x : Input) → IsNext in
 next_bytes x there at next =
     ap (λ (i : Input). i.reader.frame.bytes) (next_input_is next x there at) ∙ ap (λ (f : Framed). f.bytes) (sym next.frame)
 
-pub lent_next : {inputs : List Input} {a : Arrival} (x : Input) (bytes : List ℕ) → IsNext inputs a → slice_get inputs a.port ≡ Some x → set inputs a.port (with_written x bytes) ≡ with_next inputs bytes
+pub lent_next : {inputs : List Input} {a : Arrival} (x : Input) (bytes : List ℕ) → IsNext inputs a → slice_get inputs a.port ≡ Some x → set inputs a.port (over_input x bytes) ≡ over_next inputs bytes
 lent_next {inputs} {a} x bytes next at =
-    ap (λ (i : Input). set inputs a.port (with_written i bytes)) (next_input_is next x next at) ∙ sym (with_next_is next bytes)
+    ap (λ (i : Input). set inputs a.port (over_input i bytes)) (next_input_is next x next at) ∙ sym (over_next_is next bytes)
 
 -- whatever is written, the inputs stay sound
-pub inputs-written : {inputs : List Input} {port : ℕ} (x : Input) (bytes : List ℕ) → port < length inputs → slice_get inputs port ≡ Some x → AreInputs inputs → AreInputs (set inputs port (with_written x bytes))
+pub inputs-written : {inputs : List Input} {port : ℕ} (x : Input) (bytes : List ℕ) → port < length inputs → slice_get inputs port ≡ Some x → AreInputs inputs → AreInputs (set inputs port (over_input x bytes))
 inputs-written {inputs} {port} x bytes lt at are = record {
-  few = omega (arith, are.few, length-set inputs port (with_written x bytes));
-  apart = apart-set (with_written x bytes) lt at refl are.apart;
-  sound = All-set IsSound inputs port (with_written x bytes)
+  few = omega (arith, are.few, length-set inputs port (over_input x bytes));
+  apart = apart-set (over_input x bytes) lt at refl are.apart;
+  sound = All-set IsSound inputs port (over_input x bytes)
       (λ waits. let last = All-at_place IsSound inputs port x are.sound at waits in record {
         fits = record { early = last.fits.early; original = last.fits.original; short = rw (length-over x.reader.frame.bytes bytes) last.fits.short };
         time = last.time;
@@ -149,12 +149,12 @@ inputs-written {inputs} {port} x bytes lt at are = record {
 }
 
 -- where as many bytes are written as there were, the frame has these
-pub written_next : {inputs : List Input} {a : Arrival} (bytes : List ℕ) → IsNext inputs a → length bytes ≡ length a.frame.bytes → IsWritten inputs (with_next inputs bytes) a bytes
+pub written_next : {inputs : List Input} {a : Arrival} (bytes : List ℕ) → IsNext inputs a → length bytes ≡ length a.frame.bytes → IsWritten inputs (over_next inputs bytes) a bytes
 written_next {inputs} {a} bytes next same =
     let input = next.input in
     let now : Input = record input { reader = record input.reader { frame = record a.frame { bytes = bytes } } } in
     let whole : over input.reader.frame.bytes bytes ≡ bytes = over_whole input.reader.frame.bytes bytes (same ∙ ap (λ (f : Framed). length f.bytes) next.frame) in
-    let is : with_written input bytes ≡ now =
+    let is : over_input input bytes ≡ now =
     ap (λ (w : List ℕ). record input { reader = record input.reader { frame = record input.reader.frame { bytes = w } } }) whole
     ∙ ap (λ (f : Framed). record input { reader = record input.reader { frame = record f { bytes = bytes } } }) (sym next.frame) in
     let lt = slice_get_within inputs a.port input next.at in
@@ -169,7 +169,7 @@ written_next {inputs} {a} bytes next same =
             ∙ ap (λ (i : Input). Some (record i { reader = record i.reader { frame = record a.frame { bytes = bytes } } })) (same_Some input x (sym next.at ∙ at)),
       );
     } in
-    let all : with_next inputs bytes ≡ set inputs a.port now = with_next_is next bytes ∙ ap (set inputs a.port) is in
+    let all : over_next inputs bytes ≡ set inputs a.port now = over_next_is next bytes ∙ ap (set inputs a.port) is in
     rw all (record { changed = changed; next = still_next changed })
 
 -- where the bytes of the next frame are changed, the files stay as they are

@@ -85,7 +85,7 @@ impl PortInput {
 
 impl Merge {
     ghost use Rattle.std.specs.Borrow.{sem};
-    ghost use Rattle.vg_pcap.specs.Lending.{LendsNext, IsWritten, with_next};
+    ghost use Rattle.vg_pcap.specs.Lending.{LendsNext, IsWritten, over_next};
 
     /// Opens the captures of these names, that of port 0 first, and reads their headers. All memory is taken here. The name `-` is a port at which nothing
     /// comes in.
@@ -149,18 +149,18 @@ impl Merge {
         self.next_input().reader.frame()
     }
 
-    /// The bytes of the next frame, to be changed in place.
+    /// The bytes of the next frame, to be changed in place. It keeps its length and its time, and is still the next.
     pub fn frame_mut(&mut self) -> &mut [u8]
         requires { (a : Arrival) × IsNext self.old a }
         ensures* writes_back { sem 𝓛 (LendsNext self.entry result) }
         ensures value { (a : Arrival) → IsNext self.old a → result.now ≡ a.frame.bytes }
-        ensures written { (a : Arrival) (bytes : List ℕ) → IsNext self.old a → length bytes ≡ length a.frame.bytes → IsWritten self.old (with_next self.old bytes) a bytes }
+        ensures written { (a : Arrival) (bytes : List ℕ) → IsNext self.old a → length bytes ≡ length a.frame.bytes → IsWritten self.old (over_next self.old bytes) a bytes }
     {
         let Some(port) = self.next_port() else {
             unreachable!()
         };
-        let input = &mut self.inputs[port as usize];
-        input.frame_mut()
+        let next = &mut self.inputs[port as usize];
+        next.frame_mut()
     }
 
     /// When the next frame came, in nanoseconds.

@@ -140,7 +140,7 @@ impl CaptureReader {
     }
 
     /// The bytes of the frame that was read last, to be changed in place.
-    pub fn frame_mut(&mut self) -> &mut [u8]
+    pub(crate) fn frame_mut(&mut self) -> &mut [u8]
         ensures* writes_back { sem 𝓛 (LendsFrame self.entry result) }
         ensures value { result.now ≡ self.old.frame.bytes }
     {
