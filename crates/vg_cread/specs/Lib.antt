@@ -1,0 +1,5 @@
+pub mod Forms
+pub mod Kinds
+pub mod Places
+pub mod Grammar
+pub mod Reading

@@ -1,0 +1,12 @@
+//! The trees of C texts, read from their tokens.
+#![tactic(auto)]
+
+mod expressions;
+mod items;
+mod kinds;
+mod reader;
+mod reading;
+mod statements;
+mod types;
+
+pub use reading::{MOST_NESTED, ReadFault, read_unit};
