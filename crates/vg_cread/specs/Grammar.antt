@@ -6,6 +6,7 @@ use Rattle.vg_core.specs.declared.tree.Base.{Base}
 use Rattle.vg_core.specs.declared.tree.Base.TheVariants as bases
 use Rattle.vg_core.specs.declared.tree.IntType.{IntType}
 use Rattle.vg_core.specs.declared.tree.IntType.TheVariants as ints
+use Rattle.vg_core.specs.declared.tree.HandleKind.{HandleKind}
 use Rattle.vg_core.specs.declared.tree.Kind.{Kind}
 use Rattle.vg_core.specs.declared.tree.Kind.TheVariants as nodes
 use Rattle.vg_ctok.specs.declared.kinds.Keyword.{Keyword}
@@ -213,10 +214,13 @@ struct_item = Made (Plain (λ at tag fields packed. node_with at (λ parts. node
     ⊛ Place ⊲ word words.Struct ⊛ name ⊲ sign signs.LeftBrace
     ⊛ fields ⊲ sign signs.RightBrace ⊛ packing ⊲ sign signs.Semicolon)
 
+unfoldable pub handle : Form HandleKind
+handle = One handle_of
+
 -- extern: extern (const int-type | handle) name ;
 unfoldable pub extern_item : Form ℕ
 extern_item = Made (Plain (λ at kind n. node at (kind n)) ⊛ Place ⊲ word words.Extern
-    ⊛ Either (is_word words.Const) (Plain nodes.ExternNumber ⊛ (word words.Const ⊳ int_type)) (Plain nodes.ExternHandle ⊛ One handle_of)
+    ⊛ Either (is_word words.Const) (Plain nodes.ExternNumber ⊛ (word words.Const ⊳ int_type)) (Plain nodes.ExternHandle ⊛ handle)
     ⊛ name ⊲ sign signs.Semicolon)
 
 -- param: base [*] name

@@ -86,7 +86,7 @@ Gives (Err stops.Deep) t given = given ≡ Err (Deep t.at)
 Gives (Err stops.Memory) t given = Unit {0}
 
 -- the items of the list that a call answers
-abbrev pub items_of : {S : Type 0} → Result (Vec ℕ S) Stop → Result (List ℕ) Stop
+abbrev pub items_of : Result (Vec ℕ) Stop → Result (List ℕ) Stop
 items_of (Ok v) = Ok v.items
 items_of (Err e) = Err e
 

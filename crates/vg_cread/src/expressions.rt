@@ -68,6 +68,7 @@ impl Reader {
 
     /// Reads an expression that stands in another construct.
     #[cycle(expression)]
+    #[tactic(auto, using(crate::proofs::Rooms::inner_wrong, crate::proofs::Rooms::inner_deep, crate::proofs::Rooms::inner_read))]
     pub fn expression(&mut self, src: Source<'_>) -> Result<u32, Stop>
         ensures { Gives result self.new (reads_inner src.entry Expression self.old) }
     {
@@ -142,6 +143,7 @@ impl Reader {
 
     /// Reads the operand of a sign or of a cast, or what a simple statement begins with.
     #[cycle(expression)]
+    #[tactic(auto, using(crate::proofs::Rooms::inner_wrong, crate::proofs::Rooms::inner_deep, crate::proofs::Rooms::inner_read))]
     pub fn operand(&mut self, src: Source<'_>) -> Result<u32, Stop>
         ensures { Gives result self.new (reads_inner src.entry Operand self.old) }
     {

@@ -1,7 +1,7 @@
 //! Items: structs, externs and functions (C11 6.7 and 6.9).
 ghost use Rattle.std.specs.Prelude.{◌≡◌};
 ghost use Rattle.vg_cread.specs.Kinds.{handle_of};
-ghost use Rattle.vg_cread.specs.Grammar.{field, fields, attribute, packing, struct_item, extern_item, param, params, answer, flagged, function, item, items, unit};
+ghost use Rattle.vg_cread.specs.Grammar.{field, fields, attribute, packing, handle, struct_item, extern_item, param, params, answer, flagged, function, item, items, unit};
 ghost use Rattle.vg_cread.specs.Reading.{Gives, reads, next, tested, items_of};
 
 use crate::kinds::handle_of;
@@ -15,6 +15,18 @@ impl Reader {
         ensures { result ≡ tested handle_of (next src.entry self.now) }
     {
         handle_of(self.next(src)?)
+    }
+
+    // Reads a kind of handle.
+    #[tactic(auto, unfolding(crate::specs::Grammar::handle))]
+    fn handle(&mut self, src: Source<'_>) -> Result<HandleKind, Stop>
+        ensures { Gives result self.new (reads src.entry handle self.old) }
+    {
+        let Some(handle) = self.next_handle(src) else {
+            return Err(Stop::Wrong);
+        };
+        self.step(src);
+        Ok(handle)
     }
 
     // Reads a field of a struct.
@@ -104,10 +116,7 @@ impl Reader {
             self.sign(src, Sign::Semicolon)?;
             return self.node(at, Kind::ExternNumber { of, name });
         }
-        let Some(handle) = self.next_handle(src) else {
-            return Err(Stop::Wrong);
-        };
-        self.step(src);
+        let handle = self.handle(src)?;
         let name = self.name(src)?;
         self.sign(src, Sign::Semicolon)?;
         self.node(at, Kind::ExternHandle { handle, name })

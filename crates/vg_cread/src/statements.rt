@@ -151,6 +151,7 @@ impl Reader {
 
     /// Reads a statement that stands in another construct.
     #[cycle(statement)]
+    #[tactic(auto, using(crate::proofs::Rooms::inner_wrong, crate::proofs::Rooms::inner_deep, crate::proofs::Rooms::inner_read))]
     fn statement(&mut self, src: Source<'_>) -> Result<u32, Stop>
         ensures { Gives result self.new (reads_inner src.entry Statement self.old) }
     {
@@ -298,6 +299,7 @@ impl Reader {
     }
 
     /// Reads the block of a function.
+    #[tactic(auto, using(crate::proofs::Rooms::inner_wrong, crate::proofs::Rooms::inner_deep, crate::proofs::Rooms::inner_read))]
     pub fn body(&mut self, src: Source<'_>) -> Result<u32, Stop>
         ensures { Gives result self.new (reads_inner src.entry Body self.old) }
     {

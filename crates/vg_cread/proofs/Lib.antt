@@ -1,0 +1,4 @@
+pub mod Onward
+pub mod Chains
+pub mod Rooms
+pub mod Loops
