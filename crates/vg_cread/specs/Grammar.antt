@@ -6,6 +6,7 @@ use Rattle.vg_core.specs.declared.tree.Base.{Base}
 use Rattle.vg_core.specs.declared.tree.Base.TheVariants as bases
 use Rattle.vg_core.specs.declared.tree.IntType.{IntType}
 use Rattle.vg_core.specs.declared.tree.IntType.TheVariants as ints
+use Rattle.vg_core.specs.declared.tree.BinaryOp.{BinaryOp}
 use Rattle.vg_core.specs.declared.tree.HandleKind.{HandleKind}
 use Rattle.vg_core.specs.declared.tree.Kind.{Kind}
 use Rattle.vg_core.specs.declared.tree.Kind.TheVariants as nodes
@@ -14,6 +15,8 @@ use Rattle.vg_ctok.specs.declared.kinds.Keyword.TheVariants as words
 use Rattle.vg_ctok.specs.declared.kinds.Sign.{Sign}
 use Rattle.vg_ctok.specs.declared.kinds.Sign.TheVariants as signs
 use Rattle.vg_ctok.specs.declared.kinds.Token.{Token}
+use Rattle.vg_cread.specs.declared.statements.Action.{Action}
+use Rattle.vg_cread.specs.declared.statements.Action.TheVariants as actions
 use Rattle.vg_cread.specs.Forms.{Form, Plain, Place, One, Both, Either, Chain, Inner, Made, Nested, Expression, Operand, Statement, Body, Growth, ◌⊛◌, ◌⊲◌, ◌⊳◌, optional, listed, same, one_more, node, node_with}
 use Rattle.vg_cread.specs.Kinds.{is_sign, is_word, name_of, number_of, number_type, int_of, handle_of, unary_of, binary_of, is_binary, assign_of, is_assign, is_number, begins_base, begins_unary, begins_expression, begins_statement, begins_piece, begins_suffix, any_token}
 
@@ -92,9 +95,12 @@ unary = Either begins_unary
     (Made (Plain (λ at b. node at (nodes.Sizeof b)) ⊛ Place ⊲ word words.Sizeof ⊲ sign signs.LeftParen ⊛ base ⊲ sign signs.RightParen))
     postfix)
 
+unfoldable pub operator : ℕ → Form BinaryOp
+operator rank = One (binary_of rank)
+
 -- link of a rank: operator of the rank, what stands to its right
 unfoldable pub link : ℕ → Form ℕ → Form (ℕ → ℕ → Growth ℕ)
-link rank right = Plain (λ op right at left. node at (nodes.Binary op left right)) ⊛ One (binary_of rank) ⊛ right
+link rank right = Plain (λ op right at left. node at (nodes.Binary op left right)) ⊛ operator rank ⊛ right
 
 -- binary of a rank: binary of the rank below { operator of the rank, binary of the rank below }, grouped to the left; of rank 0: unary
 unfoldable pub binary : ℕ → Form ℕ
@@ -158,17 +164,26 @@ for_statement = Made (Plain (λ at of counter start tested bound stepped by body
 unfoldable pub return_statement : Form ℕ
 return_statement = Made (Plain (λ at value. node at (nodes.Return value)) ⊛ Place ⊲ word words.Return ⊛ optional begins_expression (Inner Expression) ⊲ sign signs.Semicolon)
 
+unfoldable pub assignment : Form (Option BinaryOp)
+assignment = One assign_of
+
+-- what a simple statement does with the operand that it begins with
+abbrev pub acted : Action → ℕ → Kind
+acted (actions.Assign op value) target = nodes.Assign op target value
+acted actions.Increment target = nodes.Increment target
+acted actions.Decrement target = nodes.Decrement target
+acted actions.Evaluate target = nodes.Evaluate target
+
 -- action: [ assignment-operator expression | ++ | -- ]
-unfoldable pub action : Form (ℕ → Kind)
-action = Either is_assign
-    (Plain (λ op value target. nodes.Assign op target value) ⊛ One assign_of ⊛ Inner Expression)
-    (Either (is_sign signs.PlusPlus) (Plain (λ _ target. nodes.Increment target) ⊛ sign signs.PlusPlus)
-    (Either (is_sign signs.MinusMinus) (Plain (λ _ target. nodes.Decrement target) ⊛ sign signs.MinusMinus)
-    (Plain (λ value. nodes.Evaluate value))))
+unfoldable pub action : Form Action
+action = Either is_assign (Plain actions.Assign ⊛ assignment ⊛ Inner Expression)
+    (Either (is_sign signs.PlusPlus) (Plain (λ _. actions.Increment) ⊛ sign signs.PlusPlus)
+    (Either (is_sign signs.MinusMinus) (Plain (λ _. actions.Decrement) ⊛ sign signs.MinusMinus)
+    (Plain actions.Evaluate)))
 
 -- simple statement: unary action ;
 unfoldable pub simple_statement : Form ℕ
-simple_statement = Made (Plain (λ at target kind. node at (kind target)) ⊛ Place ⊛ Inner Operand ⊛ action ⊲ sign signs.Semicolon)
+simple_statement = Made (Plain (λ at target act. node at (acted act target)) ⊛ Place ⊛ Inner Operand ⊛ action ⊲ sign signs.Semicolon)
 
 -- statement: block | ; | if-statement | for-statement | return-statement | simple-statement
 unfoldable pub statement : Form ℕ

@@ -89,7 +89,3 @@ Gives (Err stops.Memory) t given = Unit {0}
 abbrev pub items_of : Result (Vec ℕ) Stop → Result (List ℕ) Stop
 items_of (Ok v) = Ok v.items
 items_of (Err e) = Err e
-
--- what is read, at an argument
-abbrev pub applied : {A B : Type 0} → A → Result ((A → B) × State) Refusal → Result (B × State) Refusal
-applied a given = given >>= λ q. Ok (q.0 a, q.1)

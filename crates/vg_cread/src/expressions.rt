@@ -3,7 +3,7 @@ ghost use Rattle.std.specs.Prelude.{◌≡◌, ◌≤◌, ◌<◌, ◌-◌, ◌+
 ghost use Rattle.vg_cread.specs.Forms.{Expression, Operand};
 ghost use Rattle.vg_cread.specs.Places.{passes};
 ghost use Rattle.vg_cread.specs.Kinds.{is_binary, binary_of, unary_of, number_of, begins_base, begins_expression, begins_suffix};
-ghost use Rattle.vg_cread.specs.Grammar.{expression, unary, binary, link, postfix, suffix, opened, primary, arguments};
+ghost use Rattle.vg_cread.specs.Grammar.{expression, unary, operator, binary, link, postfix, suffix, opened, primary, arguments};
 ghost use Rattle.vg_cread.specs.Reading.{Gives, reads, reads_inner, turn, next, tested, items_of};
 
 use crate::kinds::{begins_expression, begins_suffix, binary_of, number_of, number_type, unary_of};
@@ -50,6 +50,18 @@ impl Reader {
         ensures { result ≡ tested (binary_of rank) (next src.entry self.now) }
     {
         binary_of(self.next(src)?, rank)
+    }
+
+    // Reads an operator of a rank.
+    #[tactic(auto, unfolding(crate::specs::Grammar::operator))]
+    fn operator(&mut self, src: Source<'_>, rank: u8) -> Result<BinaryOp, Stop>
+        ensures { Gives result self.new (reads src.entry (operator rank) self.old) }
+    {
+        let Some(op) = self.next_binary(src, rank) else {
+            return Err(Stop::Wrong);
+        };
+        self.step(src);
+        Ok(op)
     }
 
     // The next token as an operator before its operand.
@@ -133,10 +145,7 @@ impl Reader {
         requires { 0 < rank }
         ensures { Gives result self.new (turn (reads src.entry (link rank (binary (rank - 1)))) at left self.old) }
     {
-        let Some(op) = self.next_binary(src, rank) else {
-            return Err(Stop::Wrong);
-        };
-        self.step(src);
+        let op = self.operator(src, rank)?;
         let right = self.binary(src, rank - 1)?;
         self.node(at, Kind::Binary { op, left, right })
     }

@@ -2,14 +2,39 @@
 ghost use Rattle.std.specs.Prelude.{◌≡◌};
 ghost use Rattle.vg_cread.specs.Forms.{Statement, Body};
 ghost use Rattle.vg_cread.specs.Places.{passes};
-ghost use Rattle.vg_cread.specs.Kinds.{assign_of, begins_statement, begins_piece};
-ghost use Rattle.vg_cread.specs.Grammar.{statement, block, pieces, piece, declaration, array_length, initial, if_statement, otherwise, for_statement, step, return_statement, simple_statement, action};
-ghost use Rattle.vg_cread.specs.Reading.{Gives, reads, reads_inner, next, tested, items_of, applied};
+ghost use Rattle.vg_cread.specs.Kinds.{assign_of, is_assign, begins_statement, begins_piece};
+ghost use Rattle.vg_cread.specs.Grammar.{statement, block, pieces, piece, declaration, array_length, initial, if_statement, otherwise, for_statement, step, return_statement, simple_statement, assignment, action, acted};
+ghost use Rattle.vg_cread.specs.Reading.{Gives, reads, reads_inner, next, tested, items_of};
 
 use crate::kinds::{assign_of, begins_base, begins_statement};
 use crate::reader::{Reader, Source, Stop};
 use vg_core::{BinaryOp, Kind};
 use vg_ctok::{Keyword, Sign};
+
+/// What a simple statement does with the operand that it begins with.
+#[derive(Clone, Copy, Debug, PartialEq, Eq)]
+pub enum Action {
+    /// `op= value`, or `= value`
+    Assign(Option<BinaryOp>, u32),
+    /// `++`
+    Increment,
+    /// `--`
+    Decrement,
+    /// Nothing: it is evaluated.
+    Evaluate,
+}
+
+// The node of a simple statement.
+fn acted(action: Action, target: u32) -> Kind
+    ensures { result ≡ acted action target }
+{
+    match action {
+        Action::Assign(op, value) => Kind::Assign { op, target, value },
+        Action::Increment => Kind::Increment { target },
+        Action::Decrement => Kind::Decrement { target },
+        Action::Evaluate => Kind::Evaluate { value: target },
+    }
+}
 
 impl Reader {
     // Whether the next token begins a statement.
@@ -103,25 +128,47 @@ impl Reader {
         self.node(at, Kind::Return { value: Some(value) })
     }
 
+    // Whether the next token is an assignment's operator.
+    fn next_is_assign(&self, src: Source<'_>) -> bool
+        ensures { result ≡ passes is_assign (next src.entry self.now) }
+    {
+        match self.next(src) {
+            Some(t) => assign_of(t).is_some(),
+            None => false,
+        }
+    }
+
+    // Reads the operator of an assignment.
+    #[tactic(auto, unfolding(crate::specs::Grammar::assignment))]
+    fn assignment(&mut self, src: Source<'_>) -> Result<Option<BinaryOp>, Stop>
+        ensures { Gives result self.new (reads src.entry assignment self.old) }
+    {
+        let Some(op) = self.next_assign(src) else {
+            return Err(Stop::Wrong);
+        };
+        self.step(src);
+        Ok(op)
+    }
+
     // Reads what a simple statement does with the operand that it begins with.
     #[tactic(auto, unfolding(crate::specs::Grammar::action))]
-    fn action(&mut self, src: Source<'_>, target: u32) -> Result<Kind, Stop>
-        ensures { Gives result self.new (applied target (reads src.entry action self.old)) }
+    fn action(&mut self, src: Source<'_>) -> Result<Action, Stop>
+        ensures { Gives result self.new (reads src.entry action self.old) }
     {
-        if let Some(op) = self.next_assign(src) {
-            self.step(src);
+        if self.next_is_assign(src) {
+            let op = self.assignment(src)?;
             let value = self.expression(src)?;
-            return Ok(Kind::Assign { op, target, value });
+            return Ok(Action::Assign(op, value));
         }
         if self.next_is_sign(src, Sign::PlusPlus) {
             self.sign(src, Sign::PlusPlus)?;
-            return Ok(Kind::Increment { target });
+            return Ok(Action::Increment);
         }
         if self.next_is_sign(src, Sign::MinusMinus) {
             self.sign(src, Sign::MinusMinus)?;
-            return Ok(Kind::Decrement { target });
+            return Ok(Action::Decrement);
         }
-        Ok(Kind::Evaluate { value: target })
+        Ok(Action::Evaluate)
     }
 
     // Reads an expression as a statement, an assignment, or a step up or down.
@@ -131,9 +178,9 @@ impl Reader {
     {
         let at = self.place(src);
         let target = self.operand(src)?;
-        let kind = self.action(src, target)?;
+        let action = self.action(src)?;
         self.sign(src, Sign::Semicolon)?;
-        self.node(at, kind)
+        self.node(at, acted(action, target))
     }
 
     // Reads how the counter of a loop goes on: by how much, or by 1.
