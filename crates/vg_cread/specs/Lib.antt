@@ -3,3 +3,5 @@ pub mod Kinds
 pub mod Places
 pub mod Grammar
 pub mod Reading
+pub mod Spelling
+pub mod Refusals
