@@ -7,9 +7,9 @@ use Rattle.vg_core.specs.Syntax.{Syntax}
 use Rattle.vg_ctok.specs.declared.kinds.Token.{Token}
 use Rattle.vg_cread.specs.Forms.{Form, Plain, Place, One, Both, Either, Chain, Inner, Made, Nested, Expression, Operand, Statement, Body, Growth}
 use Rattle.vg_cread.specs.Grammar.{begins, form}
-use Rattle.vg_cread.specs.Places.{State, place_at, passes}
+use Rattle.vg_cread.specs.Places.{State, place_at, passes, tested}
 use Rattle.vg_cread.specs.Spelling.{Spelled, Turns, spelled_with, spelled_inner}
-use Rattle.vg_cread.specs.Reading.{Refusal, Wrong, Deep, Reads, ◌>>=◌, taken, tested, grown, turn, turns, read_with, read_inner}
+use Rattle.vg_cread.specs.Reading.{Refusal, Wrong, Deep, Reads, ◌>>=◌, taken, grown, turn, turns, read_with, read_inner}
 use Rattle.vg_cread.proofs.Onward.{bound, ok_at, same_state, same_value, either_side, eats, further, gains, Gains, turn-onward}
 use Rattle.vg_cread.proofs.Chains.{some_next}
 

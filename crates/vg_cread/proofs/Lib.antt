@@ -7,3 +7,5 @@ pub mod Units
 pub mod Bounds
 pub mod Stopping
 pub mod Prefixes
+pub mod Answering
+pub mod Roomier

@@ -5,8 +5,8 @@ use Rattle.std.proofs.lemmas.Bool.{false≢true, and_parts, or_cases, cases_Bool
 use Rattle.vg_core.specs.Syntax.{Syntax}
 use Rattle.vg_ctok.specs.declared.kinds.Token.{Token}
 use Rattle.vg_cread.specs.Forms.{Form, Plain, Place, One, Both, Either, Chain, Inner, Made, Nested, Growth}
-use Rattle.vg_cread.specs.Places.{State, place_at, passes}
-use Rattle.vg_cread.specs.Reading.{Refusal, Wrong, Deep, Reads, ◌>>=◌, taken, tested, grown, turn, turns, read_with}
+use Rattle.vg_cread.specs.Places.{State, place_at, passes, tested}
+use Rattle.vg_cread.specs.Reading.{Refusal, Wrong, Deep, Reads, ◌>>=◌, taken, grown, turn, turns, read_with}
 
 -- both parts of a reading that succeeds
 pub bound : {A B : Type 0} (r : Result A Refusal) (f : A → Result B Refusal) {y : B} → (r >>= f) ≡ Ok y → (x : A) × (r ≡ Ok x) × (f x ≡ Ok y)

@@ -29,3 +29,8 @@ place_at toks at = place_or (slice_get toks at) (end_of toks)
 abbrev pub passes : (Token → Bool) → Option Token → Bool
 passes test None = false
 passes test (Some t) = test t
+
+-- what a test gives of a next token
+abbrev pub tested : {A : Type 0} → (Token → Option A) → Option Token → Option A
+tested test None = None
+tested test (Some t) = test t

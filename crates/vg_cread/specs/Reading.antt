@@ -5,7 +5,7 @@ use Rattle.vg_core.specs.Syntax.{Syntax}
 use Rattle.vg_ctok.specs.declared.kinds.Token.{Token}
 use Rattle.vg_cread.specs.Forms.{Form, Plain, Place, One, Both, Either, Chain, Inner, Made, Nested, Growth}
 use Rattle.vg_cread.specs.Grammar.{begins, form}
-use Rattle.vg_cread.specs.Places.{State, place_at, passes}
+use Rattle.vg_cread.specs.Places.{State, place_at, passes, tested}
 use Rattle.vg_cread.specs.declared.reader.Source.{Source}
 use Rattle.vg_cread.specs.declared.reader.Stop.{Stop}
 use Rattle.vg_cread.specs.declared.reader.Stop.TheVariants as stops
@@ -27,10 +27,6 @@ Reads A = State → Result (A × State) Refusal
 abbrev pub taken : {A : Type 0} → Option A → State → Result (A × State) Refusal
 taken None s = Err (Wrong s.at)
 taken (Some a) s = Ok (a, record s { at = s.at + 1 })
-
-abbrev pub tested : {A : Type 0} → (Token → Option A) → Option Token → Option A
-tested test None = None
-tested test (Some t) = test t
 
 -- a tree that grows
 abbrev pub grown : {A : Type 0} → A × Syntax → State → A × State

@@ -4,7 +4,9 @@ use Rattle.vg_core.specs.Syntax.{Syntax}
 use Rattle.vg_ctok.specs.declared.kinds.Token.{Token}
 use Rattle.vg_cread.specs.Forms.{Form, Plain, Place, One, Both, Either, Chain, Inner, Made, Nested, Growth}
 use Rattle.vg_cread.specs.Grammar.{begins, form, unit}
-use Rattle.vg_cread.specs.Places.{State, place_at, passes}
+use Rattle.vg_cread.specs.Places.{State, place_at, passes, tested}
+use Rattle.vg_cread.specs.declared.reading.ReadFault.{ReadFault}
+use Rattle.vg_cread.specs.declared.reading.ReadFault.TheVariants as faults
 use Rattle.vg_cread.specs.Spelling.{Spelled, Turns, spelled_with, spelled_inner, start, Spells}
 
 module _ (toks : List Token) where
@@ -15,27 +17,28 @@ module _ (toks : List Token) where
       (passes test (slice_get toks s.at) ≡ true) × (g : ℕ → _ → Growth _) × (u : State) × more s g u
       × TurnsTo n test more stops at (g at a u.tree).0 (record u { tree = (g at a u.tree).1 })
 
-  -- a form from a state on, along its tokens, comes to a token that it needs, where `needs` holds, or to a construct that is
-  -- counted, where `inner` holds
+  -- a form from a state on, along its tokens, comes to a place where `lacks` holds and where it needs another token than the next,
+  -- or to a construct that is counted, where `inner` holds
   abbrev pub comes_with : {A : Type 0} → (Nested → Spelled ℕ) → (State → Type 0) → (Nested → State → Type 0) → Form A → State → Type 0
-  comes_with says needs inner (Plain a) s = ⊥
-  comes_with says needs inner Place s = ⊥
-  comes_with says needs inner (One test) s = needs s
-  comes_with says needs inner (Both f x) s =
-      comes_with says needs inner f s ⊎ ((g : _ → _) × (u : State) × spelled_with toks says f s g u × comes_with says needs inner x u)
-  comes_with says needs inner (Either test x y) s =
-      ((passes test (slice_get toks s.at) ≡ true) × comes_with says needs inner x s) ⊎ ((passes test (slice_get toks s.at) ≡ false) × comes_with says needs inner y s)
-  comes_with says needs inner (Chain test x more) s =
-      comes_with says needs inner x s
-      ⊎ ((a : _) × (u : State) × (n : ℕ) × spelled_with toks says x s a u × TurnsTo n test (spelled_with toks says more) (comes_with says needs inner more) (place_at toks s.at) a u)
-  comes_with says needs inner (Inner n) s = inner n s
-  comes_with says needs inner (Made f) s = comes_with says needs inner f s
+  comes_with says lacks inner (Plain a) s = ⊥
+  comes_with says lacks inner Place s = ⊥
+  comes_with says lacks inner (One test) s = lacks s × (tested test (slice_get toks s.at) ≡ None)
+  comes_with says lacks inner (Both f x) s =
+      comes_with says lacks inner f s ⊎ ((g : _ → _) × (u : State) × spelled_with toks says f s g u × comes_with says lacks inner x u)
+  comes_with says lacks inner (Either test x y) s =
+      ((passes test (slice_get toks s.at) ≡ true) × comes_with says lacks inner x s) ⊎ ((passes test (slice_get toks s.at) ≡ false) × comes_with says lacks inner y s)
+  comes_with says lacks inner (Chain test x more) s =
+      comes_with says lacks inner x s
+      ⊎ ((a : _) × (u : State) × (n : ℕ) × spelled_with toks says x s a u × TurnsTo n test (spelled_with toks says more) (comes_with says lacks inner more) (place_at toks s.at) a u)
+  comes_with says lacks inner (Inner n) s = inner n s
+  comes_with says lacks inner (Made f) s = comes_with says lacks inner f s
 
-  -- a counted construct comes to the token behind so many, and needs one there
-  abbrev pub needs_inner : ℕ → ℕ → Nested → State → Type 0
-  needs_inner i zero n s = s.at ≡ i
-  needs_inner i (suc room) n s =
-      (s.at ≡ i) ⊎ ((passes (begins n) (slice_get toks s.at) ≡ true) × comes_with (spelled_inner toks room) (λ u. u.at ≡ i) (needs_inner i room) (form n) s)
+  -- a counted construct comes to a place behind so many tokens where it needs another token than the next
+  abbrev pub lacks_inner : ℕ → ℕ → Nested → State → Type 0
+  lacks_inner i zero n s = (s.at ≡ i) × (passes (begins n) (slice_get toks s.at) ≡ false)
+  lacks_inner i (suc room) n s =
+      ((s.at ≡ i) × (passes (begins n) (slice_get toks s.at) ≡ false))
+      ⊎ ((passes (begins n) (slice_get toks s.at) ≡ true) × comes_with (spelled_inner toks room) (λ u. u.at ≡ i) (lacks_inner i room) (form n) s)
 
   -- a counted construct comes to one that begins with the token behind so many, and has no room
   abbrev pub opens_inner : ℕ → ℕ → Nested → State → Type 0
@@ -43,9 +46,10 @@ module _ (toks : List Token) where
   opens_inner i (suc room) n s =
       (passes (begins n) (slice_get toks s.at) ≡ true) × comes_with (spelled_inner toks room) (λ u. ⊥) (opens_inner i room) (form n) s
 
--- along the first so many tokens, with room for so many constructs in one another, the grammar comes to a place where it needs a token
-abbrev pub Needs : ℕ → List Token → ℕ → Type 0
-Needs room toks i = comes_with toks (spelled_inner toks room) (λ s. s.at ≡ i) (needs_inner toks i room) unit start
+-- along the first so many tokens, with room for so many constructs in one another, the grammar comes to a place where it needs
+-- another token than the next, or where it needs one and none is left
+abbrev pub Lacks : ℕ → List Token → ℕ → Type 0
+Lacks room toks i = comes_with toks (spelled_inner toks room) (λ s. s.at ≡ i) (lacks_inner toks i room) unit start
 
 -- along the first so many tokens the grammar comes to a place where the next token opens a construct that has no room
 abbrev pub Opens : ℕ → List Token → ℕ → Type 0
@@ -56,10 +60,16 @@ abbrev pub RulesOut : List Token → ℕ → Option Token → Type 0
 RulesOut toks i (Some t) = (room : ℕ) (more : List Token) (tree : Syntax) → Spells room (take (i + 1) toks ++ more) tree → ⊥
 RulesOut toks i None = (room : ℕ) (tree : Syntax) → Spells room toks tree → ⊥
 
--- a token stands at a place where another is needed, and no tree begins so; or the last token ends where one is needed
+-- at a place stands a token where the grammar needs another, and no tree begins so; or there the last token ends, and one is needed
 abbrev pub IsSyntax : ℕ → List Token → ℕ → Type 0
-IsSyntax room toks at = (i : ℕ) × (at ≡ place_at toks i) × Needs room toks i × RulesOut toks i (slice_get toks i)
+IsSyntax room toks at = (i : ℕ) × (at ≡ place_at toks i) × Lacks room toks i × RulesOut toks i (slice_get toks i)
 
--- a token stands at a place, and opens a construct for which there is no room
+-- at a place stands a token that opens a construct for which there is no room
 abbrev pub IsDeep : ℕ → List Token → ℕ → Type 0
 IsDeep room toks at = (i : ℕ) × (at ≡ place_at toks i) × Opens room toks i
+
+-- the faults that tokens have
+abbrev pub Refuses : List Token → ReadFault → Type 0
+Refuses toks (faults.Syntax at) = IsSyntax 64 toks at
+Refuses toks (faults.Deep at) = IsDeep 64 toks at
+Refuses toks faults.Memory = ⊥

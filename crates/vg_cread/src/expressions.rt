@@ -1,10 +1,10 @@
 //! Expressions: ten ranks of operators between two operands, and what binds tighter than these (C11 6.5).
 ghost use Rattle.std.specs.Prelude.{◌≡◌, ◌≤◌, ◌<◌, ◌-◌, ◌+◌, IfOk};
 ghost use Rattle.vg_cread.specs.Forms.{Expression, Operand};
-ghost use Rattle.vg_cread.specs.Places.{passes};
+ghost use Rattle.vg_cread.specs.Places.{passes, tested};
 ghost use Rattle.vg_cread.specs.Kinds.{is_binary, binary_of, unary_of, number_of, begins_base, begins_expression, begins_suffix};
 ghost use Rattle.vg_cread.specs.Grammar.{expression, unary, operator, binary, link, postfix, suffix, opened, primary, arguments};
-ghost use Rattle.vg_cread.specs.Reading.{Gives, reads, reads_inner, turn, next, tested, items_of};
+ghost use Rattle.vg_cread.specs.Reading.{Gives, reads, reads_inner, turn, next, items_of};
 
 use crate::kinds::{begins_expression, begins_suffix, binary_of, number_of, number_type, unary_of};
 use crate::reader::{Reader, Source, Stop};
