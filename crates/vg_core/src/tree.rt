@@ -107,7 +107,9 @@ pub struct Parts {
 #[derive(Clone, Copy, Debug, PartialEq, Eq)]
 pub enum Kind {
     /// The whole text: structs, externs and functions.
-    Unit { items: Parts },
+    Unit {
+        items: Parts,
+    },
     /// `struct name { fields };`, with the attribute's name where it has one.
     Struct {
         tag: Name,
@@ -121,9 +123,15 @@ pub enum Kind {
         length: Option<u32>,
     },
     /// `extern map_t name;`
-    ExternHandle { handle: HandleKind, name: Name },
+    ExternHandle {
+        handle: HandleKind,
+        name: Name,
+    },
     /// `extern const int name;`
-    ExternNumber { of: IntType, name: Name },
+    ExternNumber {
+        of: IntType,
+        name: Name,
+    },
     /// A function. One without a type of its answer is `void`.
     Function {
         is_static: bool,
@@ -134,9 +142,15 @@ pub enum Kind {
         body: u32,
     },
     /// A parameter of a function.
-    Param { base: Base, pointer: bool, name: Name },
+    Param {
+        base: Base,
+        pointer: bool,
+        name: Name,
+    },
     /// `{ .. }`: declarations and statements.
-    Block { statements: Parts },
+    Block {
+        statements: Parts,
+    },
     /// A declaration of a variable in a block.
     Declare {
         base: Base,
@@ -148,7 +162,9 @@ pub enum Kind {
     /// `;`
     Empty,
     /// An expression as a statement.
-    Evaluate { value: u32 },
+    Evaluate {
+        value: u32,
+    },
     /// `target = value;`, or `target op= value;`.
     Assign {
         op: Option<BinaryOp>,
@@ -156,9 +172,13 @@ pub enum Kind {
         value: u32,
     },
     /// `target++;`
-    Increment { target: u32 },
+    Increment {
+        target: u32,
+    },
     /// `target--;`
-    Decrement { target: u32 },
+    Decrement {
+        target: u32,
+    },
     /// `if (condition) then`, and an `else` where it has one.
     If {
         condition: u32,
@@ -177,7 +197,9 @@ pub enum Kind {
         body: u32,
     },
     /// `return value;`, or `return;`.
-    Return { value: Option<u32> },
+    Return {
+        value: Option<u32>,
+    },
     /// `condition ? then : otherwise`
     Choose {
         condition: u32,
@@ -191,7 +213,10 @@ pub enum Kind {
         right: u32,
     },
     /// An operator before its operand.
-    Unary { op: UnaryOp, operand: u32 },
+    Unary {
+        op: UnaryOp,
+        operand: u32,
+    },
     /// `(base) operand`, or `(base *) operand`.
     Cast {
         base: Base,
@@ -199,21 +224,42 @@ pub enum Kind {
         operand: u32,
     },
     /// `sizeof (base)`
-    Sizeof { base: Base },
+    Sizeof {
+        base: Base,
+    },
     /// `array[index]`
-    Index { array: u32, index: u32 },
+    Index {
+        array: u32,
+        index: u32,
+    },
     /// `whole.field`
-    Member { whole: u32, field: Name },
+    Member {
+        whole: u32,
+        field: Name,
+    },
     /// `pointer->field`
-    Arrow { pointer: u32, field: Name },
+    Arrow {
+        pointer: u32,
+        field: Name,
+    },
     /// A number, with the type that C11 6.4.4.1 gives it. A defined name is a number too.
-    Number { value: u64, of: IntType },
+    Number {
+        value: u64,
+        of: IntType,
+    },
     /// A name as an expression.
-    Variable { name: Name },
+    Variable {
+        name: Name,
+    },
     /// `name(arguments)`
-    Call { name: Name, arguments: Parts },
+    Call {
+        name: Name,
+        arguments: Parts,
+    },
     /// `(inner)`
-    Parens { inner: u32 },
+    Parens {
+        inner: u32,
+    },
 }
 
 /// A node: what it is, and the place of its first token in the text.

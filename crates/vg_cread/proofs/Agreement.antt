@@ -1,16 +1,14 @@
 -- What a form reads is what it spells.
-use Rattle.std.proofs.Common.{◌≡◌, ◌∙◌, ◌<◌, ◌≤◌, ◌+◌, ◌-◌, ◌⊎◌, inl, inr, ℕ, zero, suc, Bool, true, false, cond, List, length, slice_get, Option, Some, None, Result, Ok, Err, refl, sym, ap, subst, arith}
+use Rattle.std.proofs.Common.{◌≡◌, ◌∙◌, ◌≤◌, ◌+◌, ◌-◌, inl, inr, ℕ, zero, suc, Bool, true, List, length, slice_get, Option, Some, None, Ok, refl, sym, ap, subst, arith}
 use Rattle.std.specs.Prelude.{◌&&◌}
-use Rattle.std.proofs.lemmas.Bool.{false≢true, cases_Bool, and_parts}
+use Rattle.std.proofs.lemmas.Bool.{and_parts}
 use Rattle.std.proofs.lemmas.Option.{slice_get_past}
-use Rattle.vg_core.specs.Syntax.{Syntax}
 use Rattle.vg_ctok.specs.declared.kinds.Token.{Token}
-use Rattle.vg_cread.specs.Forms.{Form, Plain, Place, One, Both, Either, Chain, Inner, Made, Nested, Expression, Operand, Statement, Body, Growth}
-use Rattle.vg_cread.specs.Grammar.{begins, form}
+use Rattle.vg_cread.specs.Forms.{Form, Plain, Place, One, Both, Either, Chain, Inner, Made, Nested, Growth}
 use Rattle.vg_cread.specs.Places.{State, place_at, passes, tested}
-use Rattle.vg_cread.specs.Spelling.{Spelled, Turns, spelled_with, spelled_inner}
-use Rattle.vg_cread.specs.Reading.{Refusal, Wrong, Deep, Reads, ◌>>=◌, taken, grown, turn, turns, read_with, read_inner}
-use Rattle.vg_cread.proofs.Onward.{bound, ok_at, same_state, same_value, either_side, eats, further, gains, Gains, turn-onward}
+use Rattle.vg_cread.specs.Spelling.{Spelled, Turns, spelled_with}
+use Rattle.vg_cread.specs.Reading.{Reads, ◌>>=◌, taken, grown, turn, turns, read_with}
+use Rattle.vg_cread.proofs.Onward.{bound, ok_at, same_state, same_value, either_side, eats, further, gains, Gains}
 use Rattle.vg_cread.proofs.Chains.{some_next}
 
 -- in each chain the second form has a token
@@ -89,18 +87,18 @@ module _ (toks : List Token) where
   turns_spelled (suc left) test more says h on at a s b t enough e =
       either_side (passes test (slice_get toks s.at))
       (λ so is.
-          let parts = bound (turn more at a s) (λ q. turns toks left test more at q.0 q.1) is in
-          let one = bound (more s) (λ q. Ok (grown (q.0 at a q.1.tree) q.1)) parts.1 in
-          let g = one.0.0 in
-          let u = one.0.1 in
-          let step = on s g u one.1 in
-          let value : (g at a u.tree).0 ≡ parts.0.0 = same_value one.2 in
-          let state : record u { tree = (g at a u.tree).1 } ≡ parts.0.1 = same_state one.2 in
-          let moved : u.at ≡ parts.0.1.at = ap (λ (v : State). v.at) state in
-          let rest : turns toks left test more at (g at a u.tree).0 (record u { tree = (g at a u.tree).1 }) ≡ Ok (b, t) =
-          ap (λ (v : State). turns toks left test more at (g at a u.tree).0 v) state ∙ ap (λ c. turns toks left test more at c parts.0.1) value ∙ parts.2 in
-          let later = turns_spelled left test more says h on at (g at a u.tree).0 (record u { tree = (g at a u.tree).1 }) b t (omega (arith, enough, step)) rest in
-          (suc later.0, (so, g, u, h s g u one.1, later.1)))
+      let parts = bound (turn more at a s) (λ q. turns toks left test more at q.0 q.1) is in
+      let one = bound (more s) (λ q. Ok (grown (q.0 at a q.1.tree) q.1)) parts.1 in
+      let g = one.0.0 in
+      let u = one.0.1 in
+      let step = on s g u one.1 in
+      let value : (g at a u.tree).0 ≡ parts.0.0 = same_value one.2 in
+      let state : record u { tree = (g at a u.tree).1 } ≡ parts.0.1 = same_state one.2 in
+      let moved : u.at ≡ parts.0.1.at = ap (λ (v : State). v.at) state in
+      let rest : turns toks left test more at (g at a u.tree).0 (record u { tree = (g at a u.tree).1 }) ≡ Ok (b, t) =
+      ap (λ (v : State). turns toks left test more at (g at a u.tree).0 v) state ∙ ap (λ c. turns toks left test more at c parts.0.1) value ∙ parts.2 in
+      let later = turns_spelled left test more says h on at (g at a u.tree).0 (record u { tree = (g at a u.tree).1 }) b t (omega (arith, enough, step)) rest in
+      (suc later.0, (so, g, u, h s g u one.1, later.1)))
       (λ unless is. (0, (unless, sym (same_value is), sym (same_state is)))) e
 
   pub sound : (inner : Nested → Reads ℕ) (says : Nested → Spelled ℕ) → Gains toks inner → ((n : Nested) (s : State) (a : ℕ) (t : State) → inner n s ≡ Ok (a, t) → says n s a t)

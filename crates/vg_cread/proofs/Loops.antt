@@ -1,15 +1,14 @@
 -- The loops of the reader, as chains.
-use Rattle.std.proofs.Common.{◌≡◌, ◌∙◌, ◌<◌, ◌≤◌, ◌+◌, ◌-◌, ℕ, zero, suc, Bool, true, false, List, [], ◌∷◌, ◌++◌, length, slice_get, Option, Some, None, is_some, Result, Ok, Err, refl, sym, ap, subst, arith}
-use Rattle.vg_core.specs.Syntax.{Syntax}
+use Rattle.std.proofs.Common.{◌≡◌, ◌∙◌, ◌<◌, ◌≤◌, ◌+◌, ◌-◌, ℕ, zero, suc, Bool, true, false, List, [], ◌∷◌, ◌++◌, length, Option, Some, None, is_some, Result, Ok, Err, refl, sym, ap, subst, arith}
 use Rattle.vg_ctok.specs.declared.kinds.Sign.{Sign}
 use Rattle.vg_ctok.specs.declared.kinds.Sign.TheVariants as signs
 use Rattle.vg_ctok.specs.declared.kinds.Keyword.TheVariants as words
 use Rattle.vg_ctok.specs.declared.kinds.Token.{Token}
-use Rattle.vg_cread.specs.Forms.{Form, Plain, Place, One, Both, Either, Chain, Inner, Nested, Expression, Growth, ◌⊛◌, ◌⊳◌, listed, one_more}
+use Rattle.vg_cread.specs.Forms.{Form, Plain, Chain, Inner, Expression, Growth, ◌⊛◌, ◌⊳◌, listed, one_more}
 use Rattle.vg_cread.specs.Kinds.{is_sign, is_word, is_binary, begins_base, begins_expression, begins_piece, begins_suffix, any_token}
 use Rattle.vg_cread.specs.Grammar.{sign, word, name, base, int_type, unary, operator, binary, link, postfix, primary, suffix, arguments, declaration, piece, pieces, field, fields, param, params, answer, flagged, struct_item, extern_item, function, item, items}
 use Rattle.vg_cread.specs.Places.{State, place_at, passes}
-use Rattle.vg_cread.specs.Reading.{Refusal, Wrong, Deep, Reads, ◌>>=◌, turn, turns, read_inner, reads, reads_inner, next, Gives}
+use Rattle.vg_cread.specs.Reading.{Refusal, Wrong, Deep, ◌>>=◌, turn, turns, read_inner, reads, reads_inner, next, Gives}
 use Rattle.vg_cread.specs.declared.reader.Source.{Source}
 use Rattle.vg_cread.specs.declared.reader.Stop.{Stop}
 use Rattle.vg_cread.specs.declared.reader.Stop.TheVariants as stops

@@ -1,12 +1,10 @@
 -- Reading never goes back, and a form that has a token goes forward.
-use Rattle.std.proofs.Common.{◌≡◌, ◌∙◌, ◌<◌, ◌≤◌, ◌+◌, ◌-◌, ℕ, zero, suc, Bool, true, false, cond, List, length, slice_get, Option, Some, None, Result, Ok, Err, refl, sym, ap, subst, arith, inl, inr}
+use Rattle.std.proofs.Common.{◌≡◌, ◌≤◌, ◌+◌, ◌-◌, ℕ, zero, suc, Bool, true, false, cond, List, length, slice_get, Option, Some, None, Result, Ok, Err, refl, ap, subst, arith}
 use Rattle.std.specs.Prelude.{◌&&◌, ◌||◌}
-use Rattle.std.proofs.lemmas.Bool.{false≢true, and_parts, or_cases, cases_Bool}
-use Rattle.vg_core.specs.Syntax.{Syntax}
 use Rattle.vg_ctok.specs.declared.kinds.Token.{Token}
 use Rattle.vg_cread.specs.Forms.{Form, Plain, Place, One, Both, Either, Chain, Inner, Made, Nested, Growth}
 use Rattle.vg_cread.specs.Places.{State, place_at, passes, tested}
-use Rattle.vg_cread.specs.Reading.{Refusal, Wrong, Deep, Reads, ◌>>=◌, taken, grown, turn, turns, read_with}
+use Rattle.vg_cread.specs.Reading.{Refusal, Reads, ◌>>=◌, taken, grown, turn, turns, read_with}
 
 -- both parts of a reading that succeeds
 pub bound : {A B : Type 0} (r : Result A Refusal) (f : A → Result B Refusal) {y : B} → (r >>= f) ≡ Ok y → (x : A) × (r ≡ Ok x) × (f x ≡ Ok y)
@@ -92,10 +90,10 @@ module _ (toks : List Token) where
   turns-onward (suc n) test more h at a s c t e =
       either_side (passes test (slice_get toks s.at))
       (λ so is.
-          let parts = bound (turn more at a s) (λ q. turns toks n test more at q.0 q.1) is in
-          let first = turn-onward more false h at a s parts.0.0 parts.0.1 parts.1 in
-          let rest = turns-onward n test more h at parts.0.0 parts.0.1 c t parts.2 in
-          omega (arith, first, rest))
+      let parts = bound (turn more at a s) (λ q. turns toks n test more at q.0 q.1) is in
+      let first = turn-onward more false h at a s parts.0.0 parts.0.1 parts.1 in
+      let rest = turns-onward n test more h at parts.0.0 parts.0.1 c t parts.2 in
+      omega (arith, first, rest))
       (λ unless is. subst (λ (u : State). s.at ≤ u.at) (same_state is) (omega arith)) e
 
   -- a construct that is counted eats

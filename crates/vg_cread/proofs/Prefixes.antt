@@ -1,17 +1,15 @@
 -- What reading the first tokens of a list says of reading them all: it comes to their end, or it is the same.
-use Rattle.std.proofs.Common.{◌≡◌, ◌∙◌, ◌<◌, ◌≤◌, ◌+◌, ◌-◌, ◌⊎◌, inl, inr, ℕ, zero, suc, Bool, true, false, cond, List, [], ◌∷◌, ◌++◌, length, slice_get, Option, Some, None, Result, Ok, Err, refl, sym, ap, subst, arith, length-append}
+use Rattle.std.proofs.Common.{◌≡◌, ◌∙◌, ◌<◌, ◌≤◌, ◌+◌, ◌-◌, ◌⊎◌, inl, inr, ℕ, zero, suc, Bool, true, false, cond, List, [], ◌∷◌, ◌++◌, length, slice_get, Option, Result, Ok, Err, refl, sym, ap, subst, arith, length-append}
 use Rattle.std.specs.Prelude.{◌&&◌}
-use Rattle.std.proofs.lemmas.Bool.{false≢true, and_parts}
-use Rattle.std.proofs.lemmas.Option.{slice_get_within, slice_get_cases, slice_get_past}
-use Rattle.vg_core.specs.Syntax.{Syntax}
+use Rattle.std.proofs.lemmas.Bool.{and_parts}
+use Rattle.std.proofs.lemmas.Option.{slice_get_cases}
 use Rattle.vg_ctok.specs.declared.kinds.Token.{Token}
 use Rattle.vg_cread.specs.Forms.{Form, Plain, Place, One, Both, Either, Chain, Inner, Made, Nested, Growth}
 use Rattle.vg_cread.specs.Grammar.{begins, form}
 use Rattle.vg_cread.specs.Places.{State, place_at, place_or, end_of, passes, tested}
 use Rattle.vg_cread.specs.Reading.{Refusal, Wrong, Deep, Reads, ◌>>=◌, taken, grown, turn, turns, read_with, read_inner}
-use Rattle.vg_cread.proofs.Onward.{bound, ok_at, same_state, eats, further, gains, Gains, turn-onward}
+use Rattle.vg_cread.proofs.Onward.{ok_at, eats, further, gains, Gains, turn-onward}
 use Rattle.vg_cread.proofs.Rooms.{inner_gains}
-use Rattle.vg_cread.proofs.Chains.{some_next}
 use Rattle.vg_cread.proofs.Agreement.{tidy}
 use Rattle.vg_cread.proofs.Bounds.{Within, within_bind, within_turns, within, within_inner}
 use Rattle.vg_cread.proofs.Units.{form_tidy}
@@ -112,8 +110,8 @@ module _ (front all : List Token) (rest : List Token) (parts : all ≡ front ++ 
         (within_bind front s.at (near s) (λ q. Ok (grown (q.0 at a q.1.tree) q.1)) (h s le) (λ g t here. (omega arith, here)))
         (within_bind all s.at (far s) (λ q. Ok (grown (q.0 at a q.1.tree) q.1)) (i s far_le) (λ g t here. (omega arith, here)))
         (λ b t is here.
-            let step = turn-onward front near true on at a s b t is in
-            turns_cut n m test near far cut h i on at b t here (omega (arith, enough, step)) (omega (arith, more, step)))
+        let step = turn-onward front near true on at a s b t is in
+        turns_cut n m test near far cut h i on at b t here (omega (arith, enough, step)) (omega (arith, more, step)))
         (λ b t here. within_turns front n test near h at b t here) (λ b t here. within_turns all m test far i at b t here))
         (inr refl)
   ]
@@ -141,10 +139,10 @@ module _ (front all : List Token) (rest : List Token) (parts : all ≡ front ++ 
       cut_bind s.at (read_with front near f s) (read_with all far f s) (λ p. read_with front near x p.1 >>= λ q. Ok (p.0 q.0, q.1)) (λ p. read_with all far x p.1 >>= λ q. Ok (p.0 q.0, q.1))
       (cut near far both h i gain f two.0 s le) (within front near h f s here) (within all far i f s there)
       (λ g t is at.
-          let at_all : t.at ≤ length all = omega (arith, at, longer) in
-          cut_bind t.at (read_with front near x t) (read_with all far x t) (λ q. Ok (g q.0, q.1)) (λ q. Ok (g q.0, q.1))
-          (anywhere t (read_with front near x t) (read_with all far x t) at (λ inside. cut near far both h i gain x two.1 t inside) (within front near h x t at) (within all far i x t at_all))
-          (within front near h x t at) (within all far i x t at_all) (λ a u is le. inr refl) (λ a u le. (omega arith, le)) (λ a u le. (omega arith, le)))
+      let at_all : t.at ≤ length all = omega (arith, at, longer) in
+      cut_bind t.at (read_with front near x t) (read_with all far x t) (λ q. Ok (g q.0, q.1)) (λ q. Ok (g q.0, q.1))
+      (anywhere t (read_with front near x t) (read_with all far x t) at (λ inside. cut near far both h i gain x two.1 t inside) (within front near h x t at) (within all far i x t at_all))
+      (within front near h x t at) (within all far i x t at_all) (λ a u is le. inr refl) (λ a u le. (omega arith, le)) (λ a u le. (omega arith, le)))
       (λ g t at. within_bind front t.at (read_with front near x t) (λ q. Ok (g q.0, q.1)) (within front near h x t at) (λ a u le. (omega arith, le)))
       (λ g t at. within_bind all t.at (read_with all far x t) (λ q. Ok (g q.0, q.1)) (within all far i x t at) (λ a u le. (omega arith, le)))
   cut near far both h i gain (Either test x y) neat s le =
@@ -159,10 +157,10 @@ module _ (front all : List Token) (rest : List Token) (parts : all ≡ front ++ 
       (λ p. turns front (length front - p.1.at) test (read_with front near more) (place_at front s.at) p.0 p.1) (λ p. turns all (length all - p.1.at) test (read_with all far more) (place_at all s.at) p.0 p.1)
       (cut near far both h i gain x two.0 s le) (within front near h x s here) (within all far i x s there)
       (λ a t is at.
-          subst (λ (p : ℕ). Cut (turns front (length front - t.at) test (read_with front near more) (place_at front s.at) a t) (turns all (length all - t.at) test (read_with all far more) p a t)) (sym (same_place s.at le))
-          (turns_cut (length front - t.at) (length all - t.at) test (read_with front near more) (read_with all far more) (λ u inside. cut near far both h i gain more three.1 u inside)
-          (λ u at. within front near h more u at) (λ u at. within all far i more u at)
-          (λ u g v is. subst (λ (c : Bool). further c u.at ≤ v.at) two.1 (gains front near gain more u g v is)) (place_at front s.at) a t at (omega arith) (omega arith)))
+      subst (λ (p : ℕ). Cut (turns front (length front - t.at) test (read_with front near more) (place_at front s.at) a t) (turns all (length all - t.at) test (read_with all far more) p a t)) (sym (same_place s.at le))
+      (turns_cut (length front - t.at) (length all - t.at) test (read_with front near more) (read_with all far more) (λ u inside. cut near far both h i gain more three.1 u inside)
+      (λ u at. within front near h more u at) (λ u at. within all far i more u at)
+      (λ u g v is. subst (λ (c : Bool). further c u.at ≤ v.at) two.1 (gains front near gain more u g v is)) (place_at front s.at) a t at (omega arith) (omega arith)))
       (λ a t at. within_turns front (length front - t.at) test (read_with front near more) (λ u at. within front near h more u at) (place_at front s.at) a t at)
       (λ a t at. within_turns all (length all - t.at) test (read_with all far more) (λ u at. within all far i more u at) (place_at all s.at) a t at)
   cut near far both h i gain (Inner n) neat s le = both n s le

@@ -1,11 +1,10 @@
 -- Constructs that are counted: where one is refused, where it is too deep, and what it is else; and that each has a token.
-use Rattle.std.proofs.Common.{◌≡◌, ◌∙◌, ◌<◌, ◌≤◌, ◌+◌, ◌-◌, ℕ, zero, suc, Bool, true, false, cond, List, length, slice_get, Option, Some, None, Result, Ok, Err, refl, sym, ap, subst, arith}
-use Rattle.std.proofs.lemmas.Bool.{false≢true}
+use Rattle.std.proofs.Common.{◌≡◌, ◌≤◌, ◌+◌, ℕ, zero, suc, true, false, List, slice_get, Err, refl, subst, arith}
 use Rattle.vg_ctok.specs.declared.kinds.Token.{Token}
-use Rattle.vg_cread.specs.Forms.{Form, Nested, Expression, Operand, Statement, Body}
-use Rattle.vg_cread.specs.Grammar.{begins, form, sign, word, name, base, int_type, handle, expression, binary, link, unary, postfix, primary, opened, statement, block, if_statement, for_statement, return_statement, simple_statement, declaration, field, struct_item, extern_item, param, answer, function, item, piece, suffix}
+use Rattle.vg_cread.specs.Forms.{Nested, Expression, Operand, Statement, Body}
+use Rattle.vg_cread.specs.Grammar.{begins, form, sign, word, name, expression, binary, unary, postfix, primary, opened, statement, block, if_statement, for_statement, return_statement, simple_statement}
 use Rattle.vg_cread.specs.Places.{State, passes}
-use Rattle.vg_cread.specs.Reading.{Refusal, Wrong, Deep, read, read_with, read_inner}
+use Rattle.vg_cread.specs.Reading.{Wrong, Deep, read, read_inner}
 use Rattle.vg_cread.proofs.Onward.{eats, further, either_side, gains, Gains}
 
 module _ (toks : List Token) where

@@ -1,13 +1,12 @@
 -- Where reading stops, the grammar needs a token or opens a construct that has no room.
-use Rattle.std.proofs.Common.{◌≡◌, ◌∙◌, ◌<◌, ◌≤◌, ◌+◌, ◌-◌, ◌⊎◌, inl, inr, ℕ, zero, suc, Bool, true, false, cond, List, length, slice_get, Option, Some, None, Result, Ok, Err, refl, sym, ap, subst, arith}
+use Rattle.std.proofs.Common.{◌≡◌, ◌∙◌, ◌≤◌, ◌+◌, ◌-◌, ◌⊎◌, inl, inr, ℕ, zero, suc, Bool, true, List, length, slice_get, Option, Some, None, Result, Ok, Err, refl, sym, ap, subst, arith}
 use Rattle.std.specs.Prelude.{◌&&◌}
-use Rattle.std.proofs.lemmas.Bool.{false≢true, and_parts}
-use Rattle.vg_core.specs.Syntax.{Syntax}
+use Rattle.std.proofs.lemmas.Bool.{and_parts}
 use Rattle.vg_ctok.specs.declared.kinds.Token.{Token}
 use Rattle.vg_cread.specs.Forms.{Form, Plain, Place, One, Both, Either, Chain, Inner, Made, Nested, Growth}
 use Rattle.vg_cread.specs.Grammar.{begins, form, unit}
 use Rattle.vg_cread.specs.Places.{State, place_at, passes, tested}
-use Rattle.vg_cread.specs.Spelling.{Spelled, Turns, spelled_with, spelled_inner, start}
+use Rattle.vg_cread.specs.Spelling.{Spelled, spelled_with, spelled_inner, start}
 use Rattle.vg_cread.specs.Refusals.{TurnsTo, comes_with, lacks_inner, opens_inner, Lacks, Opens}
 use Rattle.vg_cread.specs.Reading.{Refusal, Wrong, Deep, Reads, ◌>>=◌, taken, grown, turn, turns, read_with, read_inner, read}
 use Rattle.vg_cread.proofs.Onward.{bound, ok_at, same_state, same_value, either_side, Gains, gains, further, eats}
@@ -54,9 +53,9 @@ module _ (toks : List Token) where
       either_side (passes test (slice_get toks s.at))
       (λ so is. elim (bound_stops (turn more at a s) (λ q. turns toks left test more at q.0 q.1) e is) [
         | inl first ↦ elim (bound_stops (more s) (λ q. Ok (grown (q.0 at a q.1.tree) q.1)) e first) [
-            | inl here ↦ (0, (so, k s here))
-            | inr done ↦ absurd (cc done.2)
-          ]
+          | inl here ↦ (0, (so, k s here))
+          | inr done ↦ absurd (cc done.2)
+        ]
         | inr later ↦
             let one = bound (more s) (λ q. Ok (grown (q.0 at a q.1.tree) q.1)) later.1 in
             let g = one.0.0 in
@@ -82,9 +81,9 @@ module _ (toks : List Token) where
       elim (bound_stops (read_with toks inner f s) (λ p. read_with toks inner x p.1 >>= λ q. Ok (p.0 q.0, q.1)) e is) [
         | inl first ↦ inl (stops_with inner says lacks deeper e gain ok one more f parts.0 s first)
         | inr later ↦ elim (bound_stops (read_with toks inner x later.0.1) (λ q. Ok (later.0.0 q.0, q.1)) e later.2) [
-            | inl second ↦ inr (later.0.0, later.0.1, sound toks inner says gain ok f parts.0 s later.0.0 later.0.1 later.1, stops_with inner says lacks deeper e gain ok one more x parts.1 later.0.1 second)
-            | inr done ↦ absurd (cc done.2)
-          ]
+          | inl second ↦ inr (later.0.0, later.0.1, sound toks inner says gain ok f parts.0 s later.0.0 later.0.1 later.1, stops_with inner says lacks deeper e gain ok one more x parts.1 later.0.1 second)
+          | inr done ↦ absurd (cc done.2)
+        ]
       ]
   stops_with inner says lacks deeper e gain ok one more (Either test x y) neat s is =
       let parts = and_parts (tidy x) (tidy y) neat in
@@ -116,16 +115,22 @@ module _ (toks : List Token) where
   inner_lacks zero i n s is = either_side (passes (begins n) (slice_get toks s.at)) (λ so is. absurd (cc is)) (λ unless is. (cc is, unless)) is
   inner_lacks (suc room) i n s is =
       either_side (passes (begins n) (slice_get toks s.at))
-      (λ so is. inr (so, stops_with (read_inner toks room) (spelled_inner toks room) (λ u. u.at ≡ i) (lacks_inner toks i room) (Wrong i) (inner_gains toks room) (inner_sound toks room) (lacks_at i)
-      (λ m u h. inner_lacks room i m u h) (form n) (form_tidy n) s is))
+      (λ so is. inr (
+        so,
+        stops_with (read_inner toks room) (spelled_inner toks room) (λ u. u.at ≡ i) (lacks_inner toks i room) (Wrong i) (inner_gains toks room) (inner_sound toks room) (lacks_at i)
+            (λ m u h. inner_lacks room i m u h) (form n) (form_tidy n) s is,
+      ))
       (λ unless is. inl (cc is, unless)) is
 
   inner_opens : (room i : ℕ) (n : Nested) (s : State) → read_inner toks room n s ≡ Err (Deep i) → opens_inner toks i room n s
   inner_opens zero i n s is = either_side (passes (begins n) (slice_get toks s.at)) (λ so is. (cc is, so)) (λ unless is. absurd (cc is)) is
   inner_opens (suc room) i n s is =
       either_side (passes (begins n) (slice_get toks s.at))
-      (λ so is. (so, stops_with (read_inner toks room) (spelled_inner toks room) (λ u. ⊥) (opens_inner toks i room) (Deep i) (inner_gains toks room) (inner_sound toks room) (never_wrong i)
-      (λ m u h. inner_opens room i m u h) (form n) (form_tidy n) s is))
+      (λ so is. (
+        so,
+        stops_with (read_inner toks room) (spelled_inner toks room) (λ u. ⊥) (opens_inner toks i room) (Deep i) (inner_gains toks room) (inner_sound toks room) (never_wrong i)
+            (λ m u h. inner_opens room i m u h) (form n) (form_tidy n) s is,
+      ))
       (λ unless is. absurd (cc is)) is
 
   pub unit_lacks : (room i : ℕ) → read toks room unit start ≡ Err (Wrong i) → Lacks room toks i

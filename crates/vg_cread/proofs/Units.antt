@@ -1,7 +1,5 @@
 -- Whole texts: what is read of them is what they spell.
-use Rattle.std.proofs.Common.{◌≡◌, ◌∙◌, ◌<◌, ◌≤◌, ◌+◌, ◌-◌, ◌⊎◌, inl, inr, ℕ, zero, suc, Bool, true, false, cond, List, length, slice_get, Option, Some, None, Result, Ok, Err, refl, sym, ap, subst, arith}
-use Rattle.std.specs.Prelude.{◌&&◌}
-use Rattle.std.proofs.lemmas.Bool.{false≢true, and_parts}
+use Rattle.std.proofs.Common.{◌≡◌, ◌∙◌, ◌≤◌, ◌+◌, inl, inr, ℕ, zero, suc, Bool, true, false, List, length, slice_get, Option, Some, None, Ok, refl, sym, ap, subst, arith}
 use Rattle.std.proofs.lemmas.Option.{slice_get_within, slice_get_cases}
 use Rattle.vg_core.specs.Syntax.{Syntax}
 use Rattle.vg_ctok.specs.declared.kinds.Token.{Token}
@@ -10,8 +8,8 @@ use Rattle.vg_cread.specs.Kinds.{any_token}
 use Rattle.vg_cread.specs.Grammar.{begins, form, sign, word, name, flagged, base, int_type, star, handle, array_length, initial, expression, operator, binary, link, unary, postfix, suffix, primary, arguments, opened, statement, block, pieces, piece, declaration, if_statement, otherwise, for_statement, step, return_statement, simple_statement, assignment, action, field, fields, attribute, packing, struct_item, extern_item, param, params, answer, function, item, items, unit}
 use Rattle.vg_cread.specs.Places.{State, place_at, passes}
 use Rattle.vg_cread.specs.Spelling.{Spelled, Turns, spelled_with, spelled_inner, spelled, start, Spells}
-use Rattle.vg_cread.specs.Reading.{Refusal, Wrong, Deep, Reads, ◌>>=◌, read_with, read_inner, read}
-use Rattle.vg_cread.proofs.Onward.{ok_at, same_state, same_value, either_side, Gains, gains, further, eats}
+use Rattle.vg_cread.specs.Reading.{read_inner, read}
+use Rattle.vg_cread.proofs.Onward.{same_state, either_side}
 use Rattle.vg_cread.proofs.Rooms.{inner_gains}
 use Rattle.vg_cread.proofs.Agreement.{tidy, complete, sound}
 

@@ -1,5 +1,5 @@
 -- Forms of text. A form says which tokens a construct has, one behind the other, and what they add to a tree.
-use Rattle.std.specs.Prelude.{ℕ, ◌+◌, List, [], ◌∷◌, ◌++◌, length, Bool, true, false, Option, Some, None}
+use Rattle.std.specs.Prelude.{ℕ, List, [], ◌∷◌, ◌++◌, length, Bool, Option, Some, None}
 use Rattle.vg_core.specs.Syntax.{Syntax, with_node, with_parts}
 use Rattle.vg_core.specs.declared.tree.Kind.{Kind}
 use Rattle.vg_core.specs.declared.tree.Parts.{Parts}

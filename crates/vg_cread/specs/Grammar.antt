@@ -1,6 +1,6 @@
 -- The grammar of the C profile, after C11 6.5, 6.7, 6.8 and 6.9: one form a rule, in the order of its tokens. Where a rule has a
 -- choice, the next token tells which side it is. Above each rule stands its text.
-use Rattle.std.specs.Prelude.{ℕ, ◌+◌, zero, suc, List, [], ◌∷◌, ◌++◌, Bool, true, false, Option, Some, None, if◌then◌else◌}
+use Rattle.std.specs.Prelude.{ℕ, zero, suc, List, [], ◌∷◌, Bool, true, false, Option, Some, None, if◌then◌else◌}
 use Rattle.vg_core.specs.declared.tree.Name.{Name}
 use Rattle.vg_core.specs.declared.tree.Base.{Base}
 use Rattle.vg_core.specs.declared.tree.Base.TheVariants as bases
@@ -17,7 +17,7 @@ use Rattle.vg_ctok.specs.declared.kinds.Sign.TheVariants as signs
 use Rattle.vg_ctok.specs.declared.kinds.Token.{Token}
 use Rattle.vg_cread.specs.declared.statements.Action.{Action}
 use Rattle.vg_cread.specs.declared.statements.Action.TheVariants as actions
-use Rattle.vg_cread.specs.Forms.{Form, Plain, Place, One, Both, Either, Chain, Inner, Made, Nested, Expression, Operand, Statement, Body, Growth, ◌⊛◌, ◌⊲◌, ◌⊳◌, optional, listed, same, one_more, node, node_with}
+use Rattle.vg_cread.specs.Forms.{Form, Plain, Place, One, Either, Chain, Inner, Made, Nested, Expression, Operand, Statement, Body, Growth, ◌⊛◌, ◌⊲◌, ◌⊳◌, optional, listed, same, one_more, node, node_with}
 use Rattle.vg_cread.specs.Kinds.{is_sign, is_word, name_of, number_of, number_type, int_of, handle_of, unary_of, binary_of, is_binary, assign_of, is_assign, is_number, begins_base, begins_unary, begins_expression, begins_statement, begins_piece, begins_suffix, any_token}
 
 -- a sign, a keyword, a name

@@ -1,5 +1,5 @@
 -- Why tokens spell no tree: the grammar needs another token than the one that stands there, or a construct stands too deep.
-use Rattle.std.specs.Prelude.{◌≡◌, ℕ, zero, suc, ◌+◌, List, ◌++◌, take, length, slice_get, Bool, true, false, Option, Some, None, ◌⊎◌}
+use Rattle.std.specs.Prelude.{◌≡◌, ℕ, zero, suc, ◌+◌, List, ◌++◌, take, slice_get, Bool, true, false, Option, Some, None, ◌⊎◌}
 use Rattle.vg_core.specs.Syntax.{Syntax}
 use Rattle.vg_ctok.specs.declared.kinds.Token.{Token}
 use Rattle.vg_cread.specs.Forms.{Form, Plain, Place, One, Both, Either, Chain, Inner, Made, Nested, Growth}
@@ -7,7 +7,7 @@ use Rattle.vg_cread.specs.Grammar.{begins, form, unit}
 use Rattle.vg_cread.specs.Places.{State, place_at, passes, tested}
 use Rattle.vg_cread.specs.declared.reading.ReadFault.{ReadFault}
 use Rattle.vg_cread.specs.declared.reading.ReadFault.TheVariants as faults
-use Rattle.vg_cread.specs.Spelling.{Spelled, Turns, spelled_with, spelled_inner, start, Spells}
+use Rattle.vg_cread.specs.Spelling.{Spelled, spelled_with, spelled_inner, start, Spells}
 
 module _ (toks : List Token) where
   -- so many turns of a chain are spelled, and in the next one its form stops

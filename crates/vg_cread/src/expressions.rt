@@ -135,13 +135,7 @@ impl Reader {
     // Reads an operator of a rank and its right operand, behind its left one.
     #[cycle(expression)]
     #[tactic(auto, unfolding(crate::specs::Grammar::link))]
-    fn link(
-        &mut self,
-        src: Source<'_>,
-        rank: u8,
-        at: u32,
-        left: u32,
-    ) -> Result<u32, Stop>
+    fn link(&mut self, src: Source<'_>, rank: u8, at: u32, left: u32) -> Result<u32, Stop>
         requires { 0 < rank }
         ensures { Gives result self.new (turn (reads src.entry (link rank (binary (rank - 1)))) at left self.old) }
     {
@@ -211,7 +205,13 @@ impl Reader {
             self.sign(src, Sign::LeftBracket)?;
             let index = self.expression(src)?;
             self.sign(src, Sign::RightBracket)?;
-            return self.node(at, Kind::Index { array: whole, index });
+            return self.node(
+                at,
+                Kind::Index {
+                    array: whole,
+                    index,
+                },
+            );
         }
         if self.next_is_sign(src, Sign::Dot) {
             self.sign(src, Sign::Dot)?;
@@ -220,7 +220,13 @@ impl Reader {
         }
         self.sign(src, Sign::Arrow)?;
         let field = self.name(src)?;
-        self.node(at, Kind::Arrow { pointer: whole, field })
+        self.node(
+            at,
+            Kind::Arrow {
+                pointer: whole,
+                field,
+            },
+        )
     }
 
     // Reads a number, a name, a call, or what stands in parentheses.

@@ -9,4 +9,4 @@ mod reading;
 mod statements;
 mod types;
 
-pub use reading::{MOST_NESTED, ReadFault, read_unit};
+pub use reading::{MOST_NESTED, ReadFault, one_tree, read_unit};

@@ -1,5 +1,11 @@
 //! Reading a whole text.
-ghost use Rattle.std.specs.Prelude.{◌≡◌, ◌<◌, ◌^◌, length};
+ghost use Rattle.std.specs.Prelude.{◌≡◌, ◌⊎◌, ℕ, List, IfOk, IfErr, MatchResult};
+ghost use Rattle.vg_core.specs.Syntax.{Syntax};
+ghost use Rattle.vg_ctok.specs.declared.kinds.Token.{Token};
+ghost use Rattle.vg_cread.specs.Spelling.{Spells};
+ghost use Rattle.vg_cread.specs.Refusals.{Refuses};
+ghost use Rattle.vg_cread.specs.declared.reading.ReadFault.{ReadFault};
+ghost use Rattle.vg_cread.specs.declared.reading.ReadFault.TheVariants as faults;
 
 use crate::reader::{Reader, Source, Stop};
 use std::alloc::Global;
@@ -24,9 +30,16 @@ pub enum ReadFault {
     Memory,
 }
 
-/// The tree that the tokens of a text spell.
+/// The tree that the tokens of a text spell, by the grammar of the C profile (C11 6.5, 6.7, 6.8 and 6.9).
+///
+/// `Syntax` is answered exactly where no tree is spelled: at the first token that the grammar can't go on with, or at the
+/// end of the last token where it needs another. `Deep` is answered exactly where a token opens a statement, block or
+/// expression that stands in 64 others, before any such token. `Memory` is answered where memory ran out.
 pub fn read_unit(alloc: Global, toks: &[Token]) -> Result<Tree, ReadFault>
-    requires { length toks.now < 2 ^ 31 }
+    ensures tree { IfOk result (λ t. Spells MOST_NESTED toks.now t) }
+    ensures fault { IfErr result (λ e. (e ≡ faults.Memory) ⊎ Refuses toks.now e) }
+    ensures only_tree { (tree : Syntax) → Spells MOST_NESTED toks.now tree → MatchResult result (λ t. t ≡ tree) (λ e. e ≡ faults.Memory) }
+    ensures only_fault { (e : ReadFault) → Refuses toks.now e → MatchResult result (λ _. ⊥) (λ f. (f ≡ faults.Memory) ⊎ (f ≡ e)) }
 {
     let src = Source {
         alloc,
@@ -41,3 +54,9 @@ pub fn read_unit(alloc: Global, toks: &[Token]) -> Result<Tree, ReadFault>
         Err(Stop::Memory) => Err(ReadFault::Memory),
     }
 }
+
+/// Tokens spell one tree at most, whatever room there is.
+#[tactic(auto, using(crate::proofs::Units::one_tree))]
+pub fn one_tree()
+    ensures { (toks : List Token) (room left : ℕ) (a b : Syntax) → Spells room toks a → Spells left toks b → a ≡ b }
+{}

@@ -1,8 +1,8 @@
-use Rattle.std.proofs.Common.{rules, ◌≡◌, ◌∙◌, ℕ, ◌+◌, ◌-◌, ◌<◌, ◌≤◌, List, [], ◌∷◌, ◌++◌, length, refl, sym, ap, subst, arith, Result, Ok, Err}
+use Rattle.std.proofs.Common.{rules, ◌∙◌, [], sym}
 use Rattle.std.proofs.lemmas.Result.{err_from_is_err_and}
 use Rattle.vg_cread.specs.Kinds.{begins_piece}
 use Rattle.vg_cread.specs.Grammar.{pieces, piece}
-use Rattle.vg_cread.specs.Reading.{Gives, reads}
+use Rattle.vg_cread.specs.Reading.{reads}
 use Rattle.vg_cread.proofs.Loops.{refused_by, listing_same, listing_smaller, listing_turned, listing_failed, pieces_init, piece_eats}
 use Rattle.vg_cread.proofs.reader.Reader.+statement.Goals as goal
 

@@ -1,4 +1,4 @@
-use Rattle.std.proofs.Common.{◌≡◌, ℕ, ◌+◌, ◌-◌, ◌*◌, ◌<◌, ◌≤◌, length}
+use Rattle.std.proofs.Common.{◌+◌, ◌-◌, ◌*◌, length}
 use Rattle.vg_cread.specs.Kinds.{begins_piece}
 use Rattle.vg_cread.specs.Grammar.{pieces, piece}
 use Rattle.vg_cread.specs.Reading.{reads}

@@ -1,8 +1,8 @@
-use Rattle.std.proofs.Common.{rules, ◌≡◌, ◌∙◌, ℕ, ◌+◌, ◌-◌, ◌<◌, ◌≤◌, List, [], ◌∷◌, ◌++◌, length, refl, sym, ap, subst, arith, Result, Ok, Err}
+use Rattle.std.proofs.Common.{rules, ◌∙◌, [], ◌∷◌, sym}
 use Rattle.std.proofs.lemmas.Result.{err_from_is_err_and}
 use Rattle.vg_cread.specs.Kinds.{begins_base}
 use Rattle.vg_cread.specs.Grammar.{fields, field}
-use Rattle.vg_cread.specs.Reading.{Gives, reads}
+use Rattle.vg_cread.specs.Reading.{reads}
 use Rattle.vg_cread.proofs.Loops.{refused_by, listing_same, listing_smaller, listing_turned, listing_failed, fields_init, field_eats}
 use Rattle.vg_cread.proofs.reader.Reader.fields.Goals as goal
 

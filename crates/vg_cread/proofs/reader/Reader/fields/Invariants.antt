@@ -1,4 +1,4 @@
-use Rattle.std.proofs.Common.{◌≡◌, ℕ, ◌+◌, ◌-◌, ◌*◌, ◌<◌, ◌≤◌, length}
+use Rattle.std.proofs.Common.{◌-◌, length}
 use Rattle.vg_cread.specs.Kinds.{begins_base}
 use Rattle.vg_cread.specs.Grammar.{fields, field}
 use Rattle.vg_cread.specs.Reading.{reads}

@@ -1,8 +1,8 @@
-use Rattle.std.proofs.Common.{rules, ◌≡◌, ◌∙◌, ℕ, ◌+◌, ◌-◌, ◌<◌, ◌≤◌, List, [], ◌∷◌, ◌++◌, length, refl, sym, ap, subst, arith, Result, Ok, Err}
+use Rattle.std.proofs.Common.{[]}
 use Rattle.std.proofs.lemmas.Result.{err_from_is_err_and}
 use Rattle.vg_cread.specs.Kinds.{any_token}
 use Rattle.vg_cread.specs.Grammar.{items, item}
-use Rattle.vg_cread.specs.Reading.{Gives, reads, next}
+use Rattle.vg_cread.specs.Reading.{reads, next}
 use Rattle.vg_cread.proofs.Loops.{refused_by, listing_same, listing_smaller, listing_turned, listing_failed, items_init, item_eats, some_passes}
 use Rattle.vg_cread.proofs.reader.Reader.items.Goals as goal
 

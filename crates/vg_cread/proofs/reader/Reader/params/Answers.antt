@@ -1,10 +1,10 @@
-use Rattle.std.proofs.Common.{rules, ◌≡◌, ◌∙◌, ℕ, ◌+◌, ◌-◌, ◌<◌, ◌≤◌, List, [], ◌∷◌, ◌++◌, length, refl, sym, ap, subst, arith, Result, Ok, Err}
+use Rattle.std.proofs.Common.{rules, ◌∙◌, [], ◌∷◌, sym}
 use Rattle.std.proofs.lemmas.Result.{err_from_is_err_and}
 use Rattle.vg_ctok.specs.declared.kinds.Sign.TheVariants as signs
 use Rattle.vg_cread.specs.Forms.{◌⊳◌}
 use Rattle.vg_cread.specs.Kinds.{is_sign}
 use Rattle.vg_cread.specs.Grammar.{sign, params, param}
-use Rattle.vg_cread.specs.Reading.{Gives, reads}
+use Rattle.vg_cread.specs.Reading.{reads}
 use Rattle.vg_cread.proofs.Loops.{refused_by, listing_same, listing_smaller, listing_turned, listing_failed, behind_sign, no_sign, params_init, param_eats}
 use Rattle.vg_cread.proofs.reader.Reader.params.Goals as goal
 

@@ -1,4 +1,4 @@
-use Rattle.std.proofs.Common.{◌≡◌, ℕ, ◌+◌, ◌-◌, ◌*◌, ◌<◌, ◌≤◌, length}
+use Rattle.std.proofs.Common.{◌-◌, length}
 use Rattle.vg_ctok.specs.declared.kinds.Sign.TheVariants as signs
 use Rattle.vg_cread.specs.Forms.{◌⊳◌}
 use Rattle.vg_cread.specs.Kinds.{is_sign}
