@@ -6,7 +6,12 @@ mod items;
 mod kinds;
 mod reader;
 mod reading;
+#[cfg(test)]
+mod shown;
 mod statements;
 mod types;
 
 pub use reading::{MOST_NESTED, ReadFault, one_tree, read_unit};
+
+#[cfg(test)]
+mod tests;
