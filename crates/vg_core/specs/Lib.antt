@@ -3,3 +3,4 @@ pub mod Spelling
 pub mod Meaning
 pub mod Joining
 pub mod Reader
+pub mod Syntax

@@ -6,11 +6,15 @@ mod form;
 mod numbers;
 mod reading;
 mod small;
+mod tree;
 mod verdict;
 mod words;
 
 pub use reading::read_small;
 pub use small::{Lang, Small, SmallFault, Test, Tests};
+pub use tree::{
+    Base, BinaryOp, HandleKind, IntType, Kind, Memory, Name, Node, Parts, Tree, UnaryOp,
+};
 pub use verdict::Verdict;
 
 #[cfg(test)]

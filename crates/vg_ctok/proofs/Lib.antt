@@ -3,3 +3,4 @@ pub mod Sizes
 pub mod Lens
 pub mod NumberLaws
 pub mod CommentLaws
+pub mod Defining

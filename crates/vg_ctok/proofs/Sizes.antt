@@ -29,13 +29,13 @@ pub either : {A : Type 0} (b : Bool) {x y r : A} {P : Type 0} → (b ≡ true �
 either true f g e = f refl e
 either false f g e = g refl e
 
-ok_is : (r : Result Piece TokFault) (x y : Piece) → r ≡ Ok x → r ≡ Ok y → x ≡ y
+pub ok_is : (r : Result Piece TokFault) (x y : Piece) → r ≡ Ok x → r ≡ Ok y → x ≡ y
 ok_is r x y one two = cc
 
-some_is : {A : Type 0} {x y : A} → Some x ≡ Some y → x ≡ y
+pub some_is : {A : Type 0} {x y : A} → Some x ≡ Some y → x ≡ y
 some_is e = cc
 
-no_ok : {f : TokFault} {p : Piece} {P : Type 0} → Err f ≡ Ok p → P
+pub no_ok : {f : TokFault} {p : Piece} {P : Type 0} → Err f ≡ Ok p → P
 no_ok e = absurd (cc)
 
 no_some : {A : Type 0} {x : A} {P : Type 0} → None ≡ Some x → P
@@ -69,10 +69,10 @@ close-within at (b ∷ bytes) n e =
     either (begins (b ∷ bytes) (codes "*/")) (λ so same. close-here at (b ∷ bytes) n so same) (λ unless more. close-later at b bytes n (close-within (at + 1) bytes n more)) e
 
 -- the bytes of a line are its length, which is some where no line feed stands first
-first-passes : (p : ℕ → Bool) (b : ℕ) (bytes : List ℕ) → p b ≡ true → 0 < prefix_len p (b ∷ bytes)
+pub first-passes : (p : ℕ → Bool) (b : ℕ) (bytes : List ℕ) → p b ≡ true → 0 < prefix_len p (b ∷ bytes)
 first-passes p b bytes e = rw e (omega arith)
 
-in_line : (b : ℕ) → eqb b 10 ≡ false → is_in_line b ≡ true
+pub in_line : (b : ℕ) → eqb b 10 ≡ false → is_in_line b ≡ true
 in_line b e = rw e refl
 
 to_line_end : (b : ℕ) (bytes : List ℕ) (n : ℕ) → eqb b 10 ≡ false → Some (prefix_len is_in_line (b ∷ bytes)) ≡ Some n → (0 < n) × (n ≤ length (b ∷ bytes))
@@ -163,7 +163,7 @@ defined-within : (line : List ℕ) (name : Span) (d : Define) (o : Option Number
 defined-within line name d None order ends e = no_some e
 defined-within line name d (Some n) order ends e = name-within line name d order ends n (some_is e)
 
-define-within : (line : List ℕ) (d : Define) → 1 ≤ length line → define_of line ≡ Some d → (d.name.from ≤ d.name.to) × (d.name.to ≤ length line)
+pub define-within : (line : List ℕ) (d : Define) → 1 ≤ length line → define_of line ≡ Some d → (d.name.from ≤ d.name.to) × (d.name.to ≤ length line)
 unfolding define_of
 define-within line d some e =
     let word = word_from line 1 in

@@ -1,7 +1,7 @@
 //! Cutting a whole text into tokens.
 ghost use Rattle.std.specs.Prelude.{◌≡◌, ◌<◌, ◌≤◌, ◌+◌, ◌^◌, ◌++◌, ◌⊎◌, ℕ, List, length, IfOk, IfErr, OnOk, MatchResult};
 ghost use Rattle.vg_ctok.specs.Texts.{AreTokens, Refuses, tokens_of, fresh_after, defines_after};
-ghost use Rattle.vg_ctok.specs.Reader.{shown, IsNamed};
+ghost use Rattle.vg_ctok.specs.Reader.{shown, IsNamed, IsNew};
 ghost use Rattle.vg_ctok.specs.declared.kinds.Token.{Token};
 ghost use Rattle.vg_ctok.specs.declared.kinds.TokFault.{TokFault};
 ghost use Rattle.vg_ctok.specs.declared.kinds.TokFault.TheVariants.{Memory};
@@ -9,6 +9,7 @@ ghost use Rattle.vg_ctok.specs.declared.kinds.TokFault.TheVariants.{Memory};
 use crate::directives::slice;
 use crate::kinds::{Number, TokFault, Token};
 use crate::pieces::{Here, Piece, What, first_piece};
+use indexmap::IndexMap;
 use std::alloc::{AllocError, Global};
 
 // Adds the token that a piece is, if it is one.
@@ -29,16 +30,17 @@ fn add_token(tokens: &mut Vec<Token>, at: u32, piece: Piece) -> Result<(), TokFa
 
 // Adds the name that a piece of a text defines, if it defines one.
 fn add_define<'a>(
-    defines: &mut Vec<(&'a [u8], Number)>,
+    defines: &mut IndexMap<&'a [u8], Number>,
     text: &'a [u8],
     piece: Piece,
 ) -> Result<(), TokFault>
-    requires { IsNamed piece text.now }
-    ensures added { OnOk result (shown defines.new.items ≡ defines_after (shown defines.old.items) text.now piece.what) }
+    requires named { IsNamed piece text.now }
+    requires new { IsNew (shown defines.old.entries) text.now piece.what }
+    ensures added { OnOk result (shown defines.new.entries ≡ defines_after (shown defines.old.entries) text.now piece.what) }
     ensures failed { IfErr result (λ e. e ≡ Memory) }
 {
     if let What::Define(define) = piece.what {
-        defines.push((slice(text, define.name), define.number))?;
+        defines.insert(slice(text, define.name), define.number)?;
     }
     Ok(())
 }
@@ -69,7 +71,7 @@ pub fn tokens(alloc: Global, text: &[u8]) -> Result<Vec<Token>, TokFault>
     ensures first_fault { (e : TokFault) → Refuses text.now e → MatchResult result (λ _. ⊥) (λ f. (f ≡ Memory) ⊎ (f ≡ e)) }
 {
     let mut tokens = Vec::new(alloc);
-    let mut defines = Vec::new(alloc);
+    let mut defines = IndexMap::new(alloc);
     let mut at = 0;
     let mut fresh = true;
     while at < text.len() {

@@ -12,6 +12,7 @@ use crate::directives::{define_of, is_include, slice};
 use crate::kinds::{Number, TokFault, TokenKind};
 use crate::numbers::number_of;
 use crate::tables::{keyword_rows, row_at, row_of, sign_rows};
+use indexmap::IndexMap;
 use std::alloc::Global;
 
 // The most bytes that a name may have.
@@ -60,19 +61,14 @@ pub struct Piece {
 pub struct Here<'a, 'b> {
     pub at: u32,
     pub fresh: bool,
-    pub defines: &'b [(&'a [u8], Number)],
+    pub defines: &'b IndexMap<&'a [u8], Number>,
 }
 
 // The number that a name was defined as.
 fn defined(here: Here<'_, '_>, name: &[u8]) -> Option<Number>
     ensures { result ≡ row_of (place here.entry).defines name.now }
 {
-    for known in here.defines {
-        if known.0 == name {
-            return Some(known.1);
-        }
-    }
-    None
+    here.defines.get(name).copied()
 }
 
 // A comment.

@@ -6,7 +6,7 @@ use Rattle.vg_ctok.proofs.cutting.tokens.Given as goal
 abbrev pub invariant-loop-at : goal.invariant-loop-at
 invariant-loop-at l = record {
   within : l.at ≤ length l.text;
-  cut : UpTo l.text l.at l.fresh (shown l.defines.items) l.tokens.items;
+  cut : UpTo l.text l.at l.fresh (shown l.defines.entries) l.tokens.items;
 }
 
 abbrev pub decreases-loop-at : goal.decreases-loop-at

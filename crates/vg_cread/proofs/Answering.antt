@@ -1,0 +1,111 @@
+-- What the answer of a reading says of whole texts.
+use Rattle.std.proofs.Common.{◌≡◌, ◌∙◌, ◌≤◌, ◌+◌, inl, inr, ℕ, List, ◌++◌, take, drop, length, slice_get, Option, Some, None, Result, Ok, Err, refl, sym, ap, subst, arith}
+use Rattle.std.proofs.lemmas.Option.{slice_get_within}
+use Rattle.std.proofs.lemmas.List.{take-append-drop, length-take-le}
+use Rattle.vg_core.specs.Syntax.{Syntax}
+use Rattle.vg_ctok.specs.declared.kinds.Token.{Token}
+use Rattle.vg_cread.specs.Grammar.{unit}
+use Rattle.vg_cread.specs.Places.{State, place_at}
+use Rattle.vg_cread.specs.Spelling.{start, Spells}
+use Rattle.vg_cread.specs.Refusals.{RulesOut, Refuses}
+use Rattle.vg_cread.specs.Reading.{Refusal, Wrong, Deep, read, Gives}
+use Rattle.vg_cread.specs.declared.reader.Stop.{Stop}
+use Rattle.vg_cread.specs.declared.reader.Stop.TheVariants as stops
+use Rattle.vg_cread.specs.declared.reading.ReadFault.{ReadFault}
+use Rattle.vg_cread.specs.declared.reading.ReadFault.TheVariants as faults
+use Rattle.vg_cread.proofs.Onward.{same_state}
+use Rattle.vg_cread.proofs.Units.{unit_read, unit_tidy, spells_roomier}
+use Rattle.vg_cread.proofs.Stopping.{unit_lacks, unit_opens, unit_lacked, unit_opened}
+use Rattle.vg_cread.proofs.Roomier.{still_wrong}
+use Rattle.vg_cread.proofs.Prefixes.{all_cut, AtEnd, Past}
+
+never_both : {A : Type 0} (r : Result A Refusal) (a : A) (e : Refusal) → r ≡ Ok a → r ≡ Err e → ⊥
+never_both r a e one two = cc
+
+same_err : {A : Type 0} (r : Result A Refusal) (d e : Refusal) → r ≡ Err d → r ≡ Err e → d ≡ e
+same_err r d e one two = cc
+
+module _ (toks : List Token) where
+  pub only_tree : (room root : ℕ) (t : State) (tree : Syntax) → read toks room unit start ≡ Ok (root, t) → Spells room toks tree → t.tree ≡ tree
+  only_tree room root t tree e is =
+      let other = unit_read toks room tree is in
+      ap (λ (s : State). s.tree) (same_state {a = root} {b = other.0} (sym e ∙ other.1))
+
+  pub no_tree : (room : ℕ) (f : Refusal) (tree : Syntax) → read toks room unit start ≡ Err f → Spells room toks tree → ⊥
+  no_tree room f tree e is = let other = unit_read toks room tree is in never_both (read toks room unit start) (other.0, record { at = length toks; tree = tree }) f other.1 e
+
+  -- a token that is wrong is wrong whatever follows, and however much room there is
+  front_wrong : (room i : ℕ) (front : List Token) (rest : List Token) → toks ≡ front ++ rest → length front ≡ i + 1 → read toks room unit start ≡ Err (Wrong i) → read front room unit start ≡ Err (Wrong i)
+  front_wrong room i front rest parts size e = elim (all_cut front toks rest parts room unit unit_tidy start (omega arith)) [
+    | inl both ↦ let far : length front ≤ i = subst (λ r. Past front toks rest parts r) e both.1 in absurd (omega (arith, far, size))
+    | inr same ↦ sym same ∙ e
+  ]
+
+  longer_wrong : (room i : ℕ) (front more : List Token) → length front ≡ i + 1 → read front room unit start ≡ Err (Wrong i) → read (front ++ more) room unit start ≡ Err (Wrong i)
+  longer_wrong room i front more size e = elim (all_cut front (front ++ more) more refl room unit unit_tidy start (omega arith)) [
+    | inl both ↦ let end : i ≡ length front = subst (λ r. AtEnd front (front ++ more) more refl r) e both.0 in absurd (omega (arith, end, size))
+    | inr same ↦ same ∙ e
+  ]
+
+  wrong_before : (room i : ℕ) (more : List Token) (t : Token) → slice_get toks i ≡ Some t → read toks room unit start ≡ Err (Wrong i) → read (take (i + 1) toks ++ more) room unit start ≡ Err (Wrong i)
+  wrong_before room i more t found e =
+      let within = slice_get_within toks i t found in
+      let size : length (take (i + 1) toks) ≡ i + 1 = length-take-le (i + 1) toks (omega (arith, within)) in
+      longer_wrong room i (take (i + 1) toks) more size (front_wrong room i (take (i + 1) toks) (drop (i + 1) toks) (sym (take-append-drop (i + 1) toks)) size e)
+
+  none_spelled : (all : List Token) (room left i : ℕ) (tree : Syntax) → read all room unit start ≡ Err (Wrong i) → Spells left all tree → ⊥
+  none_spelled all room left i tree e spells =
+      let wrong = still_wrong all left room i unit start e in
+      let sum : left + room ≡ room + left = omega arith in
+      let other = unit_read all (room + left) tree (subst (λ (r : ℕ). Spells r all tree) sum (spells_roomier all room left tree spells)) in
+      never_both (read all (room + left) unit start) (other.0, record { at = length all; tree = tree }) (Wrong i) other.1 wrong
+
+  ruled_out : (room i : ℕ) (o : Option Token) → slice_get toks i ≡ o → read toks room unit start ≡ Err (Wrong i) → RulesOut toks i o
+  ruled_out room i None is e = λ left tree spells. none_spelled toks room left i tree e spells
+  ruled_out room i (Some t) is e = λ left more tree spells. none_spelled (take (i + 1) toks ++ more) room left i tree (wrong_before room i more t is e) spells
+
+  -- what the answers say
+  pub wrong_fault : (i : ℕ) → read toks 64 unit start ≡ Err (Wrong i) → Refuses toks (faults.Syntax (place_at toks i))
+  wrong_fault i e = (i, refl, unit_lacks toks 64 i e, ruled_out 64 i (slice_get toks i) refl e)
+
+  pub deep_fault : (i : ℕ) → read toks 64 unit start ≡ Err (Deep i) → Refuses toks (faults.Deep (place_at toks i))
+  deep_fault i e = (i, refl, unit_opens toks 64 i e)
+
+  wrong_is : {i j : ℕ} → Wrong i ≡ Wrong j → i ≡ j
+  wrong_is e = cc
+
+  deep_is : {i j : ℕ} → Deep i ≡ Deep j → i ≡ j
+  deep_is e = cc
+
+  not_both : {i j : ℕ} → Wrong i ≡ Deep j → ⊥
+  not_both e = cc
+
+  pub wrong_only : (i : ℕ) (f : ReadFault) → read toks 64 unit start ≡ Err (Wrong i) → Refuses toks f → faults.Syntax (place_at toks i) ≡ f
+  wrong_only i (faults.Syntax at) e (j, place, lacks, out) =
+      let same : i ≡ j = wrong_is (same_err (read toks 64 unit start) (Wrong i) (Wrong j) e (unit_lacked toks 64 j lacks)) in
+      ap (λ (k : ℕ). faults.Syntax (place_at toks k)) same ∙ ap faults.Syntax (sym place)
+  wrong_only i (faults.Deep at) e (j, place, opens) = absurd (not_both (same_err (read toks 64 unit start) (Wrong i) (Deep j) e (unit_opened toks 64 j opens)))
+  wrong_only i faults.Memory e none = absurd none
+
+  pub deep_only : (i : ℕ) (f : ReadFault) → read toks 64 unit start ≡ Err (Deep i) → Refuses toks f → faults.Deep (place_at toks i) ≡ f
+  deep_only i (faults.Syntax at) e (j, place, lacks, out) = absurd (not_both (same_err (read toks 64 unit start) (Wrong j) (Deep i) (unit_lacked toks 64 j lacks) e))
+  deep_only i (faults.Deep at) e (j, place, opens) =
+      let same : i ≡ j = deep_is (same_err (read toks 64 unit start) (Deep i) (Deep j) e (unit_opened toks 64 j opens)) in
+      ap (λ (k : ℕ). faults.Deep (place_at toks k)) same ∙ ap faults.Deep (sym place)
+  deep_only i faults.Memory e none = absurd none
+
+  pub no_fault : (root : ℕ) (t : State) (f : ReadFault) → read toks 64 unit start ≡ Ok (root, t) → Refuses toks f → ⊥
+  no_fault root t (faults.Syntax at) e (j, place, lacks, out) = never_both (read toks 64 unit start) (root, t) (Wrong j) e (unit_lacked toks 64 j lacks)
+  no_fault root t (faults.Deep at) e (j, place, opens) = never_both (read toks 64 unit start) (root, t) (Deep j) e (unit_opened toks 64 j opens)
+  no_fault root t faults.Memory e none = none
+
+  -- what a call gives where it stops
+  pub gave_wrong : (why : Stop) (s t : State) → why ≡ stops.Wrong → s ≡ start → Gives {A = ℕ} (Err why) t (read toks 64 unit s) → read toks 64 unit start ≡ Err (Wrong t.at)
+  gave_wrong why s t is here given =
+      let told : Gives {A = ℕ} (Err stops.Wrong) t (read toks 64 unit s) = subst (λ (w : Stop). Gives {A = ℕ} (Err w) t (read toks 64 unit s)) is given in
+      subst (λ (u : State). read toks 64 unit u ≡ Err (Wrong t.at)) here told
+
+  pub gave_deep : (why : Stop) (s t : State) → why ≡ stops.Deep → s ≡ start → Gives {A = ℕ} (Err why) t (read toks 64 unit s) → read toks 64 unit start ≡ Err (Deep t.at)
+  gave_deep why s t is here given =
+      let told : Gives {A = ℕ} (Err stops.Deep) t (read toks 64 unit s) = subst (λ (w : Stop). Gives {A = ℕ} (Err w) t (read toks 64 unit s)) is given in
+      subst (λ (u : State). read toks 64 unit u ≡ Err (Deep t.at)) here told

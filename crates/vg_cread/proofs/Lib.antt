@@ -1,0 +1,11 @@
+pub mod Onward
+pub mod Chains
+pub mod Rooms
+pub mod Loops
+pub mod Agreement
+pub mod Units
+pub mod Bounds
+pub mod Stopping
+pub mod Prefixes
+pub mod Answering
+pub mod Roomier

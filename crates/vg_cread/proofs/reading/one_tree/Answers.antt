@@ -1,0 +1,5 @@
+use Rattle.vg_cread.proofs.Units.{one_tree}
+use Rattle.vg_cread.proofs.reading.one_tree.Goals as goal
+
+pub returns : goal.returns
+returns c = λ toks room left a b one two. one_tree toks room left a b one two
