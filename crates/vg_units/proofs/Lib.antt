@@ -1,0 +1,3 @@
+pub mod Literals
+pub mod Listing
+pub mod Watching

@@ -1,0 +1,7 @@
+// Unit propagation that watches two literals of each clause.
+#![tactic(auto)]
+
+mod codes;
+mod lists;
+mod trail;
+mod watches;
