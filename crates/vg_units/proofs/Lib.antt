@@ -1,3 +1,4 @@
 pub mod Literals
 pub mod Listing
 pub mod Watching
+pub mod Visiting

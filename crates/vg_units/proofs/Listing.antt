@@ -1,6 +1,6 @@
 -- Lists of numbers: entries that stay when one is added or taken out.
 use Rattle.std.proofs.Common.{◌≡◌, ℕ, ◌+◌, ◌-◌, ◌<◌, ◌≤◌, List, [], ◌∷◌, ◌++◌, length, get_or, refl, sym, ap, ◌∙◌, inl, inr, ◌⊎◌, subst, arith, length-append, length-take}
-use Rattle.std.specs.Prelude.{◌≢◌, set, take, ℤ, pos, negsuc, unsigned_abs, All}
+use Rattle.std.specs.Prelude.{◌≢◌, set}
 use Rattle.std.specs.List.{swap_remove}
 use Rattle.std.proofs.Math.Dec.{eqb}
 use Rattle.std.proofs.Math.ListN.{get_or-append}

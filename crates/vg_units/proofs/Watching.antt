@@ -1,5 +1,5 @@
 -- Watched literals and the lists in which clauses are found by them.
-use Rattle.std.proofs.Common.{◌≡◌, ℕ, ◌+◌, ◌*◌, ◌<◌, ◌≤◌, List, [], ◌∷◌, ◌++◌, length, get_or, true, refl, sym, ap, ◌∙◌, inl, inr, ◌⊎◌, subst, arith, length-append}
+use Rattle.std.proofs.Common.{◌≡◌, ℕ, ◌+◌, ◌*◌, ◌<◌, ◌≤◌, List, [], ◌∷◌, ◌++◌, length, get_or, true, sym, ap, ◌∙◌, inl, inr, subst, arith, length-append}
 use Rattle.std.specs.Prelude.{◌≢◌, set, ℤ, pos, negsuc, unsigned_abs, All}
 use Rattle.std.specs.List.{swap_remove}
 use Rattle.std.proofs.Math.ListN.{get_or-append}
@@ -12,7 +12,7 @@ use Rattle.vg_units.specs.Lists.{IsListedFrom, Lengthens}
 use Rattle.vg_units.specs.Watching.{clause_in, pair_in, list_in, no_pair, IsListed, IsOneOf, IsLeftOut}
 use Rattle.vg_units.specs.declared.watches.Pair.{Pair}
 use Rattle.vg_units.proofs.Literals.{held_over}
-use Rattle.vg_units.proofs.Listing.{same_or_other, listed_last, lengthens_refl, lengthens_set, listed_swapped, swap_length}
+use Rattle.vg_units.proofs.Listing.{same_or_other, listed_last, lengthens_set, listed_swapped, swap_length}
 
 -- ---- places
 

@@ -1,4 +1,5 @@
 pub mod Codes
 pub mod Lists
+pub mod Propagating
 pub mod Trails
 pub mod Watching

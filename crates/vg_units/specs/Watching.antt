@@ -1,7 +1,6 @@
 -- Clauses and the lists in which they are found by a watched literal. No public clause rests on this file.
-use Rattle.std.specs.Prelude.{◌≡◌, ◌≢◌, ℕ, ◌+◌, ◌*◌, ◌<◌, ◌≤◌, ℤ, pos, neg_ℤ, Bool, true, false, List, [], ◌∷◌, ◌++◌, length, All, slice_index_or, slice_set, ◌⊎◌}
-use Rattle.std.specs.Ordering.{int_eq}
-use Rattle.vg_cnf.specs.Clauses.{holds, IsOver, IsClauseOver}
+use Rattle.std.specs.Prelude.{◌≡◌, ◌≢◌, ℕ, ◌+◌, ◌*◌, ◌<◌, ℤ, pos, true, List, [], ◌∷◌, ◌++◌, length, All, slice_index_or, slice_set, ◌⊎◌}
+use Rattle.vg_cnf.specs.Clauses.{holds, IsClauseOver}
 use Rattle.vg_units.specs.Codes.{code}
 use Rattle.vg_units.specs.Lists.{IsListedFrom}
 use Rattle.vg_units.specs.declared.watches.Pair.{Pair}

@@ -3,5 +3,6 @@
 
 mod codes;
 mod lists;
+mod propagation;
 mod trail;
 mod watches;

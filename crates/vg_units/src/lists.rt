@@ -60,7 +60,7 @@ impl WatchLists {
     pub fn entry(&self, literal: Lit, at: usize) -> usize
         requires literal { code literal < length self.now }
         requires within { at < length (slice_index_or self.now (code literal) []) }
-        ensures { slice_get (slice_index_or self.now (code literal) []) at ≡ Some result }
+        ensures { result ≡ slice_index_or (slice_index_or self.now (code literal) []) at 0 }
     {
         let list = &self.lists[code_of(literal)];
         list.clauses[at]

@@ -1,6 +1,6 @@
 // The literals that are true, in the order in which they were made so.
 
-ghost use Rattle.std.specs.Prelude.{◌≡◌, ◌<◌, ◌≤◌, ◌+◌, ◌-◌, ◌*◌, ◌^◌, ℤ, neg_ℤ, false, [], ◌∷◌, ◌++◌, length, take, OnOk, OnErr, IfOk, slice_get, Some, unsigned_abs};
+ghost use Rattle.std.specs.Prelude.{◌≡◌, ◌<◌, ◌≤◌, ◌+◌, ◌-◌, ◌*◌, ◌^◌, ℤ, pos, neg_ℤ, false, [], ◌∷◌, ◌++◌, length, take, OnOk, OnErr, IfOk, slice_index_or, unsigned_abs};
 ghost use Rattle.vg_cnf.specs.Clauses.{holds, IsOver};
 
 use crate::codes::code_of;
@@ -51,7 +51,7 @@ impl Trail {
     /// The literal at a place, from 0.
     pub fn get(&self, at: usize) -> Lit
         requires { at < length self.now.literals }
-        ensures literal { slice_get self.now.literals at ≡ Some result }
+        ensures literal { result ≡ slice_index_or self.now.literals at (pos 0) }
         ensures over { IsOver self.now.variables result }
     {
         self.literals[at]

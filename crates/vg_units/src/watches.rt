@@ -1,7 +1,8 @@
 // Clauses, and of each the two literals that are watched: it is looked at only when one of them becomes false.
 
-ghost use Rattle.std.specs.Prelude.{◌≡◌, ◌≢◌, ◌<◌, ◌≤◌, ◌+◌, ◌^◌, ℕ, ℤ, false, true, List, [], ◌∷◌, ◌++◌, length, OnOk, OnErr, IfOk, slice_get, slice_index_or, slice_set, Some, unsigned_abs};
+ghost use Rattle.std.specs.Prelude.{◌≡◌, ◌≢◌, ◌<◌, ◌≤◌, ◌+◌, ◌^◌, ℕ, ℤ, false, true, List, [], ◌∷◌, ◌++◌, length, OnOk, OnErr, IfOk, slice_index_or, slice_set, unsigned_abs};
 ghost use Rattle.vg_cnf.specs.Clauses.{holds, IsOver, IsClauseOver};
+ghost use Rattle.vg_units.specs.Lists.{IsListedFrom};
 ghost use Rattle.vg_units.specs.Watching.{list_of, pair_of, clause_of, IsOneOf, IsMoved, IsLeftOut, IsAdded, IsSame, IsUnwatched};
 
 use crate::lists::WatchLists;
@@ -61,7 +62,7 @@ impl Watches {
     /// The clause at a place.
     pub fn clause(&self, at: usize) -> &[Lit]
         requires { at < length self.now.clauses }
-        ensures clause { slice_get self.now.clauses at ≡ Some result.now }
+        ensures clause { result.now ≡ clause_of self.now at }
         ensures over { IsClauseOver self.now.variables result.now }
     {
         self.clauses.get(at)
@@ -73,6 +74,8 @@ impl Watches {
         ensures pair { result ≡ pair_of self.now at }
         ensures first { IsOver self.now.variables result.first }
         ensures second { IsOver self.now.variables result.second }
+        ensures held_first { holds (clause_of self.now at) result.first ≡ true }
+        ensures held_second { holds (clause_of self.now at) result.second ≡ true }
     {
         self.pairs[at]
     }
@@ -80,7 +83,8 @@ impl Watches {
     /// How many clauses stand in the list of a literal.
     pub fn count(&self, literal: Lit) -> usize
         requires { unsigned_abs literal ≤ self.now.variables }
-        ensures { result ≡ length (list_of self.now literal) }
+        ensures count { result ≡ length (list_of self.now literal) }
+        ensures listed { (clause : ℕ) → clause < length self.now.clauses → IsOneOf (pair_of self.now clause) literal → IsListedFrom (list_of self.now literal) 0 clause }
     {
         self.lists.count(literal)
     }
@@ -89,7 +93,7 @@ impl Watches {
     pub fn entry(&self, literal: Lit, at: usize) -> usize
         requires over { unsigned_abs literal ≤ self.now.variables }
         requires within { at < length (list_of self.now literal) }
-        ensures { slice_get (list_of self.now literal) at ≡ Some result }
+        ensures { result ≡ slice_index_or (list_of self.now literal) at 0 }
     {
         self.lists.entry(literal, at)
     }
@@ -139,6 +143,7 @@ impl Watches {
         requires first { pair.now.first ≢ literal }
         requires second { pair.now.second ≢ literal }
         ensures ok { OnOk result (IsMoved self.old self.new clause pair.now) }
+        ensures paired { length self.old.pairs ≡ length self.old.clauses }
         ensures left_out { OnOk result (IsLeftOut self.old.lists self.new.lists literal at clause) }
         ensures err { OnErr result (IsSame self.old self.new) }
     {

@@ -1,9 +1,9 @@
-use Rattle.std.proofs.Common.{◌≡◌, ◌≤◌, ◌++◌, ◌∷◌, [], length, subst, refl, sym, ap, ◌∙◌, arith}
-use Rattle.std.specs.Prelude.{ℤ, unsigned_abs, set}
-use Rattle.vg_cnf.specs.Clauses.{IsOver, IsClauseOver, holds}
+use Rattle.std.proofs.Common.{◌≤◌, ◌++◌, ◌∷◌, [], subst, refl, sym, ap, ◌∙◌, arith}
+use Rattle.std.specs.Prelude.{unsigned_abs}
+use Rattle.vg_cnf.specs.Clauses.{IsClauseOver}
 use Rattle.vg_units.specs.Codes.{code}
-use Rattle.vg_units.specs.Watching.{IsListed, list_in}
-use Rattle.vg_units.specs.Lists.{Lengthens, IsListedFrom}
+use Rattle.vg_units.specs.Watching.{list_in}
+use Rattle.vg_units.specs.Lists.{IsListedFrom}
 use Rattle.vg_units.proofs.Literals.{held_over}
 use Rattle.vg_units.proofs.Watching.{code_within, lengthens_inserted, lengthens_trans, listed_lengthened, listed_added, listed_same}
 use Rattle.vg_units.proofs.watches.Watches.add.Goals as goal

@@ -1,9 +1,8 @@
-use Rattle.std.proofs.Common.{◌≡◌, ◌≤◌, ◌<◌, true, length, subst, refl, sym, ap, ◌∙◌, arith, get_or}
-use Rattle.std.specs.Prelude.{unsigned_abs, ◌≢◌, set}
+use Rattle.std.proofs.Common.{◌≡◌, ◌≤◌, ◌<◌, true, length, subst, sym, get_or}
+use Rattle.std.specs.Prelude.{unsigned_abs}
 use Rattle.vg_cnf.specs.Clauses.{holds}
-use Rattle.vg_units.specs.Codes.{code}
-use Rattle.vg_units.specs.Watching.{IsListed, IsLeftOut, IsOneOf, list_in, pair_in, clause_in}
-use Rattle.vg_units.proofs.Watching.{code_within, held_in_over, exchanged, exchanged_requires}
+use Rattle.vg_units.specs.Watching.{IsLeftOut, IsOneOf, list_in, pair_in, clause_in}
+use Rattle.vg_units.proofs.Watching.{exchanged, exchanged_requires}
 use Rattle.vg_units.proofs.watches.Watches.exchange.Goals as goal
 
 pub insert-requires : goal.insert-requires

@@ -1,8 +1,7 @@
-use Rattle.std.proofs.Common.{◌≡◌, ◌≤◌, ◌<◌, length, subst, refl, sym, ap, ◌∙◌, arith, get_or}
+use Rattle.std.proofs.Common.{◌≤◌, ◌<◌, length, subst, refl, sym, arith, get_or}
 use Rattle.std.specs.Prelude.{unsigned_abs, ◌≢◌}
-use Rattle.vg_units.specs.Codes.{code}
 use Rattle.vg_units.specs.Watching.{IsListed, IsLeftOut, list_in, pair_in}
-use Rattle.vg_units.proofs.Watching.{code_within, left_out, listed_left_out, listed_same}
+use Rattle.vg_units.proofs.Watching.{code_within, left_out, listed_left_out}
 use Rattle.vg_units.proofs.watches.Watches.leave_out.Goals as goal
 
 pub invariant_of-self : goal.invariant_of-self

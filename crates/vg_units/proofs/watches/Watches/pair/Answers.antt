@@ -1,6 +1,6 @@
 use Rattle.std.proofs.Common.{◌≡◌, ◌<◌, length, subst, sym, ap, ◌∙◌, true, arith}
 use Rattle.vg_cnf.specs.Clauses.{holds, IsOver}
-use Rattle.vg_units.specs.Watching.{clause_in, pair_in}
+use Rattle.vg_units.specs.Watching.{clause_in}
 use Rattle.vg_units.proofs.Watching.{held_in_over, pair_read}
 use Rattle.vg_units.proofs.watches.Watches.pair.Goals as goal
 
