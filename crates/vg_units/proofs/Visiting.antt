@@ -69,12 +69,12 @@ grown_trans cs a b c first (more made l before forced fresh not_false) = more ma
 
 pub watched_more : (clause : List ℤ) (pair : Pair) (trues more_trues falses : List ℤ) → AreWithin trues more_trues → IsWatched clause pair trues falses → IsWatched clause pair more_trues falses
 watched_more clause pair trues more_trues falses within (by_true l held t) = by_true l held (within l t)
-watched_more clause pair trues more_trues falses within (by_open apart first second) = by_open apart first second
+watched_more clause pair trues more_trues falses within (by_open apart in_first in_second first second) = by_open apart in_first in_second first second
 
 pub watched_fewer : (clause : List ℤ) (pair : Pair) (trues falses fewer : List ℤ) → AreWithin fewer falses → IsWatched clause pair trues falses → IsWatched clause pair trues fewer
 watched_fewer clause pair trues falses fewer within (by_true l held t) = by_true l held t
-watched_fewer clause pair trues falses fewer within (by_open apart first second) =
-    by_open apart (not_within fewer falses (neg_ℤ pair.first) within first) (not_within fewer falses (neg_ℤ pair.second) within second)
+watched_fewer clause pair trues falses fewer within (by_open apart in_first in_second first second) =
+    by_open apart in_first in_second (not_within fewer falses (neg_ℤ pair.first) within first) (not_within fewer falses (neg_ℤ pair.second) within second)
 
 pub advances_refl : (w : Watching) (t : Made) → Advances w w t t
 advances_refl w t = record { variables = refl; trail_variables = refl; clauses = refl; watched = λ trues falses within at inside h. h; grown = same }
@@ -115,8 +115,8 @@ advances_same old new t stay =
 unwatched_settles : (clause : List ℤ) (pair : Pair) (made falses : List ℤ) (f : ℤ) → pair.first ≢ f → pair.second ≢ f → IsWatched clause pair made falses →
     IsWatched clause pair made (neg_ℤ f ∷ falses)
 unwatched_settles clause pair made falses f first second (by_true l held t) = by_true l held t
-unwatched_settles clause pair made falses f first second (by_open apart p q) =
-    by_open apart (open_more falses pair.first f first p) (open_more falses pair.second f second q)
+unwatched_settles clause pair made falses f first second (by_open apart in_first in_second p q) =
+    by_open apart in_first in_second (open_more falses pair.first f first p) (open_more falses pair.second f second q)
 
 pub visit_unwatched : (old new : Watching) (t : Made) (f : ℤ) (clause : ℕ) → IsSame old new → IsUnwatched old f clause → clause < length old.clauses →
     Settles old new t.literals t.literals f clause
@@ -129,7 +129,7 @@ visit_unwatched old new t f clause stay unwatched inside falses within h =
 watched_twice : (clause : List ℤ) (pair : Pair) (made falses : List ℤ) (f : ℤ) → pair.first ≡ f → pair.second ≡ f → IsWatched clause pair made falses →
     IsWatched clause pair made (neg_ℤ f ∷ falses)
 watched_twice clause pair made falses f first second (by_true l held t) = by_true l held t
-watched_twice clause pair made falses f first second (by_open apart p q) = clash (int_eq pair.first pair.second) (same_test pair.first pair.second (first ∙ sym second)) apart
+watched_twice clause pair made falses f first second (by_open apart in_first in_second p q) = clash (int_eq pair.first pair.second) (same_test pair.first pair.second (first ∙ sym second)) apart
 
 pub visit_twice : (w : Watching) (t : Made) (f : ℤ) (clause : ℕ) (other : ℤ) → IsOther w clause f other → other ≡ f → Settles w w t.literals t.literals f clause
 visit_twice w t f clause other which same_one falses within h =
@@ -178,24 +178,32 @@ stays_open pair f other falses which first second =
       | inr p ↦ ap (λ k. holds falses (neg_ℤ k)) (sym p.1) ∙ first
     ]
 
+stays_held : (clause : List ℤ) (pair : Pair) (f other : ℤ) → ((pair.first ≡ f) × (pair.second ≡ other)) ⊎ ((pair.second ≡ f) × (pair.first ≡ other)) → holds clause pair.first ≡ true →
+    holds clause pair.second ≡ true → holds clause other ≡ true
+stays_held clause pair f other which first second =
+    elim which [
+      | inl p ↦ ap (holds clause) (sym p.1) ∙ second
+      | inr p ↦ ap (holds clause) (sym p.1) ∙ first
+    ]
+
 moved_watched : (clause : List ℤ) (pair : Pair) (trues falses : List ℤ) (f other k : ℤ) → ((pair.first ≡ f) × (pair.second ≡ other)) ⊎ ((pair.second ≡ f) × (pair.first ≡ other)) →
-    other ≢ k → holds falses (neg_ℤ k) ≡ false → IsWatched clause pair trues falses → IsWatched clause (record { first = other; second = k }) trues falses
-moved_watched clause pair trues falses f other k which apart not_false (by_true l held t) = by_true l held t
-moved_watched clause pair trues falses f other k which apart not_false (by_open two first second) =
-    by_open (other_test other k apart) (stays_open pair f other falses which first second) not_false
+    other ≢ k → holds clause k ≡ true → holds falses (neg_ℤ k) ≡ false → IsWatched clause pair trues falses → IsWatched clause (record { first = other; second = k }) trues falses
+moved_watched clause pair trues falses f other k which apart held_k not_false (by_true l held t) = by_true l held t
+moved_watched clause pair trues falses f other k which apart held_k not_false (by_open two in_first in_second first second) =
+    by_open (other_test other k apart) (stays_held clause pair f other which in_first in_second) held_k (stays_open pair f other falses which first second) not_false
 
 moved_settles : (clause : List ℤ) (pair : Pair) (made falses : List ℤ) (f other k : ℤ) → ((pair.first ≡ f) × (pair.second ≡ other)) ⊎ ((pair.second ≡ f) × (pair.first ≡ other)) →
-    other ≢ k → other ≢ f → k ≢ f → holds falses (neg_ℤ k) ≡ false → IsWatched clause pair made falses → IsWatched clause (record { first = other; second = k }) made (neg_ℤ f ∷ falses)
-moved_settles clause pair made falses f other k which apart other_f k_f not_false (by_true l held t) = by_true l held t
-moved_settles clause pair made falses f other k which apart other_f k_f not_false (by_open two first second) =
-    by_open (other_test other k apart) (open_more falses other f other_f (stays_open pair f other falses which first second)) (open_more falses k f k_f not_false)
+    other ≢ k → holds clause k ≡ true → other ≢ f → k ≢ f → holds falses (neg_ℤ k) ≡ false → IsWatched clause pair made falses → IsWatched clause (record { first = other; second = k }) made (neg_ℤ f ∷ falses)
+moved_settles clause pair made falses f other k which apart held_k other_f k_f not_false (by_true l held t) = by_true l held t
+moved_settles clause pair made falses f other k which apart held_k other_f k_f not_false (by_open two in_first in_second first second) =
+    by_open (other_test other k apart) (stays_held clause pair f other which in_first in_second) held_k (open_more falses other f other_f (stays_open pair f other falses which first second)) (open_more falses k f k_f not_false)
 
 set_pair : (ps : List Pair) (at : ℕ) (p : Pair) → at < length ps → pair_in (set ps at p) at ≡ p
 set_pair ps at p within = get_or-set_same ps at p no_pair within
 
 pub advances_moved : (old new : Watching) (t : Made) (clause : ℕ) (f other k : ℤ) → IsMoved old new clause (record { first = other; second = k }) → IsOther old clause f other → other ≢ k →
-    holds t.literals (neg_ℤ k) ≡ false → length old.pairs ≡ length old.clauses → Advances old new t t
-advances_moved old new t clause f other k moved which apart not_false paired =
+    holds (clause_of old clause) k ≡ true → holds t.literals (neg_ℤ k) ≡ false → length old.pairs ≡ length old.clauses → Advances old new t t
+advances_moved old new t clause f other k moved which apart held_k not_false paired =
     record {
       variables = moved.0;
       trail_variables = refl;
@@ -210,7 +218,7 @@ advances_moved old new t clause f other k moved which apart not_false paired =
                 (sym (ap (pair_in (set old.pairs clause (record { first = other; second = k }))) here ∙ set_pair old.pairs clause (record { first = other; second = k }) (omega (arith, which.within, paired))))
                 (moved_watched (clause_of old at) (pair_of old at) trues falses f other k
                 (subst (λ n. (((pair_of old n).first ≡ f) × ((pair_of old n).second ≡ other)) ⊎ (((pair_of old n).second ≡ f) × ((pair_of old n).first ≡ other))) (sym here) which.pair)
-                apart (not_within falses t.literals (neg_ℤ k) within not_false) h)
+                apart (ap (λ n. holds (clause_of old n) k) here ∙ held_k) (not_within falses t.literals (neg_ℤ k) within not_false) h)
             | inr elsewhere ↦
                 subst (λ q. IsWatched (clause_of old at) q trues falses) (sym (get_or-set_other old.pairs clause at (record { first = other; second = k }) no_pair elsewhere)) h
           ]));
@@ -218,13 +226,13 @@ advances_moved old new t clause f other k moved which apart not_false paired =
     }
 
 pub visit_moved : (old new : Watching) (t : Made) (clause : ℕ) (f other k : ℤ) → IsMoved old new clause (record { first = other; second = k }) → IsOther old clause f other → other ≢ k →
-    other ≢ f → k ≢ f → holds t.literals (neg_ℤ k) ≡ false → length old.pairs ≡ length old.clauses → Settles old new t.literals t.literals f clause
-visit_moved old new t clause f other k moved which apart other_f k_f not_false paired falses within h =
+    holds (clause_of old clause) k ≡ true → other ≢ f → k ≢ f → holds t.literals (neg_ℤ k) ≡ false → length old.pairs ≡ length old.clauses → Settles old new t.literals t.literals f clause
+visit_moved old new t clause f other k moved which apart held_k other_f k_f not_false paired falses within h =
     subst (λ cs. IsWatched (clause_in cs clause) (pair_of new clause) t.literals (neg_ℤ f ∷ falses)) (sym moved.1)
     (subst (λ ps. IsWatched (clause_of old clause) (pair_in ps clause) t.literals (neg_ℤ f ∷ falses)) (sym moved.2)
     (subst (λ q. IsWatched (clause_of old clause) q t.literals (neg_ℤ f ∷ falses))
     (sym (get_or-set_same old.pairs clause (record { first = other; second = k }) no_pair (omega (arith, which.within, paired))))
-    (moved_settles (clause_of old clause) (pair_of old clause) t.literals falses f other k which.pair apart other_f k_f (not_within falses t.literals (neg_ℤ k) within not_false) h)))
+    (moved_settles (clause_of old clause) (pair_of old clause) t.literals falses f other k which.pair apart held_k other_f k_f (not_within falses t.literals (neg_ℤ k) within not_false) h)))
 
 -- ---- a look that forces a literal or finds a false clause
 

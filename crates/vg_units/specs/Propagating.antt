@@ -30,7 +30,8 @@ pub data Grown (clauses : List (List ℤ)) (old : List ℤ) : List ℤ → Type 
 -- a clause needs no look: it is true, or neither of its two watched literals is among those known to be false
 pub data IsWatched (clause : List ℤ) (pair : Pair) (trues falses : List ℤ) : Type 0 where
   by_true : (l : ℤ) → holds clause l ≡ true → holds trues l ≡ true → IsWatched clause pair trues falses
-  by_open : int_eq pair.first pair.second ≡ false → holds falses (neg_ℤ pair.first) ≡ false → holds falses (neg_ℤ pair.second) ≡ false → IsWatched clause pair trues falses
+  by_open : int_eq pair.first pair.second ≡ false → holds clause pair.first ≡ true → holds clause pair.second ≡ true → holds falses (neg_ℤ pair.first) ≡ false →
+      holds falses (neg_ℤ pair.second) ≡ false → IsWatched clause pair trues falses
 
 abbrev pub IsWatchedAt : Watching → ℕ → List ℤ → List ℤ → Type 0
 IsWatchedAt w at trues falses = IsWatched (clause_of w at) (pair_of w at) trues falses

@@ -4,5 +4,8 @@
 mod codes;
 mod lists;
 mod propagation;
+mod propagator;
 mod trail;
 mod watches;
+
+pub use propagator::Propagator;

@@ -117,7 +117,7 @@ fn other_watched(watches: &Watches, clause: usize, literal: Lit) -> Option<Lit>
 }
 
 /// A literal of a clause that isn't false, beside one.
-fn open_beside(clause: &[Lit], other: Lit, trail: &Trail) -> Option<Lit>
+pub(crate) fn open_beside(clause: &[Lit], other: Lit, trail: &Trail) -> Option<Lit>
     requires { All (IsOver trail.now.variables) clause.now }
     ensures { MatchOption result (AreFalseBeside trail.now.literals clause.now other) (IsOpenBeside trail.now.literals clause.now other) }
 {

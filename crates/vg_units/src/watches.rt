@@ -1,6 +1,6 @@
 // Clauses, and of each the two literals that are watched: it is looked at only when one of them becomes false.
 
-ghost use Rattle.std.specs.Prelude.{◌≡◌, ◌≢◌, ◌<◌, ◌≤◌, ◌+◌, ◌^◌, ℕ, ℤ, false, true, List, [], ◌∷◌, ◌++◌, length, OnOk, OnErr, IfOk, slice_index_or, slice_set, unsigned_abs};
+ghost use Rattle.std.specs.Prelude.{◌≡◌, ◌≢◌, ◌<◌, ◌≤◌, ◌+◌, ◌^◌, ℕ, ℤ, false, true, List, [], ◌∷◌, ◌++◌, length, OnOk, OnErr, IfOk, slice_index_or, slice_set, unsigned_abs, All};
 ghost use Rattle.vg_cnf.specs.Clauses.{holds, IsOver, IsClauseOver};
 ghost use Rattle.vg_units.specs.Lists.{IsListedFrom};
 ghost use Rattle.vg_units.specs.Watching.{list_of, pair_of, clause_of, IsOneOf, IsMoved, IsLeftOut, IsAdded, IsSame, IsUnwatched};
@@ -52,9 +52,17 @@ impl Watches {
         })
     }
 
+    /// The number of variables.
+    pub fn variables(&self) -> u32
+        ensures { result ≡ self.now.variables }
+    {
+        self.variables
+    }
+
     /// How many clauses there are.
     pub fn len(&self) -> usize
-        ensures { result ≡ length self.now.clauses }
+        ensures count { result ≡ length self.now.clauses }
+        ensures over { All (IsClauseOver self.now.variables) self.now.clauses }
     {
         self.clauses.len()
     }
@@ -103,6 +111,7 @@ impl Watches {
         requires over { IsClauseOver self.old.variables clause.now }
         requires first { holds clause.now pair.now.first ≡ true }
         requires second { holds clause.now pair.now.second ≡ true }
+        ensures paired { length self.old.pairs ≡ length self.old.clauses }
         ensures ok { OnOk result (IsAdded self.old self.new clause.now pair.now) }
         ensures err { OnErr result (IsSame self.old self.new) }
     {
