@@ -136,11 +136,11 @@ decided_more made trail new starts cs l here grown decided at listed =
             ap (holds made) (grown_same cs (trail ++ l ∷ []) new at (omega (arith, before.0, one)) grown ∙ get_or-append trail (l ∷ []) (pos 0) at before.0) ∙ before.1,
           )
       | inr last ↦ (
-            omega (arith, last, longer, one),
-            ap (λ i. holds made (get_or new i (pos 0))) last
+        omega (arith, last, longer, one),
+        ap (λ i. holds made (get_or new i (pos 0))) last
             ∙ ap (holds made) (grown_same cs (trail ++ l ∷ []) new (length trail) (omega (arith, one)) grown ∙ get_or-append_seam trail l [] (pos 0))
             ∙ here,
-          )
+      )
     ]
 
 pub assuming_decides : (start s next new : Search) (list : List ℤ) (at : ℕ) (l : ℤ) → at < length list → l ≡ get_or list at l → holds list l ≡ true →

@@ -82,7 +82,7 @@ returns-clause-visits c =
     let k_f : k ≢ f = λ e. clash (holds t.literals (neg_ℤ f)) c.requires.is_false (ap (λ x. holds t.literals (neg_ℤ x)) (sym e) ∙ c.in-Some-open_beside.ensures.2) in
     let settles =
     visit_moved old new t c.entry-clause.result f other k c.in_ok-exchange.ensures.ok c.in-Some.ensures (λ e. apart_from k other c.in-Some-open_beside.ensures.1 (sym e))
-        (ap (λ d. holds d k) (sym c.clause.ensures.clause) ∙ c.in-Some-open_beside.ensures.0)
+    (ap (λ d. holds d k) (sym c.clause.ensures.clause) ∙ c.in-Some-open_beside.ensures.0)
     (apart_from other f (sym c.eq.ensures ∙ c.if-eq.false)) k_f c.in-Some-open_beside.ensures.2 c.in_ok-exchange.ensures.paired in (
       subst (IsLeftOut old.lists new.lists f c.args.at) c.entry-clause.ensures c.in_ok-exchange.ensures.left_out,
       λ inside. subst (Settles old new t.literals t.literals f) c.entry-clause.ensures settles,
