@@ -1,13 +1,12 @@
-// A library with one function.
+// A solver of clauses that answers a model, a refutation, or the clauses that it learned before it gave up.
 #![tactic(auto)]
 
-ghost use Rattle.std.specs.Prelude.{◌≡◌};
-ghost use Rattle.vg_sat.specs.Echo.{echo_of};
+mod answer;
+mod learning;
+mod memory;
+mod solver;
+mod walking;
 
-// The `ensures` clause is the contract: what `echo` returns is `echo_of` of its argument, a definition
-// in `specs/Echo.antt`, which a caller's clause can cite too.
-pub fn echo(x: usize) -> usize
-    ensures { result ≡ echo_of x }
-{
-    x
-}
+pub use answer::Answer;
+pub use memory::Memory;
+pub use solver::solve;

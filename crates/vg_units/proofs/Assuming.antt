@@ -47,7 +47,7 @@ holds-negations (x ∷ c) k =
 pub negated-held : (c : List ℤ) (l : ℤ) → holds c l ≡ true → holds (negations c) (neg_ℤ l) ≡ true
 negated-held c l e = holds-negations c (neg_ℤ l) ∙ ap (holds c) (neg_ℤ-neg_ℤ l) ∙ e
 
-test_at : (p : ℤ → Bool) (l : ℤ) (c : List ℤ) → holds c l ≡ true → list_all p c ≡ true → p l ≡ true
+pub test_at : (p : ℤ → Bool) (l : ℤ) (c : List ℤ) → holds c l ≡ true → list_all p c ≡ true → p l ≡ true
 test_at p l [] here all = absurd (false≢true here)
 test_at p l (k ∷ c) here all =
     let parts = and_parts (p k) (list_all p c) all in
@@ -124,7 +124,7 @@ listed_cases list n entry h =
     ]
 
 -- a decision, and what it forces
-decided_more : (made trail new : List ℤ) (starts : List ℕ) (cs : List (List ℤ)) (l : ℤ) → holds made l ≡ true → Grown cs (trail ++ l ∷ []) new → AreDecided made trail starts →
+pub decided_more : (made trail new : List ℤ) (starts : List ℕ) (cs : List (List ℤ)) (l : ℤ) → holds made l ≡ true → Grown cs (trail ++ l ∷ []) new → AreDecided made trail starts →
     AreDecided made new (starts ++ length trail ∷ [])
 decided_more made trail new starts cs l here grown decided at listed =
     let longer = grown_longer cs (trail ++ l ∷ []) new grown in

@@ -1,6 +1,6 @@
 -- What a search keeps when literals are made true and taken back.
 use Rattle.std.proofs.Common.{◌≡◌, ℕ, zero, suc, ◌+◌, ◌<◌, ◌≤◌, List, [], ◌∷◌, ◌++◌, length, take, get_or, true, false, refl, sym, ap, ◌∙◌, inl, inr, ◌⊎◌, subst, arith, length-append, ltb}
-use Rattle.std.specs.Prelude.{◌≢◌, ℤ, pos, negsuc, neg_ℤ, unsigned_abs, ◌||◌, Contains, All, Option, None, Some, is_some, Bool, not, MatchBool}
+use Rattle.std.specs.Prelude.{◌≢◌, ℤ, pos, negsuc, neg_ℤ, unsigned_abs, ◌||◌, Contains, All, Option, None, Some, is_some, IsSome, Bool, not, MatchBool}
 use Rattle.std.specs.Ordering.{int_eq}
 use Rattle.std.proofs.Math.IntN.{neg_ℤ-neg_ℤ}
 use Rattle.std.proofs.Math.ListN.{get_or-append}
@@ -12,6 +12,8 @@ use Rattle.std.proofs.lemmas.List.Folds.{list_any-append}
 use Rattle.vg_cnf.specs.Clauses.{holds, IsOver, IsClauseOver}
 use Rattle.vg_cnf.specs.Orders.{IsConsistent, Settled, Reaches}
 use Rattle.vg_cnf.specs.Orders as orders
+use Rattle.vg_cnf.specs.Propagation.{propagated}
+use Rattle.vg_cnf.proofs.Settled.{settled-propagated}
 use Rattle.vg_cnf.proofs.Steps.{clash, same_literal, same_test}
 use Rattle.vg_units.specs.Lists.{IsListedFrom}
 use Rattle.vg_units.specs.Trails.{Made, IsMadeTrue}
@@ -397,3 +399,14 @@ end_reaches cs next new (Some clause) true e base clauses stay sound ended = abs
 end_reaches cs next new (Some clause) false e base clauses stay sound ended =
     subst (λ xs. Reaches xs []) (stay.1 ∙ clauses)
     (chain_conflict new.clauses new.trail new.starts [] (get_or new.clauses clause []) sound.chain (none_decided new.trail new.starts (stay.2 ∙ base)) (contains_at new.clauses clause ended.1) ended.2)
+
+-- where all clauses are settled unit propagation ends
+pub open_end : (cs : List (List ℤ)) (made : List ℤ) → IsConsistent made → All (Settled made) cs → IsSome (propagated cs)
+open_end cs made consistent settled = ap is_some (settled-propagated (length cs) made cs consistent settled).1
+
+pub end_open : (next new : Search) (end : Option ℕ) (none : Bool) → is_some end ≡ not none → IsSound new → IsEnd next new end → none ≡ true → IsSome (propagated new.clauses)
+end_open next new None none e sound ended is_none = open_end new.clauses new.trail sound.consistent ended.1
+end_open next new (Some clause) none e sound ended is_none = absurd (true≢false (e ∙ ap not is_none))
+
+pub kept_ends : (w : Watching) (t : Made) (starts : List ℕ) (head : ℕ) → IsKept w t starts head → head ≡ length t.literals → IsSome (propagated w.clauses)
+kept_ends w t starts head h whole = open_end w.clauses t.literals h.consistent (kept_settled w t starts head h whole)

@@ -1,9 +1,9 @@
 // Clauses with a trail of true literals that is propagated and taken back.
 
-ghost use Rattle.std.specs.Prelude.{◌≡◌, ◌<◌, ◌≤◌, ◌+◌, ◌^◌, ℤ, neg_ℤ, true, false, [], ◌∷◌, ◌++◌, length, take, unsigned_abs, OnOk, OnErr, IfOk, IsOk, MatchBool, MatchOption, All};
+ghost use Rattle.std.specs.Prelude.{◌≡◌, ◌<◌, ◌≤◌, ◌+◌, ◌*◌, ◌^◌, ℤ, neg_ℤ, true, false, [], ◌∷◌, ◌++◌, length, take, unsigned_abs, OnOk, OnErr, IfOk, IsOk, IsSome, MatchBool, MatchOption, All};
 ghost use Rattle.vg_cnf.specs.Clauses.{holds, IsOver, IsClauseOver};
 ghost use Rattle.vg_cnf.specs.Orders.{Reaches, Settled};
-ghost use Rattle.vg_cnf.specs.Propagation.{follows as list_follows};
+ghost use Rattle.vg_cnf.specs.Propagation.{follows as list_follows, propagated};
 ghost use Rattle.vg_units.specs.Searching.{Search, IsAtRest, IsSound, IsSameBut, IsEnd, Rests};
 ghost use Rattle.vg_units.specs.Levels.{start_in};
 ghost use Rattle.vg_units.specs.Propagating.{AreFalse, Grown};
@@ -57,9 +57,10 @@ impl Propagator {
 
     /// The number of variables.
     pub fn variables(&self) -> u32
-        ensures { result ≡ self.now.variables }
+        ensures count { result ≡ self.now.variables }
+        ensures in_range { result < 2 ^ 31 }
     {
-        self.watches.variables()
+        self.trail.variables()
     }
 
     /// How many decisions stand.
@@ -125,13 +126,14 @@ impl Propagator {
         self.head = start;
     }
 
-    /// What holds between two calls.
-    fn facts(&self)
+    /// Does nothing: its contract says what holds between any two calls.
+    pub fn facts(&self)
+        ensures bounded { length self.now.trail ≤ 2 * self.now.variables + 2 }
         ensures sound { IsSound self.now }
         ensures over { All (IsClauseOver self.now.variables) self.now.clauses }
         ensures settled { self.now.head ≡ length self.now.trail → All (Settled self.now.trail) self.now.clauses }
     {
-        let _ = &self.head;
+        let _len = self.trail.len();
     }
 
     /// Takes back all decisions.
@@ -188,6 +190,7 @@ impl Propagator {
         requires at_rest { IsAtRest self.old }
         requires over { IsClauseOver self.old.variables clause.now }
         ensures variables { self.new.variables ≡ self.old.variables }
+        ensures open { IfOk result (λ open_end. open_end ≡ true → IsSome (propagated self.new.clauses)) }
         ensures added { IfOk result (λ open_end. MatchBool open_end (IsAtRest self.new × (self.new.clauses ≡ self.old.clauses ++ clause.now ∷ [])) (Reaches (self.old.clauses ++ clause.now ∷ []) [])) }
     {
         self.facts();

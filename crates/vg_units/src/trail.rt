@@ -40,6 +40,14 @@ impl Trail {
         })
     }
 
+    /// The number of variables.
+    pub fn variables(&self) -> u32
+        ensures count { result ≡ self.now.variables }
+        ensures in_range { result < 2 ^ 31 }
+    {
+        self.variables
+    }
+
     /// How many literals are true.
     pub fn len(&self) -> usize
         ensures count { result ≡ length self.now.literals }

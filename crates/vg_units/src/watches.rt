@@ -52,13 +52,6 @@ impl Watches {
         })
     }
 
-    /// The number of variables.
-    pub fn variables(&self) -> u32
-        ensures { result ≡ self.now.variables }
-    {
-        self.variables
-    }
-
     /// How many clauses there are.
     pub fn len(&self) -> usize
         ensures count { result ≡ length self.now.clauses }

@@ -5,7 +5,7 @@ use Rattle.vg_cnf.specs.Orders.{Reaches}
 use Rattle.vg_units.specs.Levels.{IsKept}
 use Rattle.vg_units.specs.Searching.{IsAtRest}
 use Rattle.vg_units.proofs.Literals.{held_over}
-use Rattle.vg_units.proofs.Keeping.{kept_same, kept_open, kept_single, false_reaches, end_reaches}
+use Rattle.vg_units.proofs.Keeping.{kept_same, kept_open, kept_single, false_reaches, end_reaches, end_open, kept_ends}
 use Rattle.vg_units.proofs.propagator.Propagator.add.Goals as goal
 
 pub returns-in_default-clause-added : goal.returns-in_default-clause-added
@@ -58,3 +58,19 @@ returns-in_ok-propagate-in-None-clause-added c =
     c.propagate.new.self c.in_ok-propagate-in-None.field-0 c.is_none.result c.is_none.ensures (ap (λ v. v.starts) c.self.view_is ∙ c.requires.at_rest.0)
     (c.in_ok-add_single-in-None.ensures.ok.0.1 ∙ ap (λ v. v.clauses ++ c.args.clause.now ∷ []) c.self.view_is)
     c.propagate.ensures.same c.propagate.ensures.sound c.in_ok-propagate-in-None.ensures.ends
+
+pub returns-in_ok-add-in-Some-open_beside-clause-open : goal.returns-in_ok-add-in-Some-open_beside-clause-open
+returns-in_ok-add-in-Some-open_beside-clause-open c asked =
+    let s = c.self.inside in
+    let kept = (kept_open s.watches c.add.new.self s.trail s.starts.items s.head c.args.clause.now c.in-Some.first c.in-Some-open_beside.second
+    (ap (λ v. v.starts) c.self.view_is ∙ c.requires.at_rest.0) c.in_ok-add-in-Some-open_beside.ensures.ok c.in_ok-add-in-Some-open_beside.ensures.paired
+    (subst (λ v. IsClauseOver v.variables c.args.clause.now) (sym c.self.view_is) c.requires.over) c.in-Some.ensures.0 c.in-Some.ensures.1 c.in-Some-open_beside.ensures c.self.invariant) in
+    let whole : s.head ≡ length s.trail.literals = subst (λ v. v.head ≡ length v.trail) (sym c.self.view_is) c.requires.at_rest.1 in
+    kept_ends c.add.new.self s.trail s.starts.items s.head kept whole
+
+pub returns-in_ok-propagate-in-None-clause-open : goal.returns-in_ok-propagate-in-None-clause-open
+returns-in_ok-propagate-in-None-clause-open c asked =
+    let s = c.self.inside in
+    end_open
+    (record { variables = c.add_single.new.watches.variables; clauses = c.add_single.new.watches.clauses; trail = c.add_single.new.trail.literals; starts = s.starts.items; head = s.head })
+    c.propagate.new.self c.in_ok-propagate-in-None.field-0 c.is_none.result c.is_none.ensures c.propagate.ensures.sound c.in_ok-propagate-in-None.ensures.ends asked
