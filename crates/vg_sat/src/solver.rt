@@ -1,6 +1,9 @@
 // The search for a model or a refutation.
 
-ghost use Rattle.std.specs.Prelude.{◌≡◌, IfOk, MatchOption};
+ghost use Rattle.std.specs.Prelude.{◌≡◌, [], IfOk, MatchOption, All};
+ghost use Rattle.vg_cnf.specs.Clauses.{IsClauseOver};
+ghost use Rattle.vg_cnf.specs.Orders.{Reaches};
+ghost use Rattle.vg_sat.specs.Loading.{IsLoaded};
 ghost use Rattle.vg_sat.specs.Answers.{IsAnswer};
 
 use crate::answer::Answer;
@@ -16,6 +19,7 @@ use vg_units::Propagator;
 pub fn solve(alloc: Global, clauses: &Clauses, limit: u32) -> Result<Answer, Memory>
     ensures { IfOk result (IsAnswer clauses.now limit) }
 {
+    each_is_over(clauses);
     let mut learned = Refutation::new(alloc);
     let Some(mut search) = load(alloc, clauses)? else {
         learned.push(&[])?;
@@ -39,6 +43,7 @@ pub fn solve(alloc: Global, clauses: &Clauses, limit: u32) -> Result<Answer, Mem
 
 /// The clauses, unless unit propagation alone refutes them.
 fn load(alloc: Global, clauses: &Clauses) -> Result<Option<Propagator>, AllocError>
+    ensures { IfOk result (λ search. MatchOption search (Reaches clauses.now.clauses []) (IsLoaded clauses.now)) }
 {
     let mut search = Propagator::new(alloc, clauses.variables())?;
     for at in 0..clauses.len() {
@@ -47,4 +52,13 @@ fn load(alloc: Global, clauses: &Clauses) -> Result<Option<Propagator>, AllocErr
         }
     }
     Ok(Some(search))
+}
+
+/// Does nothing: its contract says what holds of each clause.
+fn each_is_over(clauses: &Clauses)
+    ensures { All (IsClauseOver clauses.now.variables) clauses.now.clauses }
+{
+    for at in 0..clauses.len() {
+        let _clause = clauses.get(at);
+    }
 }
