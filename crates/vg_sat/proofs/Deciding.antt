@@ -111,6 +111,7 @@ false_clause trail c consistent falses = all_apart c (λ k held. held)
               (ap (holds trail) (sym (neg_ℤ-neg_ℤ k)) ∙ consistent (neg_ℤ k) (falses (neg_ℤ k) (negated-held c k held)))
           | inr alone ↦ ap not alone
         ]
+
     all_apart : (some : List ℤ) → ((k : ℤ) → holds some k ≡ true → holds c k ≡ true) → list_all (λ l. not (holds c (neg_ℤ l))) some ≡ true
     all_apart [] within = refl
     all_apart (x ∷ some) within =

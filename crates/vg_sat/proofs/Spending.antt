@@ -247,3 +247,23 @@ spending_refuted set s learned n c steps is is_learned reaches h =
       each_follows = ap is_some (unfollowed_pushed set.clauses (learned ++ c ∷ []) [] before last);
       ends = ends_pushed (learned ++ c ∷ []);
     })
+
+-- ---- as the loop meets them
+
+learned_at : (s mid : Search) (c : List ℤ) → (mid.variables ≡ s.variables) × (mid.clauses ≡ s.clauses) → IsLearned mid.variables mid.clauses c → IsLearned s.variables s.clauses c
+learned_at s mid c alike h = subst (λ v. IsLearned v s.clauses c) alike.0 (subst (λ cs. IsLearned mid.variables cs c) alike.1 h)
+
+pub spending_step : (set : ClauseSet) (s mid short new : Search) (learned pushed : List (List ℤ)) (n : ℕ) (c d e : List ℤ) → d ≡ c → e ≡ c → IsLearned mid.variables mid.clauses c →
+    (mid.variables ≡ s.variables) × (mid.clauses ≡ s.clauses) → (short.variables ≡ mid.variables) × (short.clauses ≡ mid.clauses) → new.variables ≡ short.variables →
+    IsAtRest new × (new.clauses ≡ short.clauses ++ e ∷ []) → IsSome (propagated new.clauses) → pushed ≡ learned ++ d ∷ [] → Spending set s learned n → Spending set new pushed (n + 1)
+spending_step set s mid short new learned pushed n c d e d_is e_is is_learned first second variables added undecided pushed_is h =
+    let clauses : new.clauses ≡ s.clauses ++ c ∷ [] = added.1 ∙ ap (λ cs. cs ++ e ∷ []) (second.1 ∙ first.1) ∙ ap (λ x. s.clauses ++ x ∷ []) e_is in
+    subst (λ xs. Spending set new xs (n + 1)) (sym (pushed_is ∙ ap (λ x. learned ++ x ∷ []) d_is))
+    (spending_on set s new learned n c (learned_at s mid c first is_learned) (variables ∙ second.0 ∙ first.0) clauses added.0 undecided h)
+
+pub spending_ended : (set : ClauseSet) (s mid short : Search) (learned pushed steps : List (List ℤ)) (n : ℕ) (c d e : List ℤ) → d ≡ c → e ≡ c → IsLearned mid.variables mid.clauses c →
+    (mid.variables ≡ s.variables) × (mid.clauses ≡ s.clauses) → (short.variables ≡ mid.variables) × (short.clauses ≡ mid.clauses) → Reaches (short.clauses ++ e ∷ []) [] →
+    pushed ≡ learned ++ d ∷ [] → steps ≡ pushed ++ [] ∷ [] → Spending set s learned n → IsRefutation set.clauses steps
+spending_ended set s mid short learned pushed steps n c d e d_is e_is is_learned first second reaches pushed_is steps_is h =
+    spending_refuted set s learned n c steps (steps_is ∙ ap (λ xs. xs ++ [] ∷ []) (pushed_is ∙ ap (λ x. learned ++ x ∷ []) d_is)) (learned_at s mid c first is_learned)
+    (subst (λ cs. Reaches (cs ++ c ∷ []) []) (second.1 ∙ first.1) (subst (λ x. Reaches (short.clauses ++ x ∷ []) []) e_is reaches)) h

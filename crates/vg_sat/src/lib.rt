@@ -5,6 +5,8 @@ mod answer;
 mod learning;
 mod memory;
 mod solver;
+#[cfg(test)]
+mod tests;
 mod walking;
 
 pub use answer::Answer;

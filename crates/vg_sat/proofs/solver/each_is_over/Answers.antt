@@ -12,8 +12,8 @@ loop-at-init c = λ k d below. absurd (omega arith)
 pub loop-at-preserved : goal.loop-at-preserved
 loop-at-preserved c =
     let set = c.args.clauses.now in
-    subst (All (IsClauseOver set.variables)) (sym (one_more set.clauses c.loop-at.at c.get-_clause.result.now c.get-_clause.ensures.clause))
-    (All-push (IsClauseOver set.variables) (take c.loop-at.at set.clauses) c.get-_clause.result.now c.loop-at.invariant c.get-_clause.ensures.over)
+    subst (All (IsClauseOver set.variables)) (sym (one_more set.clauses c.loop-at.at c.get-clause.result.now c.get-clause.ensures.clause))
+    (All-push (IsClauseOver set.variables) (take c.loop-at.at set.clauses) c.get-clause.result.now c.loop-at.invariant c.get-clause.ensures.over)
 
 pub returns : goal.returns
 returns c =
