@@ -1,3 +1,4 @@
 pub mod Assignment
 pub mod Fault
+pub mod Knowledge
 pub mod Propagation

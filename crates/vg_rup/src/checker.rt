@@ -1,17 +1,14 @@
 // Refutations of clauses, checked list by list.
 
-ghost use Rattle.std.specs.Prelude.{◌≡◌, pos, false, OnOk, IfOk, IfErr};
-ghost use Rattle.vg_cnf.specs.Propagation.{follows as list_follows};
+ghost use Rattle.std.specs.Prelude.{◌≡◌, OnOk, IfErr};
 ghost use Rattle.vg_cnf.specs.Refutations.{IsRefutation, ends_empty as has_empty_end};
-ghost use Rattle.vg_cnf.specs.Orders.{occurs};
 ghost use Rattle.vg_rup.specs.Fault.{IsFault};
 ghost use Rattle.vg_rup.specs.declared.checker.RupFault.TheVariants.{Memory};
 
-use crate::assignment::Assignment;
-use crate::propagation::propagate;
+use crate::known::Known;
 use std::alloc::{AllocError, Global};
 use thiserror::Error;
-use vg_cnf::{Clauses, Lit, LiteralLists, Refutation, is_clause};
+use vg_cnf::{Clauses, LiteralLists, Refutation};
 
 /// Why a refutation was not accepted.
 #[derive(Clone, Copy, Debug, PartialEq, Eq, Error)]
@@ -46,10 +43,10 @@ pub fn check_refutation(
     ensures good { OnOk result (IsRefutation clauses.now.clauses proof.now) }
     ensures fault { IfErr result (IsFault clauses.now.clauses proof.now) }
 {
-    let mut known = lists_of(alloc, clauses)?;
+    let mut known = Known::new(alloc, clauses)?;
     for at in 0..proof.len() {
         let step = proof.get(at);
-        if !follows(alloc, &known, step)? {
+        if !known.follows(alloc, step)? {
             return Err(RupFault::NotUnit(at + 1));
         }
         known.push(step)?;
@@ -59,31 +56,6 @@ pub fn check_refutation(
     } else {
         Err(RupFault::NoEmpty)
     }
-}
-
-/// A copy of the clauses, to which steps can be added.
-fn lists_of(alloc: Global, clauses: &Clauses) -> Result<LiteralLists, AllocError>
-    ensures copy { IfOk result (λ lists. lists ≡ clauses.now.clauses) }
-    ensures nonzero { IfOk result (λ lists. occurs lists (pos 0) ≡ false) }
-{
-    let mut lists = LiteralLists::new(alloc);
-    for at in 0..clauses.len() {
-        lists.push(clauses.get(at))?;
-    }
-    Ok(lists)
-}
-
-/// Whether a list follows from clauses by unit propagation.
-fn follows(alloc: Global, clauses: &LiteralLists, list: &[Lit]) -> Result<bool, AllocError>
-    requires { occurs clauses.now (pos 0) ≡ false }
-    ensures { IfOk result (λ answer. answer ≡ list_follows clauses.now list.now) }
-{
-    if !is_clause(list) {
-        return Ok(false);
-    }
-    let mut made = Assignment::falsifying(alloc, list)?;
-    let conflict = propagate(clauses, &mut made)?;
-    Ok(conflict)
 }
 
 /// Whether there is a last list and it is empty.

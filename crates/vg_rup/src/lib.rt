@@ -3,6 +3,7 @@
 
 mod assignment;
 mod checker;
+mod known;
 mod propagation;
 #[cfg(test)]
 mod tests;

@@ -1,0 +1,205 @@
+-- Decisions one after another.
+use Rattle.std.proofs.Common.{◌≡◌, ℕ, zero, suc, ◌+◌, ◌*◌, ◌<◌, ◌≤◌, List, [], ◌∷◌, ◌++◌, length, get_or, true, false, refl, sym, ap, ◌∙◌, inl, inr, ◌⊎◌, subst, arith, length-append}
+use Rattle.std.specs.Prelude.{ℤ, pos, negsuc, neg_ℤ, Bool, not, ◌||◌, All, Option, Some, None, is_some}
+use Rattle.std.specs.List.{list_all}
+use Rattle.std.specs.Ordering.{int_eq}
+use Rattle.std.proofs.Math.IntN.{neg_ℤ-neg_ℤ}
+use Rattle.std.proofs.lemmas.Bool.{cases_Bool, or_cases, or_left, or_right, and_from, false≢true, true≢false}
+use Rattle.std.proofs.lemmas.List.Elements.{All-cons}
+use Rattle.vg_cnf.specs.Clauses.{holds, is_clause, IsOver, IsClauseOver, makes_all_true, IsModel}
+use Rattle.vg_cnf.specs.Orders.{IsConsistent, Settled, negations, Reaches}
+use Rattle.vg_cnf.specs.Propagation.{follows}
+use Rattle.vg_cnf.proofs.Steps.{clash, same_literal, same_test}
+use Rattle.vg_cnf.proofs.Orders.{reaches-follows}
+use Rattle.vg_units.specs.Lists.{IsListedFrom}
+use Rattle.vg_units.specs.Propagating.{Grown, AreWithin}
+use Rattle.vg_units.specs.Searching.{Search, IsAtRest, IsSound, IsSameBut, IsEnd}
+use Rattle.vg_units.proofs.Visiting.{grown_within, grown_longer, contains_at, holds_last, holds_before}
+use Rattle.vg_units.proofs.Reaching.{AreDecided, chain_conflict, over-nonzero}
+use Rattle.vg_units.proofs.Assuming.{holds-negations, negated-held, decided_more}
+use Rattle.vg_sat.specs.Walks.{AreValues}
+use Rattle.vg_sat.proofs.Choosing.{AreAssignedTo, assigned_more, all_true}
+use Rattle.vg_sat.specs.Choices.{IsUndecided}
+use Rattle.vg_sat.specs.Learned.{first_of, LeavesFirst, IsLearnable}
+
+-- the decisions so far are the negations of a clause's literals, and no clause is false
+pub record Walked (start s : Search) (clause : List ℤ) : Type 0 where
+  pub variables : s.variables ≡ start.variables
+  pub clauses : s.clauses ≡ start.clauses
+  pub propagated : s.head ≡ length s.trail
+  pub settled : All (Settled s.trail) s.clauses
+  pub sound : IsSound s
+  pub over : All (IsOver start.variables) clause
+  pub falses : AreWithin (negations clause) s.trail
+  pub decided : AreDecided (negations clause) s.trail s.starts
+
+pub walk_starts : (s : Search) → IsAtRest s → IsSound s → All (Settled s.trail) s.clauses → Walked s s []
+walk_starts s rest sound settled =
+    record {
+      variables = refl;
+      clauses = refl;
+      propagated = rest.1;
+      settled = settled;
+      sound = sound;
+      over = λ k d below. absurd (omega arith);
+      falses = λ k e. absurd (false≢true e);
+      decided = λ at listed. absurd (omega (arith, listed.2, ap length rest.0));
+    }
+
+over_negated : (n : ℕ) (l : ℤ) → IsOver n l → IsOver n (neg_ℤ l)
+over_negated n (pos zero) over = absurd (omega (arith, over.0))
+over_negated n (pos (suc m)) over = over
+over_negated n (negsuc m) over = over
+
+-- a literal more
+within_cons : (made few : List ℤ) (l : ℤ) → holds made l ≡ true → AreWithin few made → AreWithin (l ∷ few) made
+within_cons made few l here within k e =
+    elim (or_cases (int_eq k l) (holds few k) e) [
+      | inl is_l ↦ ap (holds made) (same_literal k l is_l) ∙ here
+      | inr later ↦ within k later
+    ]
+
+more_decided : (trail more : List ℤ) (starts : List ℕ) (l : ℤ) → AreDecided more trail starts → AreDecided (l ∷ more) trail starts
+more_decided trail more starts l decided at listed =
+    let before = decided at listed in
+    (before.0, or_right (int_eq (get_or trail at (pos 0)) l) (holds more (get_or trail at (pos 0))) before.1)
+
+-- the state after one decision
+pub record Decided (s next new : Search) (l : ℤ) : Type 0 where
+  pub decision : next ≡ record s { trail = s.trail ++ l ∷ []; starts = s.starts ++ length s.trail ∷ [] }
+  pub stay : IsSameBut next new
+  pub sound : IsSound new
+  pub grown : Grown next.clauses next.trail new.trail
+
+grown_from : (s next new : Search) (l : ℤ) → Decided s next new l → Grown s.clauses (s.trail ++ l ∷ []) new.trail
+grown_from s next new l step = subst (λ x. Grown x.clauses x.trail new.trail) step.decision step.grown
+
+decided_from : (s next new : Search) (l : ℤ) (clause : List ℤ) → Decided s next new l → AreDecided (negations clause) s.trail s.starts →
+    AreDecided (negations (neg_ℤ l ∷ clause)) new.trail new.starts
+decided_from s next new l clause step decided =
+    subst (AreDecided (negations (neg_ℤ l ∷ clause)) new.trail) (sym (step.stay.2 ∙ ap (λ x. x.starts) step.decision))
+    (decided_more (negations (neg_ℤ l ∷ clause)) s.trail new.trail s.starts s.clauses l
+    (or_left (int_eq l (neg_ℤ (neg_ℤ l))) (holds (negations clause) l) (same_test l (neg_ℤ (neg_ℤ l)) (sym (neg_ℤ-neg_ℤ l)))) (grown_from s next new l step)
+    (more_decided s.trail (negations clause) s.starts (neg_ℤ (neg_ℤ l)) decided))
+
+pub walk_on : (start s next new : Search) (clause : List ℤ) (l : ℤ) → IsOver s.variables l → Decided s next new l → new.head ≡ length new.trail → All (Settled new.trail) new.clauses →
+    Walked start s clause → Walked start new (neg_ℤ l ∷ clause)
+walk_on start s next new clause l over step propagated settled h =
+    let within = grown_within s.clauses (s.trail ++ l ∷ []) new.trail (grown_from s next new l step) in
+    record {
+      variables = step.stay.0 ∙ ap (λ x. x.variables) step.decision ∙ h.variables;
+      clauses = step.stay.1 ∙ ap (λ x. x.clauses) step.decision ∙ h.clauses;
+      propagated = propagated;
+      settled = settled;
+      sound = step.sound;
+      over = All-cons (IsOver start.variables) (neg_ℤ l) clause (subst (λ n. IsOver n (neg_ℤ l)) h.variables (over_negated s.variables l over)) h.over;
+      falses =
+          within_cons new.trail (negations clause) (neg_ℤ (neg_ℤ l)) (ap (holds new.trail) (neg_ℤ-neg_ℤ l) ∙ within l (holds_last s.trail l))
+          (λ k e. within k (holds_before s.trail l k (h.falses k e)));
+      decided = decided_from s next new l clause step h.decided;
+    }
+
+-- no literal stands beside its negation where all are false
+false_clause : (trail c : List ℤ) → IsConsistent trail → AreWithin (negations c) trail → is_clause c ≡ true
+false_clause trail c consistent falses = all_apart c (λ k held. held)
+  where
+    apart : (k : ℤ) → holds c k ≡ true → not (holds c (neg_ℤ k)) ≡ true
+    apart k held =
+        elim (cases_Bool (holds c (neg_ℤ k))) [
+          | inl both ↦
+              clash (holds trail k) (falses k (holds-negations c k ∙ both))
+              (ap (holds trail) (sym (neg_ℤ-neg_ℤ k)) ∙ consistent (neg_ℤ k) (falses (neg_ℤ k) (negated-held c k held)))
+          | inr alone ↦ ap not alone
+        ]
+
+    all_apart : (some : List ℤ) → ((k : ℤ) → holds some k ≡ true → holds c k ≡ true) → list_all (λ l. not (holds c (neg_ℤ l))) some ≡ true
+    all_apart [] within = refl
+    all_apart (x ∷ some) within =
+        and_from (not (holds c (neg_ℤ x))) (list_all (λ l. not (holds c (neg_ℤ l))) some)
+        (apart x (within x (or_left (int_eq x x) (holds some x) (same_test x x refl))))
+        (all_apart some (λ k e. within k (or_right (int_eq k x) (holds some k) e)))
+
+conflict_reaches : (start s next new : Search) (clause : List ℤ) (l : ℤ) (end : Option ℕ) → is_some end ≡ true → Decided s next new l → IsEnd next new end → Walked start s clause →
+    Reaches start.clauses (negations (neg_ℤ l ∷ clause))
+conflict_reaches start s next new clause l None some step ended h = absurd (false≢true some)
+conflict_reaches start s next new clause l (Some at) some step ended h =
+    subst (λ cs. Reaches cs (negations (neg_ℤ l ∷ clause))) (step.stay.1 ∙ ap (λ x. x.clauses) step.decision ∙ h.clauses)
+    (chain_conflict new.clauses new.trail new.starts (negations (neg_ℤ l ∷ clause)) (get_or new.clauses at []) step.sound.chain (decided_from s next new l clause step h.decided)
+    (contains_at new.clauses at ended.1) ended.2)
+
+-- a clause that became false gives one to learn
+pub walk_conflict : (start s next new : Search) (clause : List ℤ) (l : ℤ) (end : Option ℕ) → All (IsClauseOver start.variables) start.clauses → IsUndecided s l → is_some end ≡ true → Decided s next new l →
+    IsEnd next new end → Walked start s clause → IsLearnable start.variables start.clauses (neg_ℤ l ∷ clause)
+walk_conflict start s next new clause l end all undecided some step ended h =
+    let within = grown_within s.clauses (s.trail ++ l ∷ []) new.trail (grown_from s next new l step) in
+    let is_one : is_clause (neg_ℤ l ∷ clause) ≡ true =
+    false_clause new.trail (neg_ℤ l ∷ clause) step.sound.consistent
+    (within_cons new.trail (negations clause) (neg_ℤ (neg_ℤ l)) (ap (holds new.trail) (neg_ℤ-neg_ℤ l) ∙ within l (holds_last s.trail l))
+    (λ k e. within k (holds_before s.trail l k (h.falses k e)))) in
+    record {
+      over =
+          record {
+            clause = is_one;
+            over = All-cons (IsOver start.variables) (neg_ℤ l) clause (subst (λ n. IsOver n (neg_ℤ l)) h.variables (over_negated s.variables l undecided.over)) h.over;
+          };
+      some = omega arith;
+      follows_it =
+          reaches-follows start.clauses (neg_ℤ l ∷ clause) (over-nonzero start.variables start.clauses all) is_one (conflict_reaches start s next new clause l end some step ended h);
+      first =
+          record {
+            made = s.trail;
+            consistent = h.sound.consistent;
+            settled = subst (All (Settled s.trail)) h.clauses h.settled;
+            others =
+                λ k held other.
+                elim (or_cases (int_eq k (neg_ℤ l)) (holds clause k) held) [
+                  | inl is_first ↦ clash (int_eq k (neg_ℤ l)) is_first other
+                  | inr later ↦ h.falses (neg_ℤ k) (negated-held clause k later)
+                ];
+            unmade = undecided.not_false;
+          };
+    }
+
+-- the state after a decision that led to no false clause
+pub walk_passes : (start s next new : Search) (clause : List ℤ) (l : ℤ) (end : Option ℕ) → is_some end ≡ false → IsUndecided s l → Decided s next new l → IsEnd next new end →
+    Walked start s clause → Walked start new (neg_ℤ l ∷ clause)
+walk_passes start s next new clause l None none undecided step ended h = walk_on start s next new clause l undecided.over step ended.0 ended.1 h
+walk_passes start s next new clause l (Some at) none undecided step ended h = absurd (true≢false none)
+
+-- the trail grows with each decision
+pub walk_longer : (s next new : Search) (l : ℤ) → Decided s next new l → length s.trail < length new.trail
+walk_longer s next new l step =
+    omega (arith, grown_longer s.clauses (s.trail ++ l ∷ []) new.trail (grown_from s next new l step), length-append s.trail (l ∷ []))
+
+-- ---- variables that are true or false
+
+pub assigned_decided : (s next new : Search) (l : ℤ) (n : ℕ) → l ≡ neg_ℤ (pos (n + 1)) → Decided s next new l → AreAssignedTo s.trail n → AreAssignedTo new.trail (n + 1)
+assigned_decided s next new l n is step before =
+    let within = grown_within s.clauses (s.trail ++ l ∷ []) new.trail (grown_from s next new l step) in
+    assigned_more new.trail n (inr (ap (holds new.trail) (sym is) ∙ within l (holds_last s.trail l)))
+    (λ v some inside.
+    elim (before v some inside) [
+      | inl t ↦ inl (within (pos v) (holds_before s.trail l (pos v) t))
+      | inr f ↦ inr (within (neg_ℤ (pos v)) (holds_before s.trail l (neg_ℤ (pos v)) f))
+    ])
+
+pub assigned_found : (trail : List ℤ) (l : ℤ) (n : ℕ) → l ≡ neg_ℤ (pos (n + 1)) → (holds trail l ≡ true) ⊎ (holds trail (neg_ℤ l) ≡ true) → AreAssignedTo trail n → AreAssignedTo trail (n + 1)
+assigned_found trail l n is found before =
+    assigned_more trail n
+    (elim found [
+      | inl t ↦ inr (ap (holds trail) (sym is) ∙ t)
+      | inr f ↦ inl (ap (holds trail) (sym (ap neg_ℤ is ∙ neg_ℤ-neg_ℤ (pos (n + 1)))) ∙ f)
+    ])
+    before
+
+-- all variables decided, and no clause false
+pub walk_model : (start s : Search) (clause : List ℤ) (values : List Bool) (n : ℕ) → All (IsClauseOver start.variables) start.clauses → start.variables ≤ n → AreAssignedTo s.trail n →
+    AreValues s values → Walked start s clause → IsModel values (record { variables = start.variables; clauses = start.clauses })
+walk_model start s clause values n all end assigned are h =
+    record {
+      each_variable = are.each ∙ h.variables;
+      each_clause =
+          subst (λ cs. makes_all_true values cs ≡ true) h.clauses
+          (all_true s values s.clauses h.sound.consistent (λ v some inside. assigned v some (omega (arith, inside, h.variables, end))) are
+          (subst (λ m. All (IsClauseOver m) s.clauses) (sym h.variables) (subst (All (IsClauseOver start.variables)) (sym h.clauses) all)) h.settled);
+    }

@@ -1,0 +1,5 @@
+pub mod Choosing
+pub mod Deciding
+pub mod Shortening
+pub mod Spending
+pub mod Loads

@@ -1,0 +1,14 @@
+// A solver of clauses that answers a model, a refutation, or the clauses that it learned before it gave up.
+#![tactic(auto)]
+
+mod answer;
+mod learning;
+mod memory;
+mod solver;
+#[cfg(test)]
+mod tests;
+mod walking;
+
+pub use answer::Answer;
+pub use memory::Memory;
+pub use solver::solve;
