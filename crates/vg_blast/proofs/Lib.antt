@@ -1,0 +1,4 @@
+pub mod Same
+pub mod Truths
+pub mod Gating
+pub mod Composing
