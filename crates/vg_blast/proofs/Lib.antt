@@ -1,4 +1,6 @@
 pub mod Same
 pub mod Truths
+pub mod Numbers
 pub mod Gating
 pub mod Composing
+pub mod Words

@@ -70,3 +70,14 @@ pub record MakesWord (old new : ClauseSet) (cost : ℕ) (out : List ℤ) (w : �
   pub over : All (IsOver new.variables) out
   pub width : length out ≡ w
   pub is : (v : List Bool) → Holds v new → number v out ≡ says v
+
+-- the literals of a word that is known, where the first variable is true
+pub record IsConstant (out : List ℤ) (w value : ℕ) : Type 0 where
+  pub width : length out ≡ w
+  pub over : (n : ℕ) → 0 < n → All (IsOver n) out
+  pub is : (v : List Bool) → truth v (pos 1) ≡ true → number v out ≡ value
+
+-- the literal with this truth, where the first variable is true
+pub record IsKnown (out : ℤ) (holds : Bool) : Type 0 where
+  pub over : (n : ℕ) → 0 < n → IsOver n out
+  pub is : (v : List Bool) → truth v (pos 1) ≡ true → truth v out ≡ holds

@@ -1,2 +1,6 @@
 pub mod Circuits
 pub mod Gates
+pub mod Bitwise
+pub mod Adding
+pub mod Shifting
+pub mod Dividing

@@ -1,11 +1,11 @@
 // Gates that are built once each: a table tells which stand.
 
-ghost use Rattle.std.specs.Prelude.{◌≡◌, ◌&&◌, ◌||◌, not, IfOk, IfSome};
+ghost use Rattle.std.specs.Prelude.{◌≡◌, ◌&&◌, ◌||◌, pos, negsuc, IfOk};
 ghost use Rattle.vg_cnf.specs.Clauses.{IsOver};
-ghost use Rattle.vg_blast.specs.Circuits.{Builds, MakesBit, Holds, IsNet, truth as literal_truth, differ, choose, most};
-ghost use Rattle.vg_blast.specs.Gates.{AreInputs, IsOutput, gate_value};
+ghost use Rattle.vg_blast.specs.Circuits.{MakesBit, IsNet, truth as literal_truth, differ, choose, most};
+ghost use Rattle.vg_blast.specs.Gates.{AreInputs, gate_value};
 
-use crate::gate::{Gate, and_gate, folded_and, folded_xor, with_signs, xor_gate};
+use crate::gate::{Gate, and_gate, folded_and, folded_xor, truth, with_signs, xor_gate};
 use crate::net::Net;
 use indexmap::IndexMap;
 use std::alloc::{AllocError, Global};
@@ -46,6 +46,23 @@ impl Gates {
             Ok(_) => Ok(out),
             Err(_) => Err(AllocError),
         }
+    }
+
+    /// The literal that is true in each model.
+    pub fn truth(&self) -> Lit
+        ensures literal { result ≡ pos 1 }
+        ensures stood { IsNet self.now }
+    {
+        let _ = &self.net;
+        truth()
+    }
+
+    /// The literal that is false in each model.
+    pub fn falsity(&self) -> Lit
+        ensures literal { result ≡ negsuc 0 }
+        ensures stood { IsNet self.now }
+    {
+        self.truth().negated()
     }
 
     /// Whether both are true.

@@ -1,6 +1,12 @@
 // Bit blasting: facts on machine words as clauses on their bits.
 #![tactic(auto)]
 
+mod adding;
+mod bitwise;
+mod comparing;
 mod gate;
 mod gates;
+mod multiplying;
 mod net;
+mod shifting;
+mod wiring;
