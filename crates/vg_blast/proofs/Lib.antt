@@ -4,3 +4,4 @@ pub mod Numbers
 pub mod Gating
 pub mod Composing
 pub mod Words
+pub mod Shifts

@@ -8,7 +8,7 @@ ghost use Rattle.vg_blast.specs.Dividing.{DividesStep, Divides};
 use crate::adding::{difference, sum};
 use crate::comparing::choice;
 use crate::gates::Gates;
-use crate::wiring::{extended, moved_left, part};
+use crate::wiring::{extended, moved_left, part, repeated};
 use std::alloc::{AllocError, Global};
 use vg_cnf::Lit;
 
@@ -20,8 +20,8 @@ pub(crate) fn product(alloc: Global, gates: &mut Gates, a: &[Lit], b: &[Lit]) ->
     ensures { IfOk result (λ out. MakesWord gates.old gates.new (108 * length a.now * length a.now) out.items (length a.now) (λ v. (number v a.now * number v b.now) % 2 ^ length a.now)) }
 {
     let falsity = gates.falsity();
-    let nothing = vec![in alloc; falsity; a.len()]?;
-    let mut product = vec![in alloc; falsity; a.len()]?;
+    let nothing = repeated(alloc, falsity, a.len())?;
+    let mut product = repeated(alloc, falsity, a.len())?;
     for at in 0..a.len() {
         let moved = moved_left(alloc, b, falsity, at)?;
         let row = choice(alloc, gates, a[at], &moved, &nothing)?;
@@ -58,7 +58,7 @@ pub(crate) fn divided(alloc: Global, gates: &mut Gates, a: &[Lit], b: &[Lit]) ->
 {
     let falsity = gates.falsity();
     let mut quotient = Vec::new(alloc);
-    let mut remainder = vec![in alloc; falsity; a.len()]?;
+    let mut remainder = repeated(alloc, falsity, a.len())?;
     for done in 0..a.len() {
         let next = a[a.len() - 1 - done];
         let (fits, left) = divide_step(alloc, gates, &remainder, next, b)?;

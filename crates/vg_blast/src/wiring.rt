@@ -46,11 +46,25 @@ pub(crate) fn negated(alloc: Global, a: &[Lit]) -> Result<Vec<Lit>, AllocError>
     Ok(out)
 }
 
+/// The same literals.
+pub(crate) fn copied(alloc: Global, a: &[Lit]) -> Result<Vec<Lit>, AllocError>
+    ensures { IfOk result (λ out. out.items ≡ a.now) }
+{
+    a.to_vec(alloc)
+}
+
+/// A literal so many times.
+pub(crate) fn repeated(alloc: Global, literal: Lit, times: usize) -> Result<Vec<Lit>, AllocError>
+    ensures { IfOk result (λ out. out.items ≡ replicate times literal) }
+{
+    vec![in alloc; literal; times]
+}
+
 /// One word above another.
 pub(crate) fn joined(alloc: Global, low: &[Lit], high: &[Lit]) -> Result<Vec<Lit>, AllocError>
     ensures { IfOk result (λ out. out.items ≡ low.now ++ high.now) }
 {
-    let mut out = low.to_vec(alloc)?;
+    let mut out = copied(alloc, low)?;
     out.extend_from_slice(high)?;
     Ok(out)
 }
@@ -62,14 +76,14 @@ pub(crate) fn part(alloc: Global, a: &[Lit], from: usize, width: usize) -> Resul
 {
     let (_, rest) = a.split_at(from);
     let (part, _) = rest.split_at(width);
-    part.to_vec(alloc)
+    copied(alloc, part)
 }
 
 /// A word with a literal repeated above it.
 pub(crate) fn extended(alloc: Global, a: &[Lit], fill: Lit, more: usize) -> Result<Vec<Lit>, AllocError>
     ensures { IfOk result (λ out. out.items ≡ a.now ++ replicate more fill) }
 {
-    let high = vec![in alloc; fill; more]?;
+    let high = repeated(alloc, fill, more)?;
     joined(alloc, a, &high)
 }
 
@@ -78,7 +92,7 @@ pub(crate) fn moved_left(alloc: Global, a: &[Lit], fill: Lit, by: usize) -> Resu
     requires { by ≤ length a.now }
     ensures { IfOk result (λ out. out.items ≡ replicate by fill ++ take (length a.now - by) a.now) }
 {
-    let low = vec![in alloc; fill; by]?;
+    let low = repeated(alloc, fill, by)?;
     let (high, _) = a.split_at(a.len() - by);
     joined(alloc, &low, high)
 }
@@ -99,7 +113,7 @@ pub(crate) fn top_turned(alloc: Global, a: &[Lit]) -> Result<Vec<Lit>, AllocErro
 {
     let last = a.len() - 1;
     let (low, _) = a.split_at(last);
-    let mut out = low.to_vec(alloc)?;
+    let mut out = copied(alloc, low)?;
     out.push(a[last].negated())?;
     Ok(out)
 }
