@@ -5,3 +5,4 @@ pub mod Gating
 pub mod Composing
 pub mod Words
 pub mod Shifts
+pub mod Products

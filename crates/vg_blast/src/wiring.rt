@@ -69,6 +69,15 @@ pub(crate) fn joined(alloc: Global, low: &[Lit], high: &[Lit]) -> Result<Vec<Lit
     Ok(out)
 }
 
+/// The lowest literals.
+pub(crate) fn front(alloc: Global, a: &[Lit], width: usize) -> Result<Vec<Lit>, AllocError>
+    requires { width ≤ length a.now }
+    ensures { IfOk result (λ out. out.items ≡ take width a.now) }
+{
+    let (low, _) = a.split_at(width);
+    copied(alloc, low)
+}
+
 /// The literals from one place up to another.
 pub(crate) fn part(alloc: Global, a: &[Lit], from: usize, width: usize) -> Result<Vec<Lit>, AllocError>
     requires { from + width ≤ length a.now }
