@@ -6,3 +6,4 @@ pub mod Composing
 pub mod Words
 pub mod Shifts
 pub mod Products
+pub mod Operating

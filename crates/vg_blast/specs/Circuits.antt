@@ -1,6 +1,7 @@
 -- Circuits as clauses over new variables: what may come before and after a circuit is built, and what its output says. No public clause rests on this file.
 use Rattle.std.specs.Prelude.{◌≡◌, ℕ, ◌+◌, ◌*◌, ◌<◌, ◌≤◌, ℤ, pos, Bool, true, not, if◌then◌else◌, List, [], ◌∷◌, ◌++◌, length, sum_by, All}
 use Rattle.vg_bits.specs.Words.{bit}
+use Rattle.vg_term.specs.Operations.{Bits}
 use Rattle.vg_cnf.specs.Clauses.{ClauseSet, IsClauseOver, IsOver, IsModel, makes_literal_true, makes_true, makes_all_true}
 
 -- whether the values make a literal true
@@ -81,3 +82,7 @@ pub record IsConstant (out : List ℤ) (w value : ℕ) : Type 0 where
 pub record IsKnown (out : ℤ) (holds : Bool) : Type 0 where
   pub over : (n : ℕ) → 0 < n → IsOver n out
   pub is : (v : List Bool) → truth v (pos 1) ≡ true → truth v out ≡ holds
+
+-- what is seen of a word: how many literals, and the number that they spell
+abbrev pub bits_by : List Bool → List ℤ → Bits
+bits_by v a = record { width = length a; value = number v a }

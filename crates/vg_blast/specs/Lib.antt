@@ -4,3 +4,4 @@ pub mod Bitwise
 pub mod Adding
 pub mod Shifting
 pub mod Dividing
+pub mod Cost

@@ -8,5 +8,6 @@ mod gate;
 mod gates;
 mod multiplying;
 mod net;
+mod operation;
 mod shifting;
 mod wiring;
