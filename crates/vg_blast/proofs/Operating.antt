@@ -3,7 +3,7 @@ use Rattle.std.proofs.Common.{◌≡◌, ℕ, zero, suc, ◌+◌, ◌-◌, ◌*�
 use Rattle.std.specs.Prelude.{ℤ, pos, negsuc, neg_ℤ, not, nat_lt, nat_eq, int_lt, IfOk}
 use Rattle.std.proofs.lemmas.Bool.{cases_lt, ne_eqb}
 use Rattle.std.proofs.lemmas.Bool.Decides.{eqb_tells}
-use Rattle.std.proofs.lemmas.List.{length-replicate, take_all, length-map}
+use Rattle.std.proofs.lemmas.List.{length-replicate, take_all, length-map, get_or_default}
 use Rattle.std.proofs.lemmas.List.Elements.{All-nil, All-cons, All-append, All-replicate, All-take, All-drop, All-get_or, All-map, All-weaker}
 use Rattle.std.proofs.lemmas.Nat.{pow_pos, pow-add, mod_low, div-mul-add, mod-mul-add, shr_le}
 use Rattle.std.proofs.Math.Nat.{mod-eq_of_lt, zero-mod, mul-le-mul_left}
@@ -21,7 +21,7 @@ use Rattle.vg_blast.specs.Shifting.{turned, ShiftsRight}
 use Rattle.vg_blast.specs.Cost.{operation_cost}
 use Rattle.vg_blast.proofs.Truths.{truth_neg}
 use Rattle.vg_blast.proofs.Composing.{nothing_built, over_negated}
-use Rattle.vg_blast.proofs.Numbers.{number-append, number-take, number-drop, number-more, number-below, number-zeros, number-ones, number-negated, low_below}
+use Rattle.vg_blast.proofs.Numbers.{number-append, number-push, number-take, number-drop, number-more, number-below, number-zeros, number-ones, number-negated, low_below}
 use Rattle.vg_blast.proofs.Shifts.{falsity_false, falsity_over, pow_split}
 
 -- ---- words that stand already
@@ -265,6 +265,65 @@ arithmetic_made old new a by x cost (Err e) some x_is shifted = shifted
 -- ---- signed comparisons
 
 -- with the highest bit turned, the number is the signed reading and half of the range
+turned_cases : (h low a t : ℕ) (b c : Bool) → c ≡ not b → low < h → a ≡ low + h * bit b → t ≡ low + h * bit c → ((a < h) × (t ≡ a + h)) ⊎ ((h ≤ a) × (t + h ≡ a))
+turned_cases h low a t true c e l p q = let r = q ∙ ap (λ x. low + h * bit x) e in inr (omega arith, omega (arith, r))
+turned_cases h low a t false c e l p q = let r = q ∙ ap (λ x. low + h * bit x) e in inl (omega arith, omega (arith, r))
+
 turned_number : (v : List Bool) (a t : List ℤ) (n : ℕ) → 0 < length a → All (IsOver n) a → t ≡ take (length a - 1) a ++ neg_ℤ (get_or a (length a - 1) (pos 1)) ∷ [] →
     ((number v a < 2 ^ (length a - 1)) × (number v t ≡ number v a + 2 ^ (length a - 1))) ⊎ ((2 ^ (length a - 1) ≤ number v a) × (number v t + 2 ^ (length a - 1) ≡ number v a))
-turned_number v a t n some over is = ?
+turned_number v a t n some over is =
+    let x : ℤ = get_or a (length a - 1) (pos 1) in
+    let x_is : x ≡ get_or a (length a - 1) x = get_or_default a (length a - 1) (pos 1) x (omega (arith, some)) in
+    let over_x : IsOver n x = All-get_or (IsOver n) a (length a - 1) (pos 1) (omega (arith, some)) over in
+    let whole = top_bit v a x some x_is in
+    let kept : length (take (length a - 1) a) ≡ length a - 1 = length-take-le (length a - 1) a (omega arith) in
+    let turned_whole : number v t ≡ number v (take (length a - 1) a) + 2 ^ (length a - 1) * bit (truth v (neg_ℤ x)) =
+    ap (number v) is ∙ number-push v (take (length a - 1) a) (neg_ℤ x) ∙ ap (λ k. number v (take (length a - 1) a) + 2 ^ k * bit (truth v (neg_ℤ x))) kept in
+    turned_cases (2 ^ (length a - 1)) (number v (take (length a - 1) a)) (number v a) (number v t) (truth v x) (truth v (neg_ℤ x)) (truth_neg v x over_x.0) (low_below v a (length a - 1) (omega arith)) whole turned_whole
+
+same_less : (a b c d : ℕ) → (a < b → c < d) → (b ≤ a → d ≤ c) → nat_lt a b ≡ nat_lt c d
+same_less a b c d f g = elim (cases_lt a b) [ inl l ↦ lt-ltb a b l ∙ sym (lt-ltb c d (f l)) | inr m ↦ le-ltb a b m ∙ sym (le-ltb c d (g m)) ]
+
+signed_less : (w a b c d : ℕ) → 0 < w → a < 2 ^ w → b < 2 ^ w → ((a < 2 ^ (w - 1)) × (c ≡ a + 2 ^ (w - 1))) ⊎ ((2 ^ (w - 1) ≤ a) × (c + 2 ^ (w - 1) ≡ a)) →
+    ((b < 2 ^ (w - 1)) × (d ≡ b + 2 ^ (w - 1))) ⊎ ((2 ^ (w - 1) ≤ b) × (d + 2 ^ (w - 1) ≡ b)) → int_lt (words.signed w a) (words.signed w b) ≡ nat_lt c d
+signed_less w a b c d some p q (inl s) (inl t) = rw (signed_pos w a s.0, signed_pos w b t.0) (same_less a b c d (λ l. omega arith) (λ l. omega arith))
+signed_less w a b c d some p q (inl s) (inr t) = rw (signed_pos w a s.0, signed_neg w b t.0 q) (sym (le-ltb c d (omega (arith, halves w some))))
+signed_less w a b c d some p q (inr s) (inl t) = rw (signed_neg w a s.0 p, signed_pos w b t.0) (sym (lt-ltb c d (omega (arith, halves w some))))
+signed_less w a b c d some p q (inr s) (inr t) = rw (signed_neg w a s.0 p, signed_neg w b t.0 q) (same_less (2 ^ w - 1 - b) (2 ^ w - 1 - a) c d (λ l. omega arith) (λ l. omega arith))
+
+pub less_signed_made : {E : Type 0} (old new : ClauseSet) (a b s t : List ℤ) (result : Result ℤ E) → 0 < length a → length a ≡ length b → All (IsOver old.variables) a → All (IsOver old.variables) b →
+    s ≡ take (length a - 1) a ++ neg_ℤ (get_or a (length a - 1) (pos 1)) ∷ [] → t ≡ take (length b - 1) b ++ neg_ℤ (get_or b (length b - 1) (pos 1)) ∷ [] → length s ≡ length a →
+    IfOk result (λ out. MakesBit old new (48 * length s) out (λ v. nat_lt (number v s) (number v t))) →
+    IfOk result (λ out. MakesBit old new (48 * length a) out (λ v. int_lt (words.signed (length a) (number v a)) (words.signed (length a) (number v b))))
+less_signed_made old new a b s t (Ok out) some same over_a over_b s_is t_is long made = record {
+  builds = subst (λ n. Builds old new (48 * n)) long made.builds;
+  over = made.over;
+  is = λ v h.
+    let some_b : 0 < length b = omega (arith, some, same) in
+    made.is v h
+    ∙ sym (signed_less (length a) (number v a) (number v b) (number v s) (number v t) some (number-below v a) (subst (λ n. number v b < 2 ^ n) (sym same) (number-below v b))
+    (turned_number v a s old.variables some over_a s_is)
+    (subst (λ n. ((number v b < 2 ^ (n - 1)) × (number v t ≡ number v b + 2 ^ (n - 1))) ⊎ ((2 ^ (n - 1) ≤ number v b) × (number v t + 2 ^ (n - 1) ≡ number v b))) (sym same) (turned_number v b t old.variables some_b over_b t_is)));
+}
+less_signed_made old new a b s t (Err e) some same over_a over_b s_is t_is long made = made
+
+pub turned_long : (a t : List ℤ) → 0 < length a → t ≡ take (length a - 1) a ++ neg_ℤ (get_or a (length a - 1) (pos 1)) ∷ [] → length t ≡ length a
+turned_long a t some is =
+    ap length is ∙ length-append (take (length a - 1) a) (neg_ℤ (get_or a (length a - 1) (pos 1)) ∷ []) ∙ omega (arith, some, length-take-le (length a - 1) a (omega arith))
+
+-- ---- choices
+
+bit_one : (b : Bool) (m n : ℕ) → cond b m n ≡ cond (nat_eq (bit b) 1) m n
+bit_one true m n = refl
+bit_one false m n = refl
+
+pub chosen_result : {E : Type 0} (old new : ClauseSet) (c a b : List ℤ) (x : ℤ) (cost : ℕ) (result : Result (Vec ℤ Global) E) → length c ≡ 1 → x ≡ get_or c 0 x → 36 * length a ≤ cost →
+    IfOk result (λ out. MakesWord old new (36 * length a) out.items (length a) (λ v. cond (truth v x) (number v a) (number v b))) →
+    IfOk result (λ out. MakesWord old new cost out.items (length a) (λ v. cond (nat_eq (number v c) 1) (number v a) (number v b)))
+chosen_result old new [] a b x cost result long x_is le word = let none : ⊥ = omega (arith, long) in absurd none
+chosen_result old new (y ∷ []) a b x cost result long x_is le word =
+    cheaper_result old new (36 * length a) cost (length a) (λ v. cond (truth v x) (number v a) (number v b)) (λ v. cond (nat_eq (number v (y ∷ [])) 1) (number v a) (number v b)) result word le
+    (λ v.
+    bit_one (truth v x) (number v a) (number v b)
+    ∙ ap (λ n. cond (nat_eq n 1) (number v a) (number v b)) (ap (λ l. bit (truth v l)) x_is ∙ (let e : bit (truth v y) ≡ bit (truth v y) + 2 * 0 = omega arith in e)))
+chosen_result old new (y ∷ z ∷ c) a b x cost result long x_is le word = let none : ⊥ = omega (arith, long) in absurd none

@@ -61,7 +61,7 @@ fn subtracted(alloc: Global, gates: &mut Gates, a: &[Lit], b: &[Lit]) -> Result<
     requires over { All (IsOver gates.old.variables) a.now × All (IsOver gates.old.variables) b.now }
     ensures { IfOk result (λ out. MakesWord gates.old gates.new (72 * length a.now) out.items (length a.now) (λ v. words.sub (length a.now) (number v a.now) (number v b.now))) }
 {
-    let (out, _) = difference(alloc, gates, a, b)?;
+    let (out, _borrowed) = difference(alloc, gates, a, b)?;
     Ok(out)
 }
 
@@ -71,7 +71,7 @@ fn quotient(alloc: Global, gates: &mut Gates, a: &[Lit], b: &[Lit]) -> Result<Ve
     requires over { All (IsOver gates.old.variables) a.now × All (IsOver gates.old.variables) b.now }
     ensures { IfOk result (λ out. MakesWord gates.old gates.new (180 * length a.now * length a.now) out.items (length a.now) (λ v. words.udiv (length a.now) (number v a.now) (number v b.now))) }
 {
-    let (out, _) = divided(alloc, gates, a, b)?;
+    let (out, _remainder) = divided(alloc, gates, a, b)?;
     Ok(out)
 }
 
@@ -81,7 +81,7 @@ fn remainder(alloc: Global, gates: &mut Gates, a: &[Lit], b: &[Lit]) -> Result<V
     requires over { All (IsOver gates.old.variables) a.now × All (IsOver gates.old.variables) b.now }
     ensures { IfOk result (λ out. MakesWord gates.old gates.new (180 * length a.now * length a.now) out.items (length a.now) (λ v. words.urem (number v a.now) (number v b.now))) }
 {
-    let (_, out) = divided(alloc, gates, a, b)?;
+    let (_quotient, out) = divided(alloc, gates, a, b)?;
     Ok(out)
 }
 
