@@ -7,3 +7,4 @@ pub mod Words
 pub mod Shifts
 pub mod Products
 pub mod Operating
+pub mod Marks

@@ -5,3 +5,4 @@ pub mod Adding
 pub mod Shifting
 pub mod Dividing
 pub mod Cost
+pub mod Marking

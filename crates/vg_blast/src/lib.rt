@@ -6,6 +6,7 @@ mod bitwise;
 mod comparing;
 mod gate;
 mod gates;
+mod marking;
 mod multiplying;
 mod net;
 mod operation;
