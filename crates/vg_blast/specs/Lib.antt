@@ -6,3 +6,5 @@ pub mod Shifting
 pub mod Dividing
 pub mod Cost
 pub mod Marking
+pub mod Blasting
+pub mod State

@@ -1,8 +1,8 @@
 // Gates that are built once each: a table tells which stand.
 
-ghost use Rattle.std.specs.Prelude.{◌≡◌, ◌&&◌, ◌||◌, pos, negsuc, IfOk};
+ghost use Rattle.std.specs.Prelude.{◌≡◌, ◌&&◌, ◌||◌, ◌+◌, ◌∷◌, [], All, pos, negsuc, IfOk, OnOk};
 ghost use Rattle.vg_cnf.specs.Clauses.{IsOver};
-ghost use Rattle.vg_blast.specs.Circuits.{MakesBit, IsNet, truth as literal_truth, differ, choose, most};
+ghost use Rattle.vg_blast.specs.Circuits.{Adds, MakesBit, IsNet, literals, truth as literal_truth, differ, choose, most};
 ghost use Rattle.vg_blast.specs.Gates.{AreInputs, gate_value};
 
 use crate::gate::{Gate, and_gate, folded_and, folded_xor, truth, with_signs, xor_gate};
@@ -63,6 +63,47 @@ impl Gates {
         ensures stood { IsNet self.now }
     {
         self.truth().negated()
+    }
+
+    /// A new variable, of which no clause speaks yet.
+    pub fn fresh(&mut self) -> Result<Lit, AllocError>
+        ensures one_more { OnOk result (self.new ≡ record self.old { variables = self.old.variables + 1 }) }
+        ensures literal { IfOk result (λ l. l ≡ pos self.new.variables) }
+    {
+        self.net.fresh()
+    }
+
+    /// Adds a clause, but for one that holds a literal along with its negation, which is true anyhow.
+    pub fn add(&mut self, clause: &[Lit]) -> Result<(), AllocError>
+        requires { All (IsOver self.old.variables) clause.now }
+        ensures adds { OnOk result (Adds self.old self.new clause.now) }
+    {
+        self.net.add(clause)
+    }
+
+    /// How many literals the clauses have together.
+    pub fn literal_count(&self) -> usize
+        ensures { result ≡ literals self.now }
+    {
+        self.net.literal_count()
+    }
+
+    /// No gates, and the clause that the first variable is true.
+    pub fn new(alloc: Global) -> Result<Self, AllocError>
+        ensures { IfOk result (λ gates. gates ≡ record { variables = 1; clauses = (pos 1 ∷ []) ∷ [] }) }
+    {
+        let net = Net::new(alloc)?;
+        Ok(Gates {
+            net,
+            outputs: IndexMap::new(alloc),
+        })
+    }
+
+    /// The clauses.
+    pub fn into_clauses(self) -> Clauses
+        ensures { result ≡ self }
+    {
+        self.net.into_clauses()
     }
 
     /// Whether both are true.

@@ -11,4 +11,8 @@ mod multiplying;
 mod net;
 mod operation;
 mod shifting;
+mod stops;
+mod terms;
 mod wiring;
+
+pub use stops::BlastStop;

@@ -2,7 +2,7 @@
 
 ghost use Rattle.std.specs.Prelude.{◌≡◌, ◌<◌, ◌+◌, ◌&&◌, pos, [], ◌∷◌, All, IfOk, OnOk};
 ghost use Rattle.vg_cnf.specs.Clauses.{IsOver};
-ghost use Rattle.vg_blast.specs.Circuits.{Adds, Grows, IsNet, MakesBit, truth, differ};
+ghost use Rattle.vg_blast.specs.Circuits.{Adds, Grows, IsNet, MakesBit, literals, truth, differ};
 ghost use Rattle.vg_blast.specs.Gates.{AreInputs, gate_value};
 
 use crate::gate::Gate;
@@ -102,6 +102,13 @@ impl Net {
         self.add(&[out, a.negated(), b])?;
         self.add(&[out, a, b.negated()])?;
         Ok(out)
+    }
+
+    /// How many literals the clauses have together.
+    pub fn literal_count(&self) -> usize
+        ensures { result ≡ literals self.now }
+    {
+        self.clauses.literal_count()
     }
 
     /// The clauses.
