@@ -8,3 +8,4 @@ pub mod Shifts
 pub mod Products
 pub mod Operating
 pub mod Marks
+pub mod Stating

@@ -216,7 +216,7 @@ zero_of zero h not_one = refl
 zero_of (suc zero) h not_one = absurd (not_one refl)
 zero_of (suc (suc n)) h not_one = let none : ⊥ = omega (arith, h) in absurd none
 
-bit_of : (n : ℕ) (set : Bool) → set ≡ nat_eq (n % 2) 1 → bit set ≡ n % 2
+pub bit_of : (n : ℕ) (set : Bool) → set ≡ nat_eq (n % 2) 1 → bit set ≡ n % 2
 bit_of n set e =
     let below : n % 2 < 2 = mod_below n 2 (omega arith) in
     elim (eqb_tells (n % 2) 1) [
