@@ -9,3 +9,4 @@ pub mod Products
 pub mod Operating
 pub mod Marks
 pub mod Stating
+pub mod Inputs
