@@ -1,5 +1,5 @@
 -- New variables for the bits of a variable, and terms that need none.
-use Rattle.std.proofs.Common.{◌≡◌, ℕ, zero, suc, ◌+◌, ◌-◌, ◌*◌, ◌/◌, ◌%◌, ◌^◌, ◌<◌, ◌≤◌, List, [], ◌∷◌, ◌++◌, length, get_or, slice_get, Some, None, Bool, true, false, cond, ◌⊎◌, refl, sym, ap, subst, ◌∙◌, inl, inr, arith, All, Contains, add-one, length-append, append_assoc}
+use Rattle.std.proofs.Common.{◌≡◌, ℕ, zero, suc, ◌+◌, ◌-◌, ◌*◌, ◌/◌, ◌%◌, ◌^◌, ◌<◌, ◌≤◌, List, [], ◌∷◌, ◌++◌, length, get_or, slice_get, Some, None, Bool, true, false, cond, ◌⊎◌, refl, sym, ap, subst, ◌∙◌, inl, inr, arith, All, Contains, add-one, length-append, append_assoc, Result, Ok, Err, OnOk}
 use Rattle.std.specs.Prelude.{ℤ, pos, unsigned_abs, nat_eq, sum_by}
 use Rattle.std.specs.List.{AllPairs}
 use Rattle.std.specs.Int.{bit_at}
@@ -9,7 +9,7 @@ use Rattle.std.proofs.lemmas.List.Quantifiers.{all_pairs_push}
 use Rattle.std.proofs.Math.Seq.{get_or-append_seam}
 use Rattle.std.proofs.lemmas.Nat.{mod-pow-add}
 use Rattle.std.proofs.Math.Nat.{mod-eq_of_lt, mod-one}
-use Rattle.std.proofs.lemmas.Bool.{true≢false}
+use Rattle.std.proofs.lemmas.Bool.{true≢false, cases_lt}
 use Rattle.vg_bits.specs.Words.{bit}
 use Rattle.vg_bits.specs.declared.word.Word.{Word}
 use Rattle.vg_cnf.specs.Clauses.{ClauseSet, IsOver, IsClauseOver, IsModel, makes_all_true}
@@ -22,10 +22,10 @@ use Rattle.vg_term.specs.declared.node.Node.TheVariants as nodes
 use Rattle.vg_term.proofs.Made.{comes_next}
 use Rattle.vg_term.proofs.Values.{value_follows}
 use Rattle.vg_blast.specs.Circuits.{truth, number, literals, Holds, IsNet}
-use Rattle.vg_blast.specs.Cost.{entry_cost}
+use Rattle.vg_blast.specs.Cost.{entry_cost, parts_at, parts_in}
 use Rattle.vg_blast.specs.Marking.{is_marked}
 use Rattle.vg_blast.specs.Blasting.{BitName, IsSameBit, IsVariable, IsNamed, Agrees, Agree, AreNames}
-use Rattle.vg_blast.specs.State.{word_at, MakesOperation, new_literals, new_names, IsWordOf, IsState}
+use Rattle.vg_blast.specs.State.{word_at, MakesOperation, new_literals, new_names, IsWordOf, IsState, AddsOperation, added_to}
 use Rattle.vg_blast.proofs.Truths.{truth_more, truth_new, holds_more}
 use Rattle.vg_blast.proofs.Numbers.{number-push}
 use Rattle.vg_blast.proofs.Words.{bit_of}
@@ -248,3 +248,58 @@ skipped_state terms marks n set lists names id at state not_marked =
     (λ words assigns. let before = state.models words assigns in (before.0, before.1, subst (Agree before.0 terms words) (sym (append-nil names)) before.2))
     (λ m. absurd (true≢false (sym m ∙ not_marked)))
     (omega arith))
+
+-- ---- the same of results
+
+parts_are : (terms : List Term) (id : TermId) (op : Op) (parts : Parts) (w : ℕ) → slice_get terms id.0 ≡ Some (nodes.Op op parts, w) → parts_at terms id ≡ listed parts
+parts_are terms id op parts w here = ap parts_in here
+
+pub closed_parts : (terms : List Term) (marks : List Bool) (id : TermId) (op : Op) (parts : Parts) (w : ℕ) → slice_get terms id.0 ≡ Some (nodes.Op op parts, w) → All (λ part. is_marked marks part ≡ true) (parts_at terms id) →
+    All (λ part. is_marked marks part ≡ true) (listed parts)
+closed_parts terms marks id op parts w here closed = subst (All (λ part. is_marked marks part ≡ true)) (parts_are terms id op parts w here) closed
+
+pub variable_result : {A E : Type 0} {terms : List Term} → AreTerms terms → (marks : List Bool) (set new : ClauseSet) (lists more : List (List ℤ)) (names entries : List BitName) (id : TermId) (index width : ℕ) (result : Result A E) → IsState terms marks id.0 set lists names →
+    IsNet set → slice_get terms id.0 ≡ Some (nodes.Var index width, width_at terms id) → OnOk result (new ≡ record set { variables = set.variables + width }) → OnOk result (entries ≡ names ++ new_names id set.variables width) →
+    OnOk result (more ≡ lists ++ new_literals set.variables width ∷ []) → OnOk result (IsState terms marks (id.0 + 1) new more entries)
+variable_result {terms = terms} made marks set new lists more names entries id index width (Ok x) state net here new_is entries_are more_is =
+    subst (λ ls. IsState terms marks (id.0 + 1) new ls entries) (sym more_is)
+    (subst (IsState terms marks (id.0 + 1) new (lists ++ new_literals set.variables width ∷ [])) (sym entries_are)
+    (variable_state made marks id.0 set new lists names (new_literals set.variables width) id index width refl state net here new_is refl))
+variable_result made marks set new lists more names entries id index width (Err e) state net here new_is entries_are more_is = more_is
+
+pub operation_result : {A E : Type 0} {terms : List Term} → AreTerms terms → (marks : List Bool) (set new : ClauseSet) (lists more : List (List ℤ)) (names entries : List BitName) (id : TermId) (op : Op) (parts : Parts) (w : ℕ) (result : Result A E) →
+    IsState terms marks id.0 set lists names → is_marked marks id ≡ true → slice_get terms id.0 ≡ Some (nodes.Op op parts, w) → All (λ part. is_marked marks part ≡ true) (parts_at terms id) →
+    OnOk result (AddsOperation set new lists more op (listed parts)) → OnOk result (entries ≡ names) → OnOk result (IsState terms marks (id.0 + 1) new more entries)
+operation_result {terms = terms} made marks set new lists more names entries id op parts w (Ok x) state marked here closed adds entries_are =
+    subst (λ ls. IsState terms marks (id.0 + 1) new ls entries) (sym adds.lists_are)
+    (subst (IsState terms marks (id.0 + 1) new (lists ++ adds.word ∷ [])) (sym entries_are)
+    (operation_state made marks id.0 set new lists names adds.word id op parts w refl state marked here (closed_parts terms marks id op parts w here closed) adds.makes))
+operation_result made marks set new lists more names entries id op parts w (Err e) state marked here closed adds entries_are = entries_are
+
+-- ---- for no terms
+
+first_holds : (terms : List Term) (words : List Word) → IsModel (true ∷ []) (record { variables = 1; clauses = (pos 1 ∷ []) ∷ [] })
+first_holds terms words = record { each_variable = refl; each_clause = refl }
+
+pub first_state : (terms : List Term) (marks : List Bool) (set : ClauseSet) (lists : List (List ℤ)) (names : List BitName) → set ≡ record { variables = 1; clauses = (pos 1 ∷ []) ∷ [] } → lists ≡ [] → names ≡ [] → IsState terms marks 0 set lists names
+first_state terms marks set lists names set_is lists_are names_are =
+    subst (λ s. IsState terms marks 0 s lists names) (sym set_is)
+    (subst (λ ls. IsState terms marks 0 (record { variables = 1; clauses = (pos 1 ∷ []) ∷ [] }) ls names) (sym lists_are)
+    (subst (IsState terms marks 0 (record { variables = 1; clauses = (pos 1 ∷ []) ∷ [] }) []) (sym names_are) (record {
+      count = refl;
+      each = λ id below marked. let none : ⊥ = omega (arith, below) in absurd none;
+      names_ok = record { named = All-nil (IsNamed terms 1); once = λ i j d h k. let none : ⊥ = omega (arith, h, k) in absurd none };
+      low = All-nil (λ name. name.0.0 < 0);
+      models = λ words assigns. (true ∷ [], first_holds terms words, All-nil (Agrees (true ∷ []) terms words));
+      added = omega arith;
+    })))
+
+-- what is added only grows
+pub added_grows : (terms : List Term) (marks : List Bool) (m n : ℕ) → m ≤ n → added_to terms marks m ≤ added_to terms marks n
+added_grows terms marks zero n h = omega arith
+added_grows terms marks (suc m) zero h = let none : ⊥ = omega (arith, h) in absurd none
+added_grows terms marks (suc m) (suc n) h =
+    elim (cases_lt m n) [
+      | inl less ↦ omega (arith, added_grows terms marks (suc m) n (omega (arith, less)))
+      | inr past ↦ let e : n ≡ m = omega (arith, past, h) in subst (λ k. added_to terms marks (suc m) ≤ added_to terms marks (suc k)) (sym e) (omega arith)
+    ]

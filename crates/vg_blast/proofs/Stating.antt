@@ -58,6 +58,9 @@ cost_within op m n h = omega (arith, cost_grows op m n h)
 word_is : (lists : List (List ℤ)) (a : TermId) (slice : List ℤ) → slice_get lists a.0 ≡ Some slice → slice ≡ word_at lists a
 word_is lists a slice e = sym (get_or_from_slice_get lists a.0 slice [] e)
 
+pub part_over : (lists : List (List ℤ)) (n : ℕ) (a : TermId) (slice : List ℤ) → slice_get lists a.0 ≡ Some slice → All (IsOver n) (word_at lists a) → All (IsOver n) slice
+part_over lists n a slice here over = subst (All (IsOver n)) (sym (word_is lists a slice here)) over
+
 pub none_made : {E : Type 0} (old new : ClauseSet) (lists : List (List ℤ)) (op : Op) (parts : Parts) (result : Result (Vec ℤ Global) E) → listed parts ≡ [] →
     IfOk result (λ out. MakesWord old new 0 out.items (width_of op []) (λ v. answer op [])) → IfOk result (λ out. MakesOperation old new lists op (listed parts) out.items)
 none_made old new lists op parts result is made =
@@ -225,7 +228,7 @@ module _ {terms : List Term} (made : AreTerms terms) {marks : List Bool} {n : �
 -- ---- one more term
 
 -- the words of the terms before stay where clauses are added
-agree_before : (v : List Bool) (terms : List Term) (words : List Word) (names more : List BitName) → Agree v terms words (names ++ more) → Agree v terms words names
+pub agree_before : (v : List Bool) (terms : List Term) (words : List Word) (names more : List BitName) → Agree v terms words (names ++ more) → Agree v terms words names
 agree_before v terms words names more agree =
     λ k d h.
       subst (Agrees v terms words) (get_or_append_left names more d k h) (agree k d (omega (arith, h, length-append names more)))

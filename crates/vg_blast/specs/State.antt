@@ -42,6 +42,12 @@ abbrev pub MakesOperation : ClauseSet → ClauseSet → List (List ℤ) → Op �
 MakesOperation old new words op parts out =
     MakesWord old new (most_added words op parts) out (width_of op (map (part_width words) parts)) (λ v. answer op (map (part_bits v words) parts))
 
+-- one more word, of an operation on parts
+pub record AddsOperation (old new : ClauseSet) (lists more : List (List ℤ)) (op : Op) (parts : List TermId) : Type 0 where
+  pub word : List ℤ
+  pub makes : MakesOperation old new lists op parts word
+  pub lists_are : more ≡ lists ++ word ∷ []
+
 -- ---- new variables
 
 -- the literals of w new variables after n
