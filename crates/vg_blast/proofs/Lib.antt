@@ -10,3 +10,4 @@ pub mod Operating
 pub mod Marks
 pub mod Stating
 pub mod Inputs
+pub mod Requiring

@@ -8,3 +8,4 @@ pub mod Cost
 pub mod Marking
 pub mod Blasting
 pub mod State
+pub mod Facts

@@ -4,6 +4,7 @@
 mod adding;
 mod bitwise;
 mod comparing;
+mod facts;
 mod gate;
 mod gates;
 mod marking;

@@ -17,7 +17,7 @@ pub(crate) enum Follow {
 }
 
 /// Where one goes on to from a term.
-fn next(terms: &Terms, follow: Follow, id: TermId) -> Parts
+pub(crate) fn next(terms: &Terms, follow: Follow, id: TermId) -> Parts
     requires { Stands terms.now id }
     ensures parts { listed result ≡ followed follow terms.now id }
     ensures made { AreTerms terms.now }
