@@ -11,3 +11,4 @@ pub mod Marks
 pub mod Stating
 pub mod Inputs
 pub mod Requiring
+pub mod Blasts

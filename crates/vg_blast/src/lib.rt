@@ -3,6 +3,7 @@
 
 mod adding;
 mod bitwise;
+mod blasting;
 mod comparing;
 mod facts;
 mod gate;
@@ -16,4 +17,6 @@ mod stops;
 mod terms;
 mod wiring;
 
+pub use blasting::{Blasted, blast};
 pub use stops::BlastStop;
+pub use terms::MOST_LITERALS;
