@@ -12,3 +12,4 @@ pub mod Stating
 pub mod Inputs
 pub mod Requiring
 pub mod Blasts
+pub mod Costs

@@ -1,6 +1,6 @@
 // Which terms are reached from some.
 
-ghost use Rattle.std.specs.Prelude.{◌≡◌, ◌<◌, length, All, IfOk, if◌then◌else◌};
+ghost use Rattle.std.specs.Prelude.{◌≡◌, ◌<◌, length, All, IfOk, OnOk, if◌then◌else◌};
 ghost use Rattle.vg_term.specs.Terms.{AreTerms, Stands, listed};
 ghost use Rattle.vg_blast.specs.Marking.{AreMarks, AreStarts, followed, is_marked, marked};
 
@@ -77,7 +77,8 @@ fn starts(alloc: Global, terms: &Terms, from: &[TermId]) -> Result<Vec<bool>, Al
 /// Marks on all terms to which one goes on from some, by the terms' numbers.
 pub(crate) fn mark(alloc: Global, terms: &Terms, follow: Follow, from: &[TermId]) -> Result<Vec<bool>, AllocError>
     requires { All (Stands terms.now) from.now }
-    ensures { IfOk result (λ marks. AreMarks follow terms.now from.now 0 marks.items) }
+    ensures marks { IfOk result (λ marks. AreMarks follow terms.now from.now 0 marks.items) }
+    ensures made { OnOk result (AreTerms terms.now) }
 {
     let mut marks = starts(alloc, terms, from)?;
     let count = terms.len();
