@@ -13,3 +13,4 @@ pub mod Inputs
 pub mod Requiring
 pub mod Blasts
 pub mod Costs
+pub mod Assignments

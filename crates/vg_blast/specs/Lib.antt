@@ -9,3 +9,4 @@ pub mod Marking
 pub mod Blasting
 pub mod State
 pub mod Facts
+pub mod Assigning

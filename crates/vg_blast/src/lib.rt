@@ -2,6 +2,7 @@
 #![tactic(auto)]
 
 mod adding;
+mod assigning;
 mod bitwise;
 mod blasting;
 mod comparing;
@@ -17,6 +18,7 @@ mod stops;
 mod terms;
 mod wiring;
 
+pub use assigning::assignment;
 pub use blasting::{Blasted, blast};
 pub use stops::BlastStop;
 pub use terms::MOST_LITERALS;
