@@ -78,9 +78,9 @@ one_number made a b n v w x y p q =
     elim (cases_lt a.0 b.0) [
       | inl less ↦ let none : ⊥ = omega (arith, earlier made a.0 b.0 n n v w x y p q less) in absurd none
       | inr past ↦ elim (cases_lt b.0 a.0) [
-          | inl less ↦ let none : ⊥ = omega (arith, earlier made b.0 a.0 n n w v y x q p less) in absurd none
-          | inr also ↦ let e : a.0 ≡ b.0 = omega (arith, past, also) in (λ j. record { 0 = e j })
-        ]
+        | inl less ↦ let none : ⊥ = omega (arith, earlier made b.0 a.0 n n w v y x q p less) in absurd none
+        | inr also ↦ let e : a.0 ≡ b.0 = omega (arith, past, also) in (λ j. record { 0 = e j })
+      ]
     ]
 
 -- ---- zeros
@@ -107,15 +107,15 @@ zero_pushed {terms} made n number width w words new word here zeros wide none ne
     subst (AreZeros terms (n + 1)) (sym new_is) (record {
       count = length-append words (word ∷ []) ∙ (let c : variable_count (take (n + 1) terms) ≡ variable_count (take n terms) + 1 = count_more terms n (nodes.Var number width, w) here in omega (arith, c, zeros.count));
       each = λ at t h e.
-        elim (cases_lt at n) [
-          | inl before ↦ has_more words (word ∷ []) t (zeros.each at t before e)
-          | inr past ↦
-              let at_is : at ≡ n = omega (arith, h, past) in
-              let t_is : (nodes.Var number width, w) ≡ t = some_same (sym here ∙ ap (slice_get terms) (sym at_is) ∙ e) in
-              let last : slice_get (words ++ word ∷ []) number ≡ Some word =
-              slice_get-get_or (words ++ word ∷ []) number word (omega (arith, at_end, length-append words (word ∷ []))) ∙ ap Some (ap (λ k. get_or (words ++ word ∷ []) k word) at_end ∙ get_or-append_seam words word [] word) in
-              subst (HasItsWord (words ++ word ∷ [])) t_is (word, last, wide ∙ next.1)
-        ];
+          elim (cases_lt at n) [
+            | inl before ↦ has_more words (word ∷ []) t (zeros.each at t before e)
+            | inr past ↦
+                let at_is : at ≡ n = omega (arith, h, past) in
+                let t_is : (nodes.Var number width, w) ≡ t = some_same (sym here ∙ ap (slice_get terms) (sym at_is) ∙ e) in
+                let last : slice_get (words ++ word ∷ []) number ≡ Some word =
+                slice_get-get_or (words ++ word ∷ []) number word (omega (arith, at_end, length-append words (word ∷ []))) ∙ ap Some (ap (λ k. get_or (words ++ word ∷ []) k word) at_end ∙ get_or-append_seam words word [] word) in
+                subst (HasItsWord (words ++ word ∷ [])) t_is (word, last, wide ∙ next.1)
+          ];
       zero_each = λ i v e. elim (last_or_before words word v i e) [ inl before ↦ zeros.zero_each i v before | inr same ↦ sym (ap (λ (x : Word). x.value) same) ∙ none ];
     })
 
@@ -123,13 +123,13 @@ pub zero_kept : {terms : List Term} (n w : ℕ) (op : Op) (parts : Parts) (words
 zero_kept {terms} n w op parts words here zeros = record {
   count = let c : variable_count (take (n + 1) terms) ≡ variable_count (take n terms) + 0 = count_more terms n (nodes.Op op parts, w) here in omega (arith, c, zeros.count);
   each = λ at t h e.
-    elim (cases_lt at n) [
-      | inl before ↦ zeros.each at t before e
-      | inr past ↦
-          let at_is : at ≡ n = omega (arith, h, past) in
-          let t_is : (nodes.Op op parts, w) ≡ t = some_same (sym here ∙ ap (slice_get terms) (sym at_is) ∙ e) in
-          subst (HasItsWord words) t_is tt
-    ];
+      elim (cases_lt at n) [
+        | inl before ↦ zeros.each at t before e
+        | inr past ↦
+            let at_is : at ≡ n = omega (arith, h, past) in
+            let t_is : (nodes.Op op parts, w) ≡ t = some_same (sym here ∙ ap (slice_get terms) (sym at_is) ∙ e) in
+            subst (HasItsWord words) t_is tt
+      ];
   zero_each = zeros.zero_each;
 }
 
@@ -164,19 +164,19 @@ bit_set {terms} made words new id at n v w old more here assigns within old_is w
       assigns = λ k t e. set_assigns words n old more old_there within wide t (assigns k t e);
       same = λ was. ap (λ x. bit_at x at) (value_is made (set words n more) id n v w here ∙ ap assigned (get_set_same words n more within)) ∙ one;
       others = λ x i variable apart.
-        elim (eqb_tells variable.0 n) [
-          | inl same ↦
-              let x_here : slice_get terms x.0 ≡ Some (nodes.Var n (width_at terms x), width_at terms x) = variable.1 ∙ ap (λ m. Some (nodes.Var m (width_at terms x), width_at terms x)) same.1 in
-              let x_is : x ≡ id = one_number made x id n (width_at terms x) v (width_at terms x) w x_here here in
-              ap (λ y. bit_at y i) (value_is made (set words n more) x n (width_at terms x) (width_at terms x) x_here ∙ ap assigned (get_set_same words n more within))
-              ∙ others i (λ i_is. apart (x_is, i_is))
-              ∙ sym (ap (λ y. bit_at y i) (value_is made words x n (width_at terms x) (width_at terms x) x_here ∙ ap assigned old_there))
-          | inr other ↦
-              let word = assigns x.0 (nodes.Var variable.0 (width_at terms x), width_at terms x) variable.1 in
-              ap (λ y. bit_at y i)
-              (value_is made (set words n more) x variable.0 (width_at terms x) (width_at terms x) variable.1 ∙ ap assigned (get_set_other words n variable.0 more word.0 other.1 word.1)
-              ∙ sym (value_is made words x variable.0 (width_at terms x) (width_at terms x) variable.1 ∙ ap assigned word.1))
-        ];
+          elim (eqb_tells variable.0 n) [
+            | inl same ↦
+                let x_here : slice_get terms x.0 ≡ Some (nodes.Var n (width_at terms x), width_at terms x) = variable.1 ∙ ap (λ m. Some (nodes.Var m (width_at terms x), width_at terms x)) same.1 in
+                let x_is : x ≡ id = one_number made x id n (width_at terms x) v (width_at terms x) w x_here here in
+                ap (λ y. bit_at y i) (value_is made (set words n more) x n (width_at terms x) (width_at terms x) x_here ∙ ap assigned (get_set_same words n more within))
+                ∙ others i (λ i_is. apart (x_is, i_is))
+                ∙ sym (ap (λ y. bit_at y i) (value_is made words x n (width_at terms x) (width_at terms x) x_here ∙ ap assigned old_there))
+            | inr other ↦
+                let word = assigns x.0 (nodes.Var variable.0 (width_at terms x), width_at terms x) variable.1 in
+                ap (λ y. bit_at y i)
+                (value_is made (set words n more) x variable.0 (width_at terms x) (width_at terms x) variable.1 ∙ ap assigned (get_set_other words n variable.0 more word.0 other.1 word.1)
+                ∙ sym (value_is made words x variable.0 (width_at terms x) (width_at terms x) variable.1 ∙ ap assigned word.1))
+          ];
     })
 
 pub bit_kept : (terms : List Term) (words : List Word) (id : TermId) (at : ℕ) → Assigns words terms → SetsBit terms words words id at false
@@ -191,10 +191,10 @@ filled_none {terms} made values words names n are zeros =
       assigns = assigns;
       done = λ j d h k. let none : ⊥ = omega (arith, h) in absurd none;
       left = λ j d h k.
-        let name = get_or names j d in
-        let variable = (are.named j d k).variable in
-        let word = assigns name.0.0 (nodes.Var variable.0 (width_at terms name.0), width_at terms name.0) variable.1 in
-        ap (λ y. bit_at y name.1) (value_is made words name.0 variable.0 (width_at terms name.0) (width_at terms name.0) variable.1 ∙ ap assigned word.1 ∙ zeros.zero_each variable.0 word.0 word.1) ∙ bit_at-zero name.1;
+          let name = get_or names j d in
+          let variable = (are.named j d k).variable in
+          let word = assigns name.0.0 (nodes.Var variable.0 (width_at terms name.0), width_at terms name.0) variable.1 in
+          ap (λ y. bit_at y name.1) (value_is made words name.0 variable.0 (width_at terms name.0) (width_at terms name.0) variable.1 ∙ ap assigned word.1 ∙ zeros.zero_each variable.0 word.0 word.1) ∙ bit_at-zero name.1;
     }
 
 pub filled_more : (values : List Bool) (terms : List Term) (words new : List Word) (names : List BitName) (n k : ℕ) (name : BitName) (holds : Bool) → AreNames terms n names → k < length names → name ≡ get_or names k name → holds ≡ truth values name.2 →
@@ -202,25 +202,25 @@ pub filled_more : (values : List Bool) (terms : List Term) (words new : List Wor
 filled_more values terms words new names n k name holds are h name_is holds_is filled sets =
     let apart : (j : ℕ) (d : BitName) → (j ≡ k → ⊥) → j < length names → ((get_or names j d).0 ≡ name.0) × ((get_or names j d).1 ≡ name.1) → ⊥ =
     λ j d other within same.
-      let here : get_or names k d ≡ name = get_or_default names k d name h ∙ sym name_is in
-      elim (cases_lt j k) [
-        | inl less ↦ are.once j k d less h (same.0 ∙ sym (ap (λ (b : BitName). b.0) here), same.1 ∙ sym (ap (λ (b : BitName). b.1) here))
-        | inr past ↦ are.once k j d (omega (arith, past, other)) within (ap (λ (b : BitName). b.0) here ∙ sym same.0, ap (λ (b : BitName). b.1) here ∙ sym same.1)
-      ] in
+    let here : get_or names k d ≡ name = get_or_default names k d name h ∙ sym name_is in
+    elim (cases_lt j k) [
+      | inl less ↦ are.once j k d less h (same.0 ∙ sym (ap (λ (b : BitName). b.0) here), same.1 ∙ sym (ap (λ (b : BitName). b.1) here))
+      | inr past ↦ are.once k j d (omega (arith, past, other)) within (ap (λ (b : BitName). b.0) here ∙ sym same.0, ap (λ (b : BitName). b.1) here ∙ sym same.1)
+    ] in
     record {
       assigns = sets.assigns;
       done = λ j d lower within.
-        elim (eqb_tells j k) [
-          | inl same ↦
-              let here : get_or names j d ≡ name = ap (λ i. get_or names i d) same.1 ∙ get_or_default names k d name h ∙ sym name_is in
-              let zero_before : bit_of_term terms words name.0 name.1 ≡ 0 =
-              subst (λ (b : BitName). bit_of_term terms words b.0 b.1 ≡ 0) (get_or_default names k d name h ∙ sym name_is) (filled.left k d (λ l. omega (arith, l)) h) in
-              subst (λ (b : BitName). bit (truth values b.2) ≡ bit_of_term terms new b.0 b.1) (sym here) (sym (sets.same zero_before ∙ ap bit holds_is))
-          | inr other ↦
-              filled.done j d (omega (arith, lower, other.1)) within
-              ∙ sym (sets.others (get_or names j d).0 (get_or names j d).1 (are.named j d within).variable (apart j d other.1 within))
-        ];
+          elim (eqb_tells j k) [
+            | inl same ↦
+                let here : get_or names j d ≡ name = ap (λ i. get_or names i d) same.1 ∙ get_or_default names k d name h ∙ sym name_is in
+                let zero_before : bit_of_term terms words name.0 name.1 ≡ 0 =
+                subst (λ (b : BitName). bit_of_term terms words b.0 b.1 ≡ 0) (get_or_default names k d name h ∙ sym name_is) (filled.left k d (λ l. omega (arith, l)) h) in
+                subst (λ (b : BitName). bit (truth values b.2) ≡ bit_of_term terms new b.0 b.1) (sym here) (sym (sets.same zero_before ∙ ap bit holds_is))
+            | inr other ↦
+                filled.done j d (omega (arith, lower, other.1)) within
+                ∙ sym (sets.others (get_or names j d).0 (get_or names j d).1 (are.named j d within).variable (apart j d other.1 within))
+          ];
       left = λ j d past within.
-        let other : j ≡ k → ⊥ = λ e. past (omega (arith, e)) in
-        sets.others (get_or names j d).0 (get_or names j d).1 (are.named j d within).variable (apart j d other within) ∙ filled.left j d (λ l. past (omega (arith, l))) within;
+          let other : j ≡ k → ⊥ = λ e. past (omega (arith, e)) in
+          sets.others (get_or names j d).0 (get_or names j d).1 (are.named j d within).variable (apart j d other within) ∙ filled.left j d (λ l. past (omega (arith, l))) within;
     }

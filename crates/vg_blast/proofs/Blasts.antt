@@ -168,25 +168,24 @@ blasted {terms} made facts marks asserted old new lists names bits stand flags a
     subst (IsBlasted terms facts new) (sym bits_are) (record {
       names_ok = record { named = subst (λ n. All (IsNamed terms n) names) (sym required.variables) state.names_ok.named; once = state.names_ok.once };
       sound = λ words assigns true_facts.
-        let before = state.models words assigns in
-        let v = before.0 in
-        let small : (id : TermId) → Follows follow.Parts terms facts id → width_at terms id ≡ 1 → value_of terms words id < 2 =
-        λ id reached flag.
+          let before = state.models words assigns in
+          let v = before.0 in
+          let small : (id : TermId) → Follows follow.Parts terms facts id → width_at terms id ≡ 1 → value_of terms words id < 2 =
+          λ id reached flag.
           let marked = all_marked follow.Parts are_marks id reached in
           let word = state.each id (stands_marked terms marks are_marks.long id marked) marked in
           let is = word.is words v assigns before.1.each_clause before.2 in
-          subst (λ n. n < 2) is (subst (λ n. number v (word_at lists id) < 2 ^ n) (word.width ∙ flag) (number-below v (word_at lists id))) in
-        (
-          v,
-          record {
-            each_variable = before.1.each_variable ∙ sym required.variables;
-            each_clause = required.held words v assigns before.2 before.1.each_clause
-              (λ id within asked. followed_true made words facts small true_facts id (are_asserted.sound id (and_parts (is_marked asserted id) (is_leaf terms id) asked).0));
-          },
-          before.2,
-        );
+          subst (λ n. n < 2) is (subst (λ n. number v (word_at lists id) < 2 ^ n) (word.width ∙ flag) (number-below v (word_at lists id))) in (
+            v,
+            record {
+              each_variable = before.1.each_variable ∙ sym required.variables;
+              each_clause = required.held words v assigns before.2 before.1.each_clause
+                  (λ id within asked. followed_true made words facts small true_facts id (are_asserted.sound id (and_parts (is_marked asserted id) (is_leaf terms id) asked).0));
+            },
+            before.2,
+          );
       exact = λ values words model assigns agree.
-        λ k d h.
+          λ k d h.
           let fact : TermId = get_or facts k d in
           let within : fact.0 < length terms = stand k d h in
           asserted_true made words facts asserted are_asserted (required.sound words values assigns agree model.each_clause) (suc fact.0) fact (omega arith) within (are_asserted.starts k d h);

@@ -23,9 +23,9 @@ chained a b c m n cost first second le = record {
   variables = omega (arith, first.variables, second.variables);
   weaker = λ v h. first.weaker v (second.weaker v h);
   extends = λ v model.
-    let once = first.extends v model in
-    let twice = second.extends (v ++ once.0) once.1 in
-    (once.0 ++ twice.0, subst (λ w. IsModel w c) (append_assoc v once.0 twice.0) twice.1);
+      let once = first.extends v model in
+      let twice = second.extends (v ++ once.0) once.1 in
+      (once.0 ++ twice.0, subst (λ w. IsModel w c) (append_assoc v once.0 twice.0) twice.1);
   literals = omega (arith, first.literals, second.literals, le);
 }
 
@@ -65,11 +65,11 @@ choice_made old s t new c a b n taken left (Ok out) over is first second third =
   builds = chained old t new 24 12 36 (chained old s t 12 12 24 first.builds second.builds (omega arith)) third.builds (omega arith);
   over = third.over;
   is = λ v h.
-    let h2 = third.builds.weaker v h in
-    let h1 = second.builds.weaker v h2 in
-    let negated : truth v n ≡ not (truth v c) = ap (truth v) is ∙ truth_neg v c over.0 in
-    third.is v h
-    ∙ (λ j. first.is v h1 j || second.is v h2 j)
-    ∙ ap (λ x. (truth v c && truth v a) || (x && truth v b)) negated
-    ∙ chosen (truth v c) (truth v a) (truth v b);
+      let h2 = third.builds.weaker v h in
+      let h1 = second.builds.weaker v h2 in
+      let negated : truth v n ≡ not (truth v c) = ap (truth v) is ∙ truth_neg v c over.0 in
+      third.is v h
+      ∙ (λ j. first.is v h1 j || second.is v h2 j)
+      ∙ ap (λ x. (truth v c && truth v a) || (x && truth v b)) negated
+      ∙ chosen (truth v c) (truth v a) (truth v b);
 }

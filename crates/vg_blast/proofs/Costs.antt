@@ -153,9 +153,9 @@ costs_too_much {terms} made facts marks asserted are g h =
           let no : ⊥ = omega (arith, a, r, h) in
           absurd no
       | inr d ↦ elim (within_cost made d facts marks asserted (λ id m. reached_mark made facts id (are.sound id m)) g (length terms) (omega arith)) [
-          | inl nothing ↦ let no : ⊥ = omega (arith, nothing, h) in absurd no
-          | inr less ↦ omega (arith, less, h)
-        ]
+        | inl nothing ↦ let no : ⊥ = omega (arith, nothing, h) in absurd no
+        | inr less ↦ omega (arith, less, h)
+      ]
     ]
 
 -- ---- the same of results

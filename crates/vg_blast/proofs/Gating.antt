@@ -38,11 +38,11 @@ gate_made old new cost out f net is one_more holds held steady count = record {
     variables = omega arith;
     weaker = λ v h. (holds v h).0;
     extends = λ v model.
-      let long = model.each_variable in
-      let w = v ++ f v ∷ [] in
-      let before : Holds w old = holds_more v (f v ∷ []) old long net.over model.each_clause in
-      let last : truth w out ≡ f w = ap (truth w) is ∙ truth_new v (f v) old.variables long ∙ sym (steady v (f v ∷ []) long) in
-      (f v ∷ [], record { each_variable = length-append v (f v ∷ []) ∙ omega (arith, long, one_more); each_clause = held w before last });
+        let long = model.each_variable in
+        let w = v ++ f v ∷ [] in
+        let before : Holds w old = holds_more v (f v ∷ []) old long net.over model.each_clause in
+        let last : truth w out ≡ f w = ap (truth w) is ∙ truth_new v (f v) old.variables long ∙ sym (steady v (f v ∷ []) long) in
+        (f v ∷ [], record { each_variable = length-append v (f v ∷ []) ∙ omega (arith, long, one_more); each_clause = held w before last });
     literals = count;
   };
   over = subst (IsOver new.variables) (sym is) (omega arith, omega (arith, one_more));
@@ -79,9 +79,10 @@ and_made old fresh t u new o a b net one_more is over_a over_b first second thir
     (λ v h.
     let h3 = third.holds v h in
     let h2 = second.holds v h3.0 in
-    let h1 = first.holds v h2.0 in
-    (subst (λ cs. makes_all_true v cs ≡ true) same h1.0,
-    and_table (truth v o) (truth v a) (truth v b) (rw (truth_neg v o some) at h1.1) (rw (truth_neg v o some) at h2.1) (rw (truth_neg v a over_a.0, truth_neg v b over_b.0) at h3.1)))
+    let h1 = first.holds v h2.0 in (
+      subst (λ cs. makes_all_true v cs ≡ true) same h1.0,
+      and_table (truth v o) (truth v a) (truth v b) (rw (truth_neg v o some) at h1.1) (rw (truth_neg v o some) at h2.1) (rw (truth_neg v a over_a.0, truth_neg v b over_b.0) at h3.1),
+    ))
     (λ v h e.
     let rows = and_rows (truth v o) (truth v a) (truth v b) e in
     third.held v (second.held v (first.held v (subst (λ cs. makes_all_true v cs ≡ true) (sym same) h) (rw (truth_neg v o some) rows.0)) (rw (truth_neg v o some) rows.1)) (rw (truth_neg v a over_a.0, truth_neg v b over_b.0) rows.2))
@@ -125,10 +126,11 @@ xor_made old fresh s t u new o a b net one_more is over_a over_b first second th
     let h4 = fourth.holds v h in
     let h3 = third.holds v h4.0 in
     let h2 = second.holds v h3.0 in
-    let h1 = first.holds v h2.0 in
-    (subst (λ cs. makes_all_true v cs ≡ true) same h1.0,
-    xor_table (truth v o) (truth v a) (truth v b) (rw (truth_neg v o some) at h1.1) (rw (truth_neg v o some, truth_neg v a over_a.0, truth_neg v b over_b.0) at h2.1)
-    (rw (truth_neg v a over_a.0) at h3.1) (rw (truth_neg v b over_b.0) at h4.1)))
+    let h1 = first.holds v h2.0 in (
+      subst (λ cs. makes_all_true v cs ≡ true) same h1.0,
+      xor_table (truth v o) (truth v a) (truth v b) (rw (truth_neg v o some) at h1.1) (rw (truth_neg v o some, truth_neg v a over_a.0, truth_neg v b over_b.0) at h2.1)
+          (rw (truth_neg v a over_a.0) at h3.1) (rw (truth_neg v b over_b.0) at h4.1),
+    ))
     (λ v h e.
     let rows = xor_rows (truth v o) (truth v a) (truth v b) e in
     fourth.held v (third.held v (second.held v (first.held v (subst (λ cs. makes_all_true v cs ≡ true) (sym same) h)

@@ -47,14 +47,13 @@ input_more old mid new items entries more before id at l mid_is new_is l_is item
     let counted : new.variables ≡ old.variables + at + 1 = ap (λ (s : ClauseSet). s.variables) new_is ∙ ap (λ (s : ClauseSet). s.variables + 1) mid_is in
     let literal : l ≡ pos (old.variables + at + 1) = l_is ∙ ap pos counted in
     let clauses : new.clauses ≡ old.clauses = ap (λ (s : ClauseSet). s.clauses) new_is ∙ ap (λ (s : ClauseSet). s.clauses) mid_is in
-    let regroup : old.variables + at + 1 ≡ old.variables + (at + 1) = omega arith in
-    (
+    let regroup : old.variables + at + 1 ≡ old.variables + (at + 1) = omega arith in (
       (λ j. record { variables = (counted ∙ regroup) j; clauses = clauses j }),
       (λ j. items_is j ++ literal j ∷ []) ∙ sym (literals_more old.variables at),
       more_is
-      ∙ (λ j. entries_is j ++ (id, at, literal j) ∷ [])
-      ∙ append_assoc before (new_names id old.variables at) ((id, at, pos (old.variables + at + 1)) ∷ [])
-      ∙ ap (λ es. before ++ es) (sym (names_more id old.variables at)),
+          ∙ (λ j. entries_is j ++ (id, at, literal j) ∷ [])
+          ∙ append_assoc before (new_names id old.variables at) ((id, at, pos (old.variables + at + 1)) ∷ [])
+          ∙ ap (λ es. before ++ es) (sym (names_more id old.variables at)),
     )
 
 -- ---- what the new literals and entries are
@@ -191,7 +190,7 @@ variable_state {terms} made marks n set new lists names word id index width at s
     more_state terms marks n set new lists names (new_names id set.variables width) word id at state (omega (arith, counted)) weaker
     (record {
       named = All-append (IsNamed terms new.variables) names (new_names id set.variables width) (named_later terms set.variables new.variables names (omega (arith, counted)) state.names_ok.named)
-        (names_named terms id set.variables width new.variables variable (omega (arith, wide)) (omega (arith, counted)));
+          (names_named terms id set.variables width new.variables variable (omega (arith, wide)) (omega (arith, counted)));
       once = names_once names id set.variables width low_names state.names_ok.once;
     })
     (names_low names id set.variables width (n + 1) (ap (λ k. k + 1) at) low_names)
@@ -199,8 +198,7 @@ variable_state {terms} made marks n set new lists names word id index width at s
     let before = state.models words assigns in
     let v = before.0 in
     let long : length v ≡ set.variables = before.1.each_variable in
-    let values = bits_of_value (value_of terms words id) width in
-    (
+    let values = bits_of_value (value_of terms words id) width in (
       v ++ values,
       record {
         each_variable = length-append v values ∙ omega (arith, long, bits_long (value_of terms words id) width, counted);
@@ -212,9 +210,9 @@ variable_state {terms} made marks n set new lists names word id index width at s
       over = subst (All (IsOver new.variables)) (sym word_is) (literals_over set.variables width new.variables (omega (arith, counted)));
       width = ap length word_is ∙ literals_long set.variables width ∙ wide;
       is = λ words v assigns h agree.
-        ap (number v) word_is
-        ∙ input_number v terms words names id set.variables width agree
-        ∙ mod-eq_of_lt (subst (λ k. value_of terms words id < 2 ^ k) (sym wide) (variable_below made words id index width (width_at terms id) here assigns));
+          ap (number v) word_is
+          ∙ input_number v terms words names id set.variables width agree
+          ∙ mod-eq_of_lt (subst (λ k. value_of terms words id < 2 ^ k) (sym wide) (variable_below made words id index width (width_at terms id) here assigns));
     })
     (let e : literals new ≤ literals set = omega (arith, ap (sum_by length) same) in omega (arith, e))
 

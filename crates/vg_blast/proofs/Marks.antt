@@ -83,9 +83,9 @@ marked_from marks [] id m = inl m
 marked_from marks (x ∷ ids) id m =
     elim (marked_from (set marks x.0 true) ids id m) [
       | inl before ↦ elim (eqb_tells id.0 x.0) [
-          | inl here ↦ inr (Contains-head x ids id (same_id x id (sym here.1)))
-          | inr other ↦ inl (sym (get_or-set_other marks x.0 id.0 true false other.1) ∙ before)
-        ]
+        | inl here ↦ inr (Contains-head x ids id (same_id x id (sym here.1)))
+        | inr other ↦ inl (sym (get_or-set_other marks x.0 id.0 true false other.1) ∙ before)
+      ]
       | inr there ↦ inr (Contains-tail x ids id there)
     ]
 
@@ -114,15 +114,15 @@ marks_more {terms} made follow from id high old new e h marks is =
             long = marked_long old (followed follow terms id) ∙ marks.long;
             starts = All-weaker (λ x. is_marked old x ≡ true) (λ x. is_marked (marked old (followed follow terms id)) x ≡ true) (λ x m. marked_kept old (followed follow terms id) x within m) from marks.starts;
             closed = λ x past m.
-              elim (marked_from old (followed follow terms id) x m) [
-                | inl before ↦ elim (eqb_tells x.0 id.0) [
+                elim (marked_from old (followed follow terms id) x m) [
+                  | inl before ↦ elim (eqb_tells x.0 id.0) [
                     | inl here ↦ subst (λ y. All (λ part. is_marked (marked old (followed follow terms id)) part ≡ true) (followed follow terms y)) (same_id id x (sym here.1)) (marked_made old (followed follow terms id) within)
                     | inr other ↦
                         All-weaker (λ part. is_marked old part ≡ true) (λ part. is_marked (marked old (followed follow terms id)) part ≡ true) (λ part m. marked_kept old (followed follow terms id) part within m)
                         (followed follow terms x) (marks.closed x (λ lower. past (omega (arith, lower, e, other.1))) before)
                   ]
-                | inr there ↦ absurd (past (All-contains (Below id.0) (followed follow terms id) x (followed_before made follow id) there))
-              ];
+                  | inr there ↦ absurd (past (All-contains (Below id.0) (followed follow terms id) x (followed_before made follow id) there))
+                ];
             sound = λ x m. elim (marked_from old (followed follow terms id) x m) [ inl before ↦ marks.sound x before | inr there ↦ down id x (marks.sound id is_one) there ];
           })
       | inr not_marked ↦

@@ -177,7 +177,7 @@ subtracted_made old new a b out borrowed same made = record {
   over = made.over;
   width = made.width;
   is = λ v h.
-    difference_is (length a) (number v a) (number v b) (number v out) (truth v borrowed) (subst (λ n. number v out < 2 ^ n) made.width (number-below v out)) (subst (λ n. number v b < 2 ^ n) (sym same) (number-below v b)) (made.is v h);
+      difference_is (length a) (number v a) (number v b) (number v out) (truth v borrowed) (subst (λ n. number v out < 2 ^ n) made.width (number-below v out)) (subst (λ n. number v b < 2 ^ n) (sym same) (number-below v b)) (made.is v h);
 }
 
 positive : (n : ℕ) → (n ≡ 0 → ⊥) → 0 < n
@@ -230,8 +230,8 @@ logical_made old new a by f cost (Ok out) net f_is shifted = record {
   over = shifted.over;
   width = shifted.width;
   is = λ v h.
-    let f_false : truth v f ≡ false = ap (truth v) f_is ∙ falsity_false old v net (shifted.builds.weaker v h) in
-    subst (λ b. turned b (length a) (number v out.items) ≡ turned b (length a) (number v a) / 2 ^ number v by) f_false (shifted.is v h);
+      let f_false : truth v f ≡ false = ap (truth v) f_is ∙ falsity_false old v net (shifted.builds.weaker v h) in
+      subst (λ b. turned b (length a) (number v out.items) ≡ turned b (length a) (number v a) / 2 ^ number v by) f_false (shifted.is v h);
 }
 logical_made old new a by f cost (Err e) net f_is shifted = shifted
 
@@ -257,8 +257,8 @@ arithmetic_made old new a by x cost (Ok out) some x_is shifted = record {
   over = shifted.over;
   width = shifted.width;
   is = λ v h.
-    arithmetic_is (length a) (number v a) (number v by) (number v out.items) (truth v x) some (number-below v a) (subst (λ n. number v out.items < 2 ^ n) shifted.width (number-below v out.items))
-    (low_where v a x some x_is) (high_where v a x some x_is) (shifted.is v h);
+      arithmetic_is (length a) (number v a) (number v by) (number v out.items) (truth v x) some (number-below v a) (subst (λ n. number v out.items < 2 ^ n) shifted.width (number-below v out.items))
+      (low_where v a x some x_is) (high_where v a x some x_is) (shifted.is v h);
 }
 arithmetic_made old new a by x cost (Err e) some x_is shifted = shifted
 
@@ -299,11 +299,11 @@ less_signed_made old new a b s t (Ok out) some same over_a over_b s_is t_is long
   builds = subst (λ n. Builds old new (48 * n)) long made.builds;
   over = made.over;
   is = λ v h.
-    let some_b : 0 < length b = omega (arith, some, same) in
-    made.is v h
-    ∙ sym (signed_less (length a) (number v a) (number v b) (number v s) (number v t) some (number-below v a) (subst (λ n. number v b < 2 ^ n) (sym same) (number-below v b))
-    (turned_number v a s old.variables some over_a s_is)
-    (subst (λ n. ((number v b < 2 ^ (n - 1)) × (number v t ≡ number v b + 2 ^ (n - 1))) ⊎ ((2 ^ (n - 1) ≤ number v b) × (number v t + 2 ^ (n - 1) ≡ number v b))) (sym same) (turned_number v b t old.variables some_b over_b t_is)));
+      let some_b : 0 < length b = omega (arith, some, same) in
+      made.is v h
+      ∙ sym (signed_less (length a) (number v a) (number v b) (number v s) (number v t) some (number-below v a) (subst (λ n. number v b < 2 ^ n) (sym same) (number-below v b))
+      (turned_number v a s old.variables some over_a s_is)
+      (subst (λ n. ((number v b < 2 ^ (n - 1)) × (number v t ≡ number v b + 2 ^ (n - 1))) ⊎ ((2 ^ (n - 1) ≤ number v b) × (number v t + 2 ^ (n - 1) ≡ number v b))) (sym same) (turned_number v b t old.variables some_b over_b t_is)));
 }
 less_signed_made old new a b s t (Err e) some same over_a over_b s_is t_is long made = made
 

@@ -30,8 +30,8 @@ row_made old new b moved nothing out c f d net f_is le is none one =
       over = one.over;
       width = one.width ∙ long;
       is = λ v h.
-        let f_false : truth v f ≡ false = ap (truth v) f_is ∙ falsity_false old v net (one.builds.weaker v h) in
-        one.is v h ∙ (λ j. cond (truth v c) ((ap (number v) is ∙ number_left v f b d le f_false) j) ((ap (number v) none ∙ number-zeros v f (length b) f_false) j));
+          let f_false : truth v f ≡ false = ap (truth v) f_is ∙ falsity_false old v net (one.builds.weaker v h) in
+          one.is v h ∙ (λ j. cond (truth v c) ((ap (number v) is ∙ number_left v f b d le f_false) j) ((ap (number v) none ∙ number-zeros v f (length b) f_false) j));
     }
 
 pub row_result : {E : Type 0} (old new : ClauseSet) (b moved nothing slice zeros : List ℤ) (c f : ℤ) (d : ℕ) (result : Result (Vec ℤ Global) E) → IsNet old → f ≡ negsuc 0 → d ≤ length b →
@@ -61,17 +61,17 @@ pub product_more : (old mid s new : ClauseSet) (a b product row next : List ℤ)
     MakesWord old new (108 * w * (i + 1)) next w (λ v. (number v (take (i + 1) a) * number v b) % 2 ^ w)
 product_more old mid s new a b product row next x i w lt wide x_is so_far made last = record {
   builds = chained old mid new (108 * w * i) (108 * w) (108 * w * (i + 1)) so_far.builds
-    (chained mid s new (36 * w) (72 * w) (108 * w) (subst (λ n. Builds mid s (36 * n)) (sym wide) made.builds) (subst (λ n. Builds s new (72 * n)) so_far.width last.builds) (omega arith)) (omega arith);
+      (chained mid s new (36 * w) (72 * w) (108 * w) (subst (λ n. Builds mid s (36 * n)) (sym wide) made.builds) (subst (λ n. Builds s new (72 * n)) so_far.width last.builds) (omega arith)) (omega arith);
   over = last.over;
   width = last.width ∙ so_far.width;
   is = λ v h.
-    let h2 = last.builds.weaker v h in
-    let h1 = made.builds.weaker v h2 in
-    last.is v h
-    ∙ (λ j. (so_far.is v h1 j + made.is v h2 j) % 2 ^ so_far.width j)
-    ∙ ap (λ n. ((number v (take i a) * number v b) % 2 ^ w + cond (truth v x) ((number v b * 2 ^ i) % 2 ^ n) 0) % 2 ^ w) (sym wide)
-    ∙ product_step (truth v x) (number v (take i a)) (number v b) (2 ^ i) (2 ^ w)
-    ∙ ap (λ n. (n * number v b) % 2 ^ w) (sym (number-more v a i x lt x_is));
+      let h2 = last.builds.weaker v h in
+      let h1 = made.builds.weaker v h2 in
+      last.is v h
+      ∙ (λ j. (so_far.is v h1 j + made.is v h2 j) % 2 ^ so_far.width j)
+      ∙ ap (λ n. ((number v (take i a) * number v b) % 2 ^ w + cond (truth v x) ((number v b * 2 ^ i) % 2 ^ n) 0) % 2 ^ w) (sym wide)
+      ∙ product_step (truth v x) (number v (take i a)) (number v b) (2 ^ i) (2 ^ w)
+      ∙ ap (λ n. (n * number v b) % 2 ^ w) (sym (number-more v a i x lt x_is));
 }
 
 pub product_none : (set : ClauseSet) (a b product : List ℤ) (f : ℤ) → IsNet set → f ≡ negsuc 0 → product ≡ replicate (length a) f →
@@ -81,8 +81,8 @@ product_none set a b product f net f_is is = record {
   over = subst (All (IsOver set.variables)) (sym is) (All-replicate (IsOver set.variables) (length a) f (falsity_over set f net f_is));
   width = ap length is ∙ length-replicate (length a) f;
   is = λ v h.
-    ap (number v) is ∙ number-zeros v f (length a) (ap (truth v) f_is ∙ falsity_false set v net h)
-    ∙ sym (ap (λ n. n % 2 ^ length a) (let e : 0 * number v b ≡ 0 = omega arith in e) ∙ zero-mod (2 ^ length a));
+      ap (number v) is ∙ number-zeros v f (length a) (ap (truth v) f_is ∙ falsity_false set v net h)
+      ∙ sym (ap (λ n. n % 2 ^ length a) (let e : 0 * number v b ≡ 0 = omega arith in e) ∙ zero-mod (2 ^ length a));
 }
 
 pub product_made : (old new : ClauseSet) (a b product : List ℤ) (i : ℕ) → length a ≤ i → i ≤ length a →
@@ -122,30 +122,30 @@ divide_step_made old mid new remainder divisor longer wider rest kept taken left
     let kept_long : length kept ≡ w = ap length kept_is ∙ length-take-le (length remainder) longer (omega (arith, long, same)) ∙ same in
     let borrowed_at : (v : List Bool) → Holds v mid → truth v borrowed ≡ nat_lt (bit (truth v next) + 2 * number v remainder) (number v divisor) =
     λ v h.
-      let f_false : truth v f ≡ false = ap (truth v) f_is ∙ falsity_false old v net (difference.builds.weaker v h) in
-      let wide : number v wider ≡ number v divisor = widened v divisor wider f wider_is f_false in
-      let below : number v rest < 2 ^ (w + 1) = subst (λ n. number v rest < 2 ^ n) rest_long (number-below v rest) in
-      borrowed_is (truth v borrowed) (bit (truth v next) + 2 * number v remainder) (number v divisor) (number v rest) (2 ^ (w + 1)) below
-      ((λ j. number v rest + sym wide j) ∙ difference.is v h ∙ (λ j. number v (longer_is j) + 2 ^ long j * bit (truth v borrowed))) in
+    let f_false : truth v f ≡ false = ap (truth v) f_is ∙ falsity_false old v net (difference.builds.weaker v h) in
+    let wide : number v wider ≡ number v divisor = widened v divisor wider f wider_is f_false in
+    let below : number v rest < 2 ^ (w + 1) = subst (λ n. number v rest < 2 ^ n) rest_long (number-below v rest) in
+    borrowed_is (truth v borrowed) (bit (truth v next) + 2 * number v remainder) (number v divisor) (number v rest) (2 ^ (w + 1)) below
+    ((λ j. number v rest + sym wide j) ∙ difference.is v h ∙ (λ j. number v (longer_is j) + 2 ^ long j * bit (truth v borrowed))) in
     record {
       builds = chained old mid new (72 * (w + 1)) (36 * w) (108 * w + 72) (subst (λ n. Builds old mid (72 * n)) long difference.builds) (subst (λ n. Builds mid new (36 * n)) kept_long last.builds) (omega arith);
       over_fits =
-        let there : IsOver new.variables borrowed = omega (arith, difference.over_borrowed, last.builds.variables) in
-        subst (IsOver new.variables) (sym fits_is) (over_negated new.variables borrowed there);
+          let there : IsOver new.variables borrowed = omega (arith, difference.over_borrowed, last.builds.variables) in
+          subst (IsOver new.variables) (sym fits_is) (over_negated new.variables borrowed there);
       over = last.over;
       width = last.width ∙ kept_long;
       fits_is = λ v h. ap (truth v) fits_is ∙ truth_neg v borrowed difference.over_borrowed.0 ∙ ap not (borrowed_at v (last.builds.weaker v h));
       left_is = λ v h.
-        let h1 = last.builds.weaker v h in
-        let f_false : truth v f ≡ false = ap (truth v) f_is ∙ falsity_false old v net (difference.builds.weaker v h1) in
-        let wide : number v wider ≡ number v divisor = widened v divisor wider f wider_is f_false in
-        let x = bit (truth v next) + 2 * number v remainder in
-        let low : number v kept ≡ x % 2 ^ w = ap (number v) kept_is ∙ number-take v longer (length remainder) (omega (arith, long, same)) ∙ (λ j. number v (longer_is j) % 2 ^ same j) in
-        let high : number v taken ≡ number v rest % 2 ^ w = ap (number v) taken_is ∙ number-take v rest (length remainder) (omega (arith, rest_long, same)) ∙ ap (λ n. number v rest % 2 ^ n) same in
-        last.is v h
-        ∙ (λ j. cond (truth v borrowed) (low j) (high j))
-        ∙ left_is_of (truth v borrowed) x (number v divisor) (number v rest) (2 ^ (w + 1)) (2 ^ w) (borrowed_at v h1)
-        ((λ j. number v rest + sym wide j) ∙ difference.is v h1 ∙ (λ j. number v (longer_is j) + 2 ^ long j * bit (truth v borrowed)));
+          let h1 = last.builds.weaker v h in
+          let f_false : truth v f ≡ false = ap (truth v) f_is ∙ falsity_false old v net (difference.builds.weaker v h1) in
+          let wide : number v wider ≡ number v divisor = widened v divisor wider f wider_is f_false in
+          let x = bit (truth v next) + 2 * number v remainder in
+          let low : number v kept ≡ x % 2 ^ w = ap (number v) kept_is ∙ number-take v longer (length remainder) (omega (arith, long, same)) ∙ (λ j. number v (longer_is j) % 2 ^ same j) in
+          let high : number v taken ≡ number v rest % 2 ^ w = ap (number v) taken_is ∙ number-take v rest (length remainder) (omega (arith, rest_long, same)) ∙ ap (λ n. number v rest % 2 ^ n) same in
+          last.is v h
+          ∙ (λ j. cond (truth v borrowed) (low j) (high j))
+          ∙ left_is_of (truth v borrowed) x (number v divisor) (number v rest) (2 ^ (w + 1)) (2 ^ w) (borrowed_at v h1)
+          ((λ j. number v rest + sym wide j) ∙ difference.is v h1 ∙ (λ j. number v (longer_is j) + 2 ^ long j * bit (truth v borrowed)));
     }
 
 -- ---- division
@@ -192,14 +192,13 @@ divided_step : (x : Bool) (a b q r i m : ℕ) → IsDivided a b q r i → b < m 
     IsDivided (bit x + 2 * a) b (bit (not (nat_lt (bit x + 2 * r) b)) + 2 * q) (left_of (bit x + 2 * r) b % m) (i + 1)
 divided_step x a b q r i m divided h k = record {
   whole = λ some.
-    let before = divided.whole some in
-    (whole_step x a b q r m before.0 before.1 h, remainder_step x b r m before.1 h);
+      let before = divided.whole some in
+      (whole_step x a b q r m before.0 before.1 h, remainder_step x b r m before.1 h);
   by_zero = λ none.
-    let before = divided.by_zero none in
-    (
-      zero_fits (bit x + 2 * r) b q (2 ^ i) none before.0 ∙ sym (pow_next i),
-      zero_step (bit x + 2 * r) b m none (subst (λ n. bit x + 2 * n < m) (sym before.1) k) ∙ ap (λ n. bit x + 2 * n) before.1,
-    );
+      let before = divided.by_zero none in (
+        zero_fits (bit x + 2 * r) b q (2 ^ i) none before.0 ∙ sym (pow_next i),
+        zero_step (bit x + 2 * r) b m none (subst (λ n. bit x + 2 * n < m) (sym before.1) k) ∙ ap (λ n. bit x + 2 * n) before.1,
+      );
 }
 
 next_bit : (v : List Bool) (a : List ℤ) (at rest : ℕ) (x : ℤ) → at < length a → rest ≡ at + 1 → x ≡ get_or a at x → number v (drop at a) ≡ bit (truth v x) + 2 * number v (drop rest a)
@@ -230,18 +229,18 @@ divide_more old mid new a b quotient remainder left more x fits i at lt at_is sa
       width_quotient = ap length more_is ∙ omega (arith, so_far.width_quotient);
       width_remainder = one.width;
       is = λ v h.
-        let before : IsDivided (number v (drop (length a - i) a)) (number v b) (number v quotient) (number v remainder) i = so_far.is v (one.builds.weaker v h) in
-        let longer : number v (drop (length a - (i + 1)) a) ≡ bit (truth v x) + 2 * number v (drop (length a - i) a) =
-        ap (λ n. number v (drop n a)) here ∙ next_bit v a at (length a - i) x (omega (arith, lt, at_is)) rest_is x_is in
-        let b_below : number v b < 2 ^ length b = number-below v b in
-        let a_below : bit (truth v x) + 2 * number v (drop (length a - i) a) < 2 ^ length b =
-        subst (λ n. n < 2 ^ length b) longer (subst (λ n. number v (drop (length a - (i + 1)) a) < 2 ^ n) same (high_below v a (length a - (i + 1)))) in
-        let stepped = divided_step (truth v x) (number v (drop (length a - i) a)) (number v b) (number v quotient) (number v remainder) i (2 ^ length b) before b_below a_below in
-        let q_is : bit (not (nat_lt (bit (truth v x) + 2 * number v remainder) (number v b))) + 2 * number v quotient ≡ number v more =
-        sym (ap (number v) more_is ∙ ap (λ t. bit t + 2 * number v quotient) (one.fits_is v h)) in
-        subst (λ n. IsDivided n (number v b) (number v more) (number v left) (i + 1)) (sym longer)
-        (subst (λ n. IsDivided (bit (truth v x) + 2 * number v (drop (length a - i) a)) (number v b) n (number v left) (i + 1)) q_is
-        (subst (λ n. IsDivided (bit (truth v x) + 2 * number v (drop (length a - i) a)) (number v b) (bit (not (nat_lt (bit (truth v x) + 2 * number v remainder) (number v b))) + 2 * number v quotient) n (i + 1)) (sym (one.left_is v h)) stepped));
+          let before : IsDivided (number v (drop (length a - i) a)) (number v b) (number v quotient) (number v remainder) i = so_far.is v (one.builds.weaker v h) in
+          let longer : number v (drop (length a - (i + 1)) a) ≡ bit (truth v x) + 2 * number v (drop (length a - i) a) =
+          ap (λ n. number v (drop n a)) here ∙ next_bit v a at (length a - i) x (omega (arith, lt, at_is)) rest_is x_is in
+          let b_below : number v b < 2 ^ length b = number-below v b in
+          let a_below : bit (truth v x) + 2 * number v (drop (length a - i) a) < 2 ^ length b =
+          subst (λ n. n < 2 ^ length b) longer (subst (λ n. number v (drop (length a - (i + 1)) a) < 2 ^ n) same (high_below v a (length a - (i + 1)))) in
+          let stepped = divided_step (truth v x) (number v (drop (length a - i) a)) (number v b) (number v quotient) (number v remainder) i (2 ^ length b) before b_below a_below in
+          let q_is : bit (not (nat_lt (bit (truth v x) + 2 * number v remainder) (number v b))) + 2 * number v quotient ≡ number v more =
+          sym (ap (number v) more_is ∙ ap (λ t. bit t + 2 * number v quotient) (one.fits_is v h)) in
+          subst (λ n. IsDivided n (number v b) (number v more) (number v left) (i + 1)) (sym longer)
+          (subst (λ n. IsDivided (bit (truth v x) + 2 * number v (drop (length a - i) a)) (number v b) n (number v left) (i + 1)) q_is
+          (subst (λ n. IsDivided (bit (truth v x) + 2 * number v (drop (length a - i) a)) (number v b) (bit (not (nat_lt (bit (truth v x) + 2 * number v remainder) (number v b))) + 2 * number v quotient) n (i + 1)) (sym (one.left_is v h)) stepped));
     }
 
 pub divide_none : (set : ClauseSet) (a b quotient remainder : List ℤ) (f : ℤ) → IsNet set → f ≡ negsuc 0 → length a ≡ length b → quotient ≡ [] → remainder ≡ replicate (length a) f →
@@ -253,11 +252,11 @@ divide_none set a b quotient remainder f net f_is same q_is r_is = record {
   width_quotient = ap length q_is;
   width_remainder = ap length r_is ∙ length-replicate (length a) f ∙ same;
   is = λ v h.
-    let a_is : number v (drop (length a - 0) a) ≡ 0 = ap (number v) (drop_all (length a - 0) a (omega arith)) in
-    let q_zero : number v quotient ≡ 0 = ap (number v) q_is in
-    let r_zero : number v remainder ≡ 0 = ap (number v) r_is ∙ number-zeros v f (length a) (ap (truth v) f_is ∙ falsity_false set v net h) in
-    record {
-      whole = λ some. ((λ j. q_zero j * number v b + r_zero j) ∙ (let t : 0 * number v b + 0 ≡ 0 = omega arith in t) ∙ sym a_is, subst (λ n. n < number v b) (sym r_zero) some);
-      by_zero = λ none. (ap (λ n. n + 1) q_zero, r_zero ∙ sym a_is);
-    };
+      let a_is : number v (drop (length a - 0) a) ≡ 0 = ap (number v) (drop_all (length a - 0) a (omega arith)) in
+      let q_zero : number v quotient ≡ 0 = ap (number v) q_is in
+      let r_zero : number v remainder ≡ 0 = ap (number v) r_is ∙ number-zeros v f (length a) (ap (truth v) f_is ∙ falsity_false set v net h) in
+      record {
+        whole = λ some. ((λ j. q_zero j * number v b + r_zero j) ∙ (let t : 0 * number v b + 0 ≡ 0 = omega arith in t) ∙ sym a_is, subst (λ n. n < number v b) (sym r_zero) some);
+        by_zero = λ none. (ap (λ n. n + 1) q_zero, r_zero ∙ sym a_is);
+      };
 }

@@ -92,16 +92,16 @@ requires_more terms marks asserted n count old mid new lists names id at below s
             variables = added.variables ∙ before.variables;
             weaker = λ v h. before.weaker v (added.holds v h).0;
             sound = λ words v assigns agree h x lower is_asked.
-              let both = added.holds v h in
-              elim (below_cases x.0 n lower) [
-                | inl earlier ↦ before.sound words v assigns agree both.0 x earlier is_asked
-                | inr here ↦
-                    subst (λ (y : TermId). value_of terms words y ≡ 1) (sym (same_id x here))
-                    (value words v assigns agree (before.weaker v both.0) ∙ true_bit (truth v (first_of lists id)) (unit_true v (first_of lists id) both.1))
-              ];
+                let both = added.holds v h in
+                elim (below_cases x.0 n lower) [
+                  | inl earlier ↦ before.sound words v assigns agree both.0 x earlier is_asked
+                  | inr here ↦
+                      subst (λ (y : TermId). value_of terms words y ≡ 1) (sym (same_id x here))
+                      (value words v assigns agree (before.weaker v both.0) ∙ true_bit (truth v (first_of lists id)) (unit_true v (first_of lists id) both.1))
+                ];
             held = λ words v assigns agree h all.
-              let earlier = before.held words v assigns agree h (λ x lower is_asked. all x (omega (arith, lower)) is_asked) in
-              added.held v earlier (true_unit v (first_of lists id) (bit_true (truth v (first_of lists id)) (sym (value words v assigns agree h) ∙ all id (omega (arith, at)) asked)));
+                let earlier = before.held words v assigns agree h (λ x lower is_asked. all x (omega (arith, lower)) is_asked) in
+                added.held v earlier (true_unit v (first_of lists id) (bit_true (truth v (first_of lists id)) (sym (value words v assigns agree h) ∙ all id (omega (arith, at)) asked)));
             literals = let e : cond {A = ℕ} (is_marked asserted id) 128 0 ≡ cond {A = ℕ} true 128 0 = ap (λ b. cond {A = ℕ} b 128 0) parts.0 in omega (arith, cost_is, e, added.literals, before.literals);
           }
       | inr not_asked ↦
@@ -110,10 +110,10 @@ requires_more terms marks asserted n count old mid new lists names id at below s
             variables = before.variables;
             weaker = before.weaker;
             sound = λ words v assigns agree h x lower is_asked.
-              elim (below_cases x.0 n lower) [
-                | inl earlier ↦ before.sound words v assigns agree h x earlier is_asked
-                | inr here ↦ absurd (true≢false (sym is_asked ∙ ap (λ (y : TermId). is_marked asserted y && is_leaf terms y) (same_id x here) ∙ not_asked))
-              ];
+                elim (below_cases x.0 n lower) [
+                  | inl earlier ↦ before.sound words v assigns agree h x earlier is_asked
+                  | inr here ↦ absurd (true≢false (sym is_asked ∙ ap (λ (y : TermId). is_marked asserted y && is_leaf terms y) (same_id x here) ∙ not_asked))
+                ];
             held = λ words v assigns agree h all. before.held words v assigns agree h (λ x lower is_asked. all x (omega (arith, lower)) is_asked);
             literals = omega (arith, cost_is, before.literals);
           })

@@ -90,8 +90,8 @@ stepped_left old new moved further chosen c f d net f_is le is one =
       over = one.over;
       width = one.width ∙ long;
       is = λ v h.
-        let f_false : truth v f ≡ false = ap (truth v) f_is ∙ falsity_false old v net (one.builds.weaker v h) in
-        one.is v h ∙ ap (λ n. cond (truth v c) n (number v moved)) (ap (number v) is ∙ number_left v f moved d le f_false);
+          let f_false : truth v f ≡ false = ap (truth v) f_is ∙ falsity_false old v net (one.builds.weaker v h) in
+          one.is v h ∙ ap (λ n. cond (truth v c) n (number v moved)) (ap (number v) is ∙ number_left v f moved d le f_false);
     }
 
 pub left_more : (old mid new : ClauseSet) (a by moved chosen : List ℤ) (c : ℤ) (k w d : ℕ) → d ≡ 2 ^ k → k < length by → c ≡ get_or by k c →
@@ -103,10 +103,10 @@ left_more old mid new a by moved chosen c k w d d_is lt c_is word one = record {
   over = one.over;
   width = one.width ∙ word.width;
   is = λ v h.
-    one.is v h
-    ∙ (λ j. cond (truth v c) ((number v moved * 2 ^ (d_is j)) % 2 ^ (word.width j)) (number v moved))
-    ∙ left_step (truth v c) (number v a) (number v (take k by)) k w (number v moved) (word.is v (one.builds.weaker v h))
-    ∙ ap (λ n. (number v a * 2 ^ n) % 2 ^ w) (sym (number-more v by k c lt c_is));
+      one.is v h
+      ∙ (λ j. cond (truth v c) ((number v moved * 2 ^ (d_is j)) % 2 ^ (word.width j)) (number v moved))
+      ∙ left_step (truth v c) (number v a) (number v (take k by)) k w (number v moved) (word.is v (one.builds.weaker v h))
+      ∙ ap (λ n. (number v a * 2 ^ n) % 2 ^ w) (sym (number-more v by k c lt c_is));
 }
 
 pub left_none : (set : ClauseSet) (a by moved : List ℤ) → All (IsOver set.variables) a → moved ≡ a → MakesWord set set (36 * length a * 0) moved (length a) (λ v. (number v a * 2 ^ number v (take 0 by)) % 2 ^ length a)
@@ -159,10 +159,10 @@ past_made old mid new moved far filled out past turned_past f is filled_is any l
   over = last.over;
   width = last.width;
   is = λ v h.
-    let past_is = any.is v (last.builds.weaker v h) in
-    last.is v h
-    ∙ not_chosen (truth v turned_past) (nat_eq (number v far) 0) (number v moved) (number v filled) (ap (truth v) is ∙ truth_neg v past any.over.0 ∙ ap not past_is)
-    ∙ ap (λ ls. cond (nat_eq (number v far) 0) (number v moved) (number v ls)) filled_is;
+      let past_is = any.is v (last.builds.weaker v h) in
+      last.is v h
+      ∙ not_chosen (truth v turned_past) (nat_eq (number v far) 0) (number v moved) (number v filled) (ap (truth v) is ∙ truth_neg v past any.over.0 ∙ ap not past_is)
+      ∙ ap (λ ls. cond (nat_eq (number v far) 0) (number v moved) (number v ls)) filled_is;
 }
 
 pub left_made : (old mid new : ClauseSet) (a by moved far out : List ℤ) (f : ℤ) (k s w : ℕ) → IsNet mid → f ≡ negsuc 0 → AreSteps w s → w ≡ length a → length a ≡ length by → s ≤ k → k ≤ s →
@@ -175,17 +175,17 @@ left_made old mid new a by moved far out f k s w net f_is steps wide same ge le 
     let far_long : length far ≡ w - s = ap length far_is ∙ length-drop s by ∙ omega (arith, wide, same) in
     record {
       builds = chained old mid new (36 * w * s) (12 * (w - s) + 36 * w) (36 * w * (w + 2)) (subst (λ n. Builds old mid (36 * w * n)) k_is word.builds)
-        (subst (λ n. Builds mid new (12 * (w - s) + 36 * n)) word.width (subst (λ n. Builds mid new (12 * n + 36 * length moved)) far_long last.builds)) (past_cost w s steps.within);
+          (subst (λ n. Builds mid new (12 * (w - s) + 36 * n)) word.width (subst (λ n. Builds mid new (12 * n + 36 * length moved)) far_long last.builds)) (past_cost w s steps.within);
       over = last.over;
       width = last.width ∙ word.width;
       is = λ v h.
-        let h1 = last.builds.weaker v h in
-        let f_false : truth v f ≡ false = ap (truth v) f_is ∙ falsity_false mid v net h1 in
-        let m_is : number v moved ≡ (number v a * 2 ^ number v (take s by)) % 2 ^ w = word.is v h1 ∙ ap (λ n. (number v a * 2 ^ number v (take n by)) % 2 ^ w) k_is in
-        last.is v h
-        ∙ ap (λ ls. cond (nat_eq (number v ls) 0) (number v moved) (number v (replicate (length moved) f))) far_is
-        ∙ left_last (number v a) (number v (take s by)) (number v (drop s by)) s w (number v moved) (number v (replicate (length moved) f)) steps.enough m_is (number-zeros v f (length moved) f_false)
-        ∙ ap (λ n. (number v a * 2 ^ n) % 2 ^ w) (sym (halves_of v by s fits));
+          let h1 = last.builds.weaker v h in
+          let f_false : truth v f ≡ false = ap (truth v) f_is ∙ falsity_false mid v net h1 in
+          let m_is : number v moved ≡ (number v a * 2 ^ number v (take s by)) % 2 ^ w = word.is v h1 ∙ ap (λ n. (number v a * 2 ^ number v (take n by)) % 2 ^ w) k_is in
+          last.is v h
+          ∙ ap (λ ls. cond (nat_eq (number v ls) 0) (number v moved) (number v (replicate (length moved) f))) far_is
+          ∙ left_last (number v a) (number v (take s by)) (number v (drop s by)) s w (number v moved) (number v (replicate (length moved) f)) steps.enough m_is (number-zeros v f (length moved) f_false)
+          ∙ ap (λ n. (number v a * 2 ^ n) % 2 ^ w) (sym (halves_of v by s fits));
     }
 
 -- ---- to the right
@@ -256,12 +256,12 @@ right_more old mid new a by moved chosen c f k w d wide d_is le lt c_is word one
       over = one.over;
       width = one.width ∙ word.width;
       is = λ v h.
-        let moved_on : turned (truth v f) (length a) (number v (drop d moved ++ replicate d f)) ≡ turned (truth v f) (length a) (number v moved) / 2 ^ (2 ^ k) =
-        subst (λ n. turned (truth v f) n (number v (drop d moved ++ replicate d f)) ≡ turned (truth v f) n (number v moved) / 2 ^ d) word.width (turned_right v f moved d (truth v f) refl (omega (arith, as_long, le)))
-        ∙ ap (λ n. turned (truth v f) (length a) (number v moved) / 2 ^ n) d_is in
-        ap (turned (truth v f) (length a)) (one.is v h)
-        ∙ right_step (truth v c) (truth v f) (number v (drop d moved ++ replicate d f)) (number v moved) (turned (truth v f) (length a) (number v a)) (number v (take k by)) k (length a) moved_on (word.is v (one.builds.weaker v h))
-        ∙ ap (λ n. turned (truth v f) (length a) (number v a) / 2 ^ n) (sym (number-more v by k c lt c_is));
+          let moved_on : turned (truth v f) (length a) (number v (drop d moved ++ replicate d f)) ≡ turned (truth v f) (length a) (number v moved) / 2 ^ (2 ^ k) =
+          subst (λ n. turned (truth v f) n (number v (drop d moved ++ replicate d f)) ≡ turned (truth v f) n (number v moved) / 2 ^ d) word.width (turned_right v f moved d (truth v f) refl (omega (arith, as_long, le)))
+          ∙ ap (λ n. turned (truth v f) (length a) (number v moved) / 2 ^ n) d_is in
+          ap (turned (truth v f) (length a)) (one.is v h)
+          ∙ right_step (truth v c) (truth v f) (number v (drop d moved ++ replicate d f)) (number v moved) (turned (truth v f) (length a) (number v a)) (number v (take k by)) k (length a) moved_on (word.is v (one.builds.weaker v h))
+          ∙ ap (λ n. turned (truth v f) (length a) (number v a) / 2 ^ n) (sym (number-more v by k c lt c_is));
     }
 
 pub right_none : (set : ClauseSet) (a by moved : List ℤ) (f : ℤ) → All (IsOver set.variables) a → moved ≡ a → ShiftsRight set set (36 * length a * 0) moved f a (λ v. number v (take 0 by))
@@ -299,20 +299,20 @@ right_made old mid new a by moved far out f k s w steps wide same ge le word far
     let far_long : length far ≡ w - s = ap length far_is ∙ length-drop s by ∙ omega (arith, wide, same) in
     record {
       builds = chained old mid new (36 * w * s) (12 * (w - s) + 36 * w) (36 * w * (w + 2)) (subst (λ n. Builds old mid (36 * w * n)) k_is word.builds)
-        (subst (λ n. Builds mid new (12 * (w - s) + 36 * n)) as_long (subst (λ n. Builds mid new (12 * n + 36 * length moved)) far_long last.builds)) (past_cost w s steps.within);
+          (subst (λ n. Builds mid new (12 * (w - s) + 36 * n)) as_long (subst (λ n. Builds mid new (12 * n + 36 * length moved)) far_long last.builds)) (past_cost w s steps.within);
       over = last.over;
       width = last.width ∙ word.width;
       is = λ v h.
-        let h1 = last.builds.weaker v h in
-        let m_is : turned (truth v f) w (number v moved) ≡ turned (truth v f) w (number v a) / 2 ^ number v (take s by) =
-        subst (λ n. turned (truth v f) n (number v moved) ≡ turned (truth v f) n (number v a) / 2 ^ number v (take s by)) (sym wide)
-        (word.is v h1 ∙ ap (λ n. turned (truth v f) (length a) (number v a) / 2 ^ number v (take n by)) k_is) in
-        let below : turned (truth v f) w (number v a) < 2 ^ w = turned_below (truth v f) w (number v a) (subst (λ n. number v a < 2 ^ n) (sym wide) (number-below v a)) in
-        subst (λ n. turned (truth v f) n (number v out) ≡ turned (truth v f) n (number v a) / 2 ^ number v by) wide
-        (ap (turned (truth v f) w) (last.is v h ∙ ap (λ ls. cond (nat_eq (number v ls) 0) (number v moved) (number v (replicate (length moved) f))) far_is)
-        ∙ right_last (truth v f) (turned (truth v f) w (number v a)) (number v (take s by)) (number v (drop s by)) s w (number v moved) (number v (replicate (length moved) f)) steps.enough below m_is
-        (ap (λ n. turned (truth v f) w (number v (replicate n f))) as_long ∙ filled_zero v f w (truth v f) refl)
-        ∙ ap (λ n. turned (truth v f) w (number v a) / 2 ^ n) (sym (halves_of v by s fits)));
+          let h1 = last.builds.weaker v h in
+          let m_is : turned (truth v f) w (number v moved) ≡ turned (truth v f) w (number v a) / 2 ^ number v (take s by) =
+          subst (λ n. turned (truth v f) n (number v moved) ≡ turned (truth v f) n (number v a) / 2 ^ number v (take s by)) (sym wide)
+          (word.is v h1 ∙ ap (λ n. turned (truth v f) (length a) (number v a) / 2 ^ number v (take n by)) k_is) in
+          let below : turned (truth v f) w (number v a) < 2 ^ w = turned_below (truth v f) w (number v a) (subst (λ n. number v a < 2 ^ n) (sym wide) (number-below v a)) in
+          subst (λ n. turned (truth v f) n (number v out) ≡ turned (truth v f) n (number v a) / 2 ^ number v by) wide
+          (ap (turned (truth v f) w) (last.is v h ∙ ap (λ ls. cond (nat_eq (number v ls) 0) (number v moved) (number v (replicate (length moved) f))) far_is)
+          ∙ right_last (truth v f) (turned (truth v f) w (number v a)) (number v (take s by)) (number v (drop s by)) s w (number v moved) (number v (replicate (length moved) f)) steps.enough below m_is
+          (ap (λ n. turned (truth v f) w (number v (replicate n f))) as_long ∙ filled_zero v f w (truth v f) refl)
+          ∙ ap (λ n. turned (truth v f) w (number v a) / 2 ^ n) (sym (halves_of v by s fits)));
     }
 
 -- ---- the steps
@@ -354,9 +354,9 @@ any_more old mid new ls x some next i h is so_far one = record {
   builds = chained old mid new (12 * i) 12 (12 * (i + 1)) so_far.builds one.builds (omega arith);
   over = one.over;
   is = λ v holds.
-    one.is v holds
-    ∙ ap (λ b. b || truth v x) (so_far.is v (one.builds.weaker v holds))
-    ∙ nonzero_more (number v (take i ls)) (2 ^ i) (number v (take (i + 1) ls)) (truth v x) (pow_pos i) (number-more v ls i x h is);
+      one.is v holds
+      ∙ ap (λ b. b || truth v x) (so_far.is v (one.builds.weaker v holds))
+      ∙ nonzero_more (number v (take i ls)) (2 ^ i) (number v (take (i + 1) ls)) (truth v x) (pow_pos i) (number-more v ls i x h is);
 }
 
 -- ---- the same of results

@@ -209,12 +209,12 @@ module _ {terms : List Term} (made : AreTerms terms) {marks : List Bool} {n : �
     over = makes.over;
     width = makes.width ∙ ap (width_of op) same_widths ∙ sym (is_made made id.0 op parts w here).width ∙ sym (ap width_in here);
     is = λ words v assigns h agree.
-      let before = makes.builds.weaker v h in
-      let same_bits : map (part_bits v lists) (listed parts) ≡ map (bits_at terms words) (listed parts) =
-      same_map IsPart (part_bits v lists) (bits_at terms words)
-      (λ p is. (λ j. record { width = (word_of p is).width j; value = (word_of p is).is words v assigns before agree j }))
-      (listed parts) are_parts in
-      makes.is v h ∙ ap (answer op) same_bits ∙ sym (value_follows made words id ∙ ap (entry_value words (bits_at terms words)) here);
+        let before = makes.builds.weaker v h in
+        let same_bits : map (part_bits v lists) (listed parts) ≡ map (bits_at terms words) (listed parts) =
+        same_map IsPart (part_bits v lists) (bits_at terms words)
+        (λ p is. (λ j. record { width = (word_of p is).width j; value = (word_of p is).is words v assigns before agree j }))
+        (listed parts) are_parts in
+        makes.is v h ∙ ap (answer op) same_bits ∙ sym (value_follows made words id ∙ ap (entry_value words (bits_at terms words)) here);
   }
 
   -- and no more literals were added than the term costs
@@ -231,7 +231,7 @@ module _ {terms : List Term} (made : AreTerms terms) {marks : List Bool} {n : �
 pub agree_before : (v : List Bool) (terms : List Term) (words : List Word) (names more : List BitName) → Agree v terms words (names ++ more) → Agree v terms words names
 agree_before v terms words names more agree =
     λ k d h.
-      subst (Agrees v terms words) (get_or_append_left names more d k h) (agree k d (omega (arith, h, length-append names more)))
+    subst (Agrees v terms words) (get_or_append_left names more d k h) (agree k d (omega (arith, h, length-append names more)))
 
 later_word : (terms : List Term) (set new : ClauseSet) (names more : List BitName) (cost : ℕ) (id : TermId) (word : List ℤ) → set.variables ≤ new.variables → ((v : List Bool) → Holds v new → Holds v set) →
     IsWordOf terms set names id word → IsWordOf terms new (names ++ more) id word
@@ -249,21 +249,21 @@ pub more_state : (terms : List Term) (marks : List Bool) (n : ℕ) (set new : Cl
 more_state terms marks n set new lists names more word id at state le weaker names_ok low models here cost = record {
   count = length-append lists (word ∷ []) ∙ omega (arith, state.count);
   each = λ x below marked.
-    elim (cases_lt x.0 n) [
-      | inl earlier ↦
-          subst (IsWordOf terms new (names ++ more) x) (sym (get_or_append_left lists (word ∷ []) [] x.0 (omega (arith, earlier, state.count))))
-          (later_word terms set new names more 0 x (word_at lists x) le weaker (state.each x earlier marked))
-      | inr later ↦
-          let x_is : x ≡ id = (let e : x.0 ≡ id.0 = omega (arith, below, later, at) in (λ j. record { 0 = e j })) in
-          let last : word_at (lists ++ word ∷ []) id ≡ word = ap (λ k. get_or (lists ++ word ∷ []) k []) (at ∙ sym state.count) ∙ get_or-append_seam lists word [] [] in
-          subst (λ y. IsWordOf terms new (names ++ more) y (word_at (lists ++ word ∷ []) y)) (sym x_is)
-          (subst (IsWordOf terms new (names ++ more) id) (sym last) (here (ap (is_marked marks) (sym x_is) ∙ marked)))
-    ];
+      elim (cases_lt x.0 n) [
+        | inl earlier ↦
+            subst (IsWordOf terms new (names ++ more) x) (sym (get_or_append_left lists (word ∷ []) [] x.0 (omega (arith, earlier, state.count))))
+            (later_word terms set new names more 0 x (word_at lists x) le weaker (state.each x earlier marked))
+        | inr later ↦
+            let x_is : x ≡ id = (let e : x.0 ≡ id.0 = omega (arith, below, later, at) in (λ j. record { 0 = e j })) in
+            let last : word_at (lists ++ word ∷ []) id ≡ word = ap (λ k. get_or (lists ++ word ∷ []) k []) (at ∙ sym state.count) ∙ get_or-append_seam lists word [] [] in
+            subst (λ y. IsWordOf terms new (names ++ more) y (word_at (lists ++ word ∷ []) y)) (sym x_is)
+            (subst (IsWordOf terms new (names ++ more) id) (sym last) (here (ap (is_marked marks) (sym x_is) ∙ marked)))
+      ];
   names_ok = names_ok;
   low = low;
   models = models;
   added =
-    let e : added_to terms marks (n + 1) ≡ added_to terms marks n + cond (is_marked marks id) (entry_cost terms (slice_get terms n) - 130) 0 =
-    ap (added_to terms marks) (add-one n) ∙ ap (λ k. added_to terms marks n + cond (get_or marks k false) (entry_cost terms (slice_get terms n) - 130) 0) (sym at) in
-    omega (arith, e, cost, state.added);
+      let e : added_to terms marks (n + 1) ≡ added_to terms marks n + cond (is_marked marks id) (entry_cost terms (slice_get terms n) - 130) 0 =
+      ap (added_to terms marks) (add-one n) ∙ ap (λ k. added_to terms marks n + cond (get_or marks k false) (entry_cost terms (slice_get terms n) - 130) 0) (sym at) in
+      omega (arith, e, cost, state.added);
 }

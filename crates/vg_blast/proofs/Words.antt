@@ -27,9 +27,9 @@ word_more old mid new m n cost out l w f g h word one le step = record {
   over = All-push (IsOver new.variables) out l (all_over_later mid new n out one.builds word.over) one.over;
   width = length-append out (l ∷ []) ∙ omega (arith, word.width);
   is = λ v holds.
-    number-push v out l
-    ∙ (λ j. word.is v (one.builds.weaker v holds) j + 2 ^ word.width j * bit (one.is v holds j))
-    ∙ step v;
+      number-push v out l
+      ∙ (λ j. word.is v (one.builds.weaker v holds) j + 2 ^ word.width j * bit (one.is v holds j))
+      ∙ step v;
 }
 
 -- ---- bit by bit
@@ -120,10 +120,10 @@ less_than_more old mid new a b x y l next i p q is_x is_y so_far one = record {
   builds = chained old mid new (48 * i) 48 (48 * (i + 1)) so_far.builds one.builds (omega arith);
   over = one.over;
   is = λ v h.
-    one.is v h
-    ∙ ap (borrow (truth v x) (truth v y)) (so_far.is v (one.builds.weaker v h))
-    ∙ less_more (truth v x) (truth v y) (number v (take i a)) (number v (take i b)) (2 ^ i) (number v (take (i + 1) a)) (number v (take (i + 1) b)) (low_below v a i (omega (arith, p))) (low_below v b i (omega (arith, q)))
-    (number-more v a i x p is_x) (number-more v b i y q is_y);
+      one.is v h
+      ∙ ap (borrow (truth v x) (truth v y)) (so_far.is v (one.builds.weaker v h))
+      ∙ less_more (truth v x) (truth v y) (number v (take i a)) (number v (take i b)) (2 ^ i) (number v (take (i + 1) a)) (number v (take (i + 1) b)) (low_below v a i (omega (arith, p))) (low_below v b i (omega (arith, q)))
+      (number-more v a i x p is_x) (number-more v b i y q is_y);
 }
 
 same_as : (a b c d : ℕ) → (a ≡ b → c ≡ d) → (c ≡ d → a ≡ b) → nat_eq a b ≡ nat_eq c d
@@ -142,13 +142,13 @@ equals_more old mid s new a b x y l one n next i p q is_x is_y so_far other is l
   builds = chained old mid new (24 * i) 24 (24 * (i + 1)) so_far.builds (chained mid s new 12 12 24 other.builds last.builds (omega arith)) (omega arith);
   over = last.over;
   is = λ v h.
-    let h2 = last.builds.weaker v h in
-    let h1 = other.builds.weaker v h2 in
-    let negated : truth v n ≡ not (truth v one) = ap (truth v) is ∙ truth_neg v one other.over.0 in
-    last.is v h
-    ∙ (λ j. so_far.is v h1 j && (negated ∙ ap not (other.is v h2)) j)
-    ∙ equal_more (truth v x) (truth v y) (number v (take i a)) (number v (take i b)) (2 ^ i) (number v (take (i + 1) a)) (number v (take (i + 1) b)) (low_below v a i (omega (arith, p))) (low_below v b i (omega (arith, q)))
-    (number-more v a i x p is_x) (number-more v b i y q is_y);
+      let h2 = last.builds.weaker v h in
+      let h1 = other.builds.weaker v h2 in
+      let negated : truth v n ≡ not (truth v one) = ap (truth v) is ∙ truth_neg v one other.over.0 in
+      last.is v h
+      ∙ (λ j. so_far.is v h1 j && (negated ∙ ap not (other.is v h2)) j)
+      ∙ equal_more (truth v x) (truth v y) (number v (take i a)) (number v (take i b)) (2 ^ i) (number v (take (i + 1) a)) (number v (take (i + 1) b)) (low_below v a i (omega (arith, p))) (low_below v b i (omega (arith, q)))
+      (number-more v a i x p is_x) (number-more v b i y q is_y);
 }
 
 -- ---- sums and differences
@@ -166,10 +166,10 @@ sums_more old mid new a b out carry x y l next i p q is_x is_y so_far one = reco
   over_carry = one.over_next;
   width = length-append out (l ∷ []) ∙ omega (arith, so_far.width);
   is = λ v h.
-    let pushed : number v (out ++ l ∷ []) ≡ number v out + 2 ^ i * bit (truth v l) = number-push v out l ∙ ap (λ n. number v out + 2 ^ n * bit (truth v l)) so_far.width in
-    (λ j. pushed j + pow_next i j * bit (truth v next))
-    ∙ sum_step (2 ^ i) (number v out) (bit (truth v carry)) (number v (take i a)) (number v (take i b)) (bit (truth v x)) (bit (truth v y)) (bit (truth v l)) (bit (truth v next)) (so_far.is v (one.builds.weaker v h)) (one.is v h)
-    ∙ sym (λ j. number-more v a i x p is_x j + number-more v b i y q is_y j);
+      let pushed : number v (out ++ l ∷ []) ≡ number v out + 2 ^ i * bit (truth v l) = number-push v out l ∙ ap (λ n. number v out + 2 ^ n * bit (truth v l)) so_far.width in
+      (λ j. pushed j + pow_next i j * bit (truth v next))
+      ∙ sum_step (2 ^ i) (number v out) (bit (truth v carry)) (number v (take i a)) (number v (take i b)) (bit (truth v x)) (bit (truth v y)) (bit (truth v l)) (bit (truth v next)) (so_far.is v (one.builds.weaker v h)) (one.is v h)
+      ∙ sym (λ j. number-more v a i x p is_x j + number-more v b i y q is_y j);
 }
 
 difference_step : (p o c a b x y s n : ℕ) → o + b ≡ a + p * c → s + y + c ≡ x + 2 * n → o + p * s + (b + p * y) ≡ a + p * x + 2 * p * n
@@ -185,10 +185,10 @@ differs_more old mid new a b out borrowed x y l next i p q is_x is_y so_far one 
   over_borrowed = one.over_next;
   width = length-append out (l ∷ []) ∙ omega (arith, so_far.width);
   is = λ v h.
-    let pushed : number v (out ++ l ∷ []) ≡ number v out + 2 ^ i * bit (truth v l) = number-push v out l ∙ ap (λ n. number v out + 2 ^ n * bit (truth v l)) so_far.width in
-    (λ j. pushed j + number-more v b i y q is_y j)
-    ∙ difference_step (2 ^ i) (number v out) (bit (truth v borrowed)) (number v (take i a)) (number v (take i b)) (bit (truth v x)) (bit (truth v y)) (bit (truth v l)) (bit (truth v next)) (so_far.is v (one.builds.weaker v h)) (one.is v h)
-    ∙ sym (λ j. number-more v a i x p is_x j + pow_next i j * bit (truth v next));
+      let pushed : number v (out ++ l ∷ []) ≡ number v out + 2 ^ i * bit (truth v l) = number-push v out l ∙ ap (λ n. number v out + 2 ^ n * bit (truth v l)) so_far.width in
+      (λ j. pushed j + number-more v b i y q is_y j)
+      ∙ difference_step (2 ^ i) (number v out) (bit (truth v borrowed)) (number v (take i a)) (number v (take i b)) (bit (truth v x)) (bit (truth v y)) (bit (truth v l)) (bit (truth v next)) (so_far.is v (one.builds.weaker v h)) (one.is v h)
+      ∙ sym (λ j. number-more v a i x p is_x j + pow_next i j * bit (truth v next));
 }
 
 -- the sum without its carry
@@ -201,12 +201,12 @@ sum_made old new out carry a b i w wide same h k sums =
       over = sums.over;
       width = sums.width ∙ e;
       is = λ v holds.
-        let below : number v out < 2 ^ w = subst (λ n. number v out < 2 ^ n) (sums.width ∙ e) (number-below v out) in
-        let whole : number v out + 2 ^ i * bit (truth v carry) ≡ number v a + number v b =
-        sums.is v holds ∙ (λ j. number v (take_all i a (omega (arith, wide, h)) j) + number v (take_all i b (omega (arith, wide, same, h)) j)) in
-        let turned_whole : bit (truth v carry) * 2 ^ w + number v out ≡ number v a + number v b =
-        sym (turned (2 ^ w) (bit (truth v carry)) (number v out)) ∙ ap (λ n. number v out + 2 ^ n * bit (truth v carry)) (sym e) ∙ whole in
-        sym (mod_low (bit (truth v carry)) w (number v out) below) ∙ ap (λ n. n % 2 ^ w) turned_whole;
+          let below : number v out < 2 ^ w = subst (λ n. number v out < 2 ^ n) (sums.width ∙ e) (number-below v out) in
+          let whole : number v out + 2 ^ i * bit (truth v carry) ≡ number v a + number v b =
+          sums.is v holds ∙ (λ j. number v (take_all i a (omega (arith, wide, h)) j) + number v (take_all i b (omega (arith, wide, same, h)) j)) in
+          let turned_whole : bit (truth v carry) * 2 ^ w + number v out ≡ number v a + number v b =
+          sym (turned (2 ^ w) (bit (truth v carry)) (number v out)) ∙ ap (λ n. number v out + 2 ^ n * bit (truth v carry)) (sym e) ∙ whole in
+          sym (mod_low (bit (truth v carry)) w (number v out) below) ∙ ap (λ n. n % 2 ^ w) turned_whole;
     }
 
 -- ---- words that are known
@@ -229,9 +229,9 @@ constant_more out i value l set so_far e known = record {
   width = length-append out (l ∷ []) ∙ omega (arith, so_far.width);
   over = λ n some. All-push (IsOver n) out l (so_far.over n some) (known.over n some);
   is = λ v first.
-    number-push v out l
-    ∙ (λ j. so_far.is v first j + 2 ^ so_far.width j * (ap bit (known.is v first) ∙ bit_of (value / 2 ^ i) set e) j)
-    ∙ (let t : value % 2 ^ i + 2 ^ i * (value / 2 ^ i % 2) ≡ (value / 2 ^ i % 2 ^ 1) * 2 ^ i + value % 2 ^ i = omega arith in t)
-    ∙ sym (mod-pow-add value 1 i)
-    ∙ ap (λ n. value % 2 ^ n) (let c : 1 + i ≡ i + 1 = omega arith in c);
+      number-push v out l
+      ∙ (λ j. so_far.is v first j + 2 ^ so_far.width j * (ap bit (known.is v first) ∙ bit_of (value / 2 ^ i) set e) j)
+      ∙ (let t : value % 2 ^ i + 2 ^ i * (value / 2 ^ i % 2) ≡ (value / 2 ^ i % 2 ^ 1) * 2 ^ i + value % 2 ^ i = omega arith in t)
+      ∙ sym (mod-pow-add value 1 i)
+      ∙ ap (λ n. value % 2 ^ n) (let c : 1 + i ≡ i + 1 = omega arith in c);
 }

@@ -53,3 +53,7 @@ pub record IsBlasted (terms : List Term) (facts : List TermId) (set : ClauseSet)
   pub sound : (words : List Word) → Assigns words terms → AreTrue terms words facts → (values : List Bool) × IsModel values set × Agree values terms words names
   -- and an assignment that agrees with a model makes every fact true
   pub exact : (values : List Bool) (words : List Word) → IsModel values set → Assigns words terms → Agree values terms words names → AreTrue terms words facts
+
+-- where the values are a model, the words make all facts true for which the clauses stand
+abbrev pub MakesTrue : List Term → ClauseSet → List BitName → List Bool → List Word → Type 0
+MakesTrue terms set names values words = (facts : List TermId) → IsBlasted terms facts set names → IsModel values set → AreTrue terms words facts

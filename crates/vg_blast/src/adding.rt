@@ -21,7 +21,12 @@ fn add_bits(gates: &mut Gates, a: Lit, b: Lit, carry: Lit) -> Result<(Lit, Lit),
 }
 
 /// The sum, modulo 2 to the width.
-pub(crate) fn sum(alloc: Global, gates: &mut Gates, a: &[Lit], b: &[Lit]) -> Result<Vec<Lit>, AllocError>
+pub(crate) fn sum(
+    alloc: Global,
+    gates: &mut Gates,
+    a: &[Lit],
+    b: &[Lit],
+) -> Result<Vec<Lit>, AllocError>
     requires same { length a.now ≡ length b.now }
     requires over { All (IsOver gates.old.variables) a.now × All (IsOver gates.old.variables) b.now }
     ensures { IfOk result (λ out. MakesWord gates.old gates.new (72 * length a.now) out.items (length a.now) (λ v. (number v a.now + number v b.now) % 2 ^ length a.now)) }
@@ -37,7 +42,12 @@ pub(crate) fn sum(alloc: Global, gates: &mut Gates, a: &[Lit], b: &[Lit]) -> Res
 }
 
 /// Whether a bit less another and a borrow needs a borrow from the next.
-pub(crate) fn borrow_bit(gates: &mut Gates, a: Lit, b: Lit, borrowed: Lit) -> Result<Lit, AllocError>
+pub(crate) fn borrow_bit(
+    gates: &mut Gates,
+    a: Lit,
+    b: Lit,
+    borrowed: Lit,
+) -> Result<Lit, AllocError>
     requires { IsOver gates.old.variables a × IsOver gates.old.variables b × IsOver gates.old.variables borrowed }
     ensures { IfOk result (λ out. MakesBit gates.old gates.new 48 out (λ v. borrow (truth v a) (truth v b) (truth v borrowed))) }
 {
@@ -57,7 +67,12 @@ fn take_bits(gates: &mut Gates, a: Lit, b: Lit, borrowed: Lit) -> Result<(Lit, L
 }
 
 /// The difference, modulo 2 to the width, and whether it needs a borrow from above.
-pub(crate) fn difference(alloc: Global, gates: &mut Gates, a: &[Lit], b: &[Lit]) -> Result<(Vec<Lit>, Lit), AllocError>
+pub(crate) fn difference(
+    alloc: Global,
+    gates: &mut Gates,
+    a: &[Lit],
+    b: &[Lit],
+) -> Result<(Vec<Lit>, Lit), AllocError>
     requires same { length a.now ≡ length b.now }
     requires over { All (IsOver gates.old.variables) a.now × All (IsOver gates.old.variables) b.now }
     ensures { IfOk result (λ r. MakesDifference gates.old gates.new r.0.items r.1 a.now b.now) }

@@ -5,7 +5,7 @@ ghost use Rattle.std.specs.Int.{bit_at};
 ghost use Rattle.vg_bits.specs.Words.{bit};
 ghost use Rattle.vg_term.specs.Terms.{AreTerms, Stands, width_at};
 ghost use Rattle.vg_term.specs.Value.{Assigns};
-ghost use Rattle.vg_blast.specs.Blasting.{Agree, AreNames, IsVariable};
+ghost use Rattle.vg_blast.specs.Blasting.{Agree, AreNames, IsVariable, MakesTrue};
 ghost use Rattle.vg_blast.specs.Assigning.{AreFilled, AreZeros, SetsBit};
 
 use crate::blasting::Blasted;
@@ -18,11 +18,17 @@ use vg_term::{Assign, Memory, Node, TermId, Terms};
 /// clauses, every fact is true that `blast` was given.
 ///
 /// `blasted` is what `blast` answered for these terms, or for them before later ones were added, and there are as many values as its clauses have variables.
-pub fn assignment(alloc: Global, terms: &Terms, blasted: &Blasted, values: &Values) -> Result<Assign, Memory>
+pub fn assignment(
+    alloc: Global,
+    terms: &Terms,
+    blasted: &Blasted,
+    values: &Values,
+) -> Result<Assign, Memory>
     requires names { AreNames terms.now blasted.now.clauses.variables blasted.now.bits.items }
     requires each { length values.now ≡ blasted.now.clauses.variables }
     ensures assigns { IfOk result (λ a. Assigns a.words.items terms.now) }
     ensures agrees { IfOk result (λ a. Agree values.now terms.now a.words.items blasted.now.bits.items) }
+    ensures facts { IfOk result (λ a. MakesTrue terms.now blasted.now.clauses blasted.now.bits.items values.now a.words.items) }
 {
     let Ok(mut words) = zeros(alloc, terms) else {
         return Err(Memory);
@@ -77,7 +83,9 @@ fn set_bit(terms: &Terms, words: &mut Vec<Word>, id: TermId, at: u8, holds: bool
     requires within { at < width_at terms.now id }
     ensures { SetsBit terms.now words.old.items words.new.items id at holds }
 {
-    if let Node::Var { number, .. } = terms.node(id) && holds {
+    if let Node::Var { number, .. } = terms.node(id)
+        && holds
+    {
         let word = words[number as usize];
         words[number as usize] = with_bit(word, at);
     }

@@ -33,7 +33,13 @@ fn bit(gates: &mut Gates, op: Bitwise, a: Lit, b: Lit) -> Result<Lit, AllocError
 }
 
 /// An operation on each bit of two words.
-pub(crate) fn bit_by_bit(alloc: Global, gates: &mut Gates, op: Bitwise, a: &[Lit], b: &[Lit]) -> Result<Vec<Lit>, AllocError>
+pub(crate) fn bit_by_bit(
+    alloc: Global,
+    gates: &mut Gates,
+    op: Bitwise,
+    a: &[Lit],
+    b: &[Lit],
+) -> Result<Vec<Lit>, AllocError>
     requires same { length a.now ≡ length b.now }
     requires over { All (IsOver gates.old.variables) a.now × All (IsOver gates.old.variables) b.now }
     ensures { IfOk result (λ out. MakesWord gates.old gates.new (12 * length a.now) out.items (length a.now) (λ v. number_by op (number v a.now) (number v b.now))) }

@@ -37,7 +37,13 @@ pub(crate) fn equal(gates: &mut Gates, a: &[Lit], b: &[Lit]) -> Result<Lit, Allo
 }
 
 /// The second word where the condition is true, and else the third.
-pub(crate) fn choice(alloc: Global, gates: &mut Gates, condition: Lit, a: &[Lit], b: &[Lit]) -> Result<Vec<Lit>, AllocError>
+pub(crate) fn choice(
+    alloc: Global,
+    gates: &mut Gates,
+    condition: Lit,
+    a: &[Lit],
+    b: &[Lit],
+) -> Result<Vec<Lit>, AllocError>
     requires same { length a.now ≡ length b.now }
     requires over { IsOver gates.old.variables condition × All (IsOver gates.old.variables) a.now × All (IsOver gates.old.variables) b.now }
     ensures { IfOk result (λ out. MakesWord gates.old gates.new (36 * length a.now) out.items (length a.now) (λ v. if truth v condition then number v a.now else number v b.now)) }

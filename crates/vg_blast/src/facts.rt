@@ -41,7 +41,12 @@ impl Circuit {
     }
 
     /// Requires an asserted term, unless it is a conjunction, whose parts are asserted too.
-    fn require_asserted(&mut self, terms: &Terms, asserted: &[bool], id: TermId) -> Result<(), AllocError>
+    fn require_asserted(
+        &mut self,
+        terms: &Terms,
+        asserted: &[bool],
+        id: TermId,
+    ) -> Result<(), AllocError>
         requires stands { Stands terms.now id }
         requires long { length asserted.now ≡ length terms.now }
         requires literal { is_marked asserted.now id ≡ true → HasLiteral self.old.gates self.old.lists id }
@@ -57,7 +62,12 @@ impl Circuit {
     }
 
     /// Requires each asserted term.
-    pub fn require_all(&mut self, terms: &Terms, marks: &[bool], asserted: &[bool]) -> Result<(), BlastStop>
+    pub fn require_all(
+        &mut self,
+        terms: &Terms,
+        marks: &[bool],
+        asserted: &[bool],
+    ) -> Result<(), BlastStop>
         requires state { IsState terms.now marks.now (length terms.now) self.old.gates self.old.lists self.old.names.items }
         requires long { length asserted.now ≡ length terms.now }
         requires marked { (id : Id) → is_marked asserted.now id ≡ true → is_marked marks.now id ≡ true }

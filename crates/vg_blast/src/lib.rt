@@ -16,6 +16,8 @@ mod operation;
 mod shifting;
 mod stops;
 mod terms;
+#[cfg(test)]
+mod tests;
 mod wiring;
 
 pub use assigning::assignment;

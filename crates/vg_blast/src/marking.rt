@@ -75,7 +75,12 @@ fn starts(alloc: Global, terms: &Terms, from: &[TermId]) -> Result<Vec<bool>, Al
 }
 
 /// Marks on all terms to which one goes on from some, by the terms' numbers.
-pub(crate) fn mark(alloc: Global, terms: &Terms, follow: Follow, from: &[TermId]) -> Result<Vec<bool>, AllocError>
+pub(crate) fn mark(
+    alloc: Global,
+    terms: &Terms,
+    follow: Follow,
+    from: &[TermId],
+) -> Result<Vec<bool>, AllocError>
     requires { All (Stands terms.now) from.now }
     ensures marks { IfOk result (λ marks. AreMarks follow terms.now from.now 0 marks.items) }
     ensures made { OnOk result (AreTerms terms.now) }

@@ -13,7 +13,13 @@ use std::alloc::{AllocError, Global};
 use vg_cnf::Lit;
 
 /// A word to the left by so many places, or 0 where a literal is false.
-fn row(alloc: Global, gates: &mut Gates, b: &[Lit], bit: Lit, by: usize) -> Result<Vec<Lit>, AllocError>
+fn row(
+    alloc: Global,
+    gates: &mut Gates,
+    b: &[Lit],
+    bit: Lit,
+    by: usize,
+) -> Result<Vec<Lit>, AllocError>
     requires within { by ≤ length b.now }
     requires over { All (IsOver gates.old.variables) b.now × IsOver gates.old.variables bit }
     ensures { IfOk result (λ out. MakesWord gates.old gates.new (36 * length b.now) out.items (length b.now) (λ v. if truth v bit then (number v b.now * 2 ^ by) % 2 ^ length b.now else 0)) }
@@ -25,7 +31,12 @@ fn row(alloc: Global, gates: &mut Gates, b: &[Lit], bit: Lit, by: usize) -> Resu
 }
 
 /// The product, modulo 2 to the width: the second word to the left by each place where the first has a bit, summed.
-pub(crate) fn product(alloc: Global, gates: &mut Gates, a: &[Lit], b: &[Lit]) -> Result<Vec<Lit>, AllocError>
+pub(crate) fn product(
+    alloc: Global,
+    gates: &mut Gates,
+    a: &[Lit],
+    b: &[Lit],
+) -> Result<Vec<Lit>, AllocError>
     requires same { length a.now ≡ length b.now }
     requires over { All (IsOver gates.old.variables) a.now × All (IsOver gates.old.variables) b.now }
     ensures { IfOk result (λ out. MakesWord gates.old gates.new (108 * length a.now * length a.now) out.items (length a.now) (λ v. (number v a.now * number v b.now) % 2 ^ length a.now)) }
@@ -39,7 +50,13 @@ pub(crate) fn product(alloc: Global, gates: &mut Gates, a: &[Lit], b: &[Lit]) ->
 }
 
 /// One more bit of a quotient: the remainder so far takes the next bit of the dividend from the right, and the divisor is taken from it where it fits.
-fn divide_step(alloc: Global, gates: &mut Gates, remainder: &[Lit], next: Lit, divisor: &[Lit]) -> Result<(Lit, Vec<Lit>), AllocError>
+fn divide_step(
+    alloc: Global,
+    gates: &mut Gates,
+    remainder: &[Lit],
+    next: Lit,
+    divisor: &[Lit],
+) -> Result<(Lit, Vec<Lit>), AllocError>
     requires same { length remainder.now ≡ length divisor.now }
     requires over { All (IsOver gates.old.variables) remainder.now × IsOver gates.old.variables next × All (IsOver gates.old.variables) divisor.now }
     ensures { IfOk result (λ r. DividesStep gates.old gates.new r.0 r.1.items remainder.now next divisor.now) }
@@ -55,7 +72,12 @@ fn divide_step(alloc: Global, gates: &mut Gates, remainder: &[Lit], next: Lit, d
 }
 
 /// The unsigned quotient and the remainder. Where the divisor is 0 they are all ones and the dividend, since 0 fits each time.
-pub(crate) fn divided(alloc: Global, gates: &mut Gates, a: &[Lit], b: &[Lit]) -> Result<(Vec<Lit>, Vec<Lit>), AllocError>
+pub(crate) fn divided(
+    alloc: Global,
+    gates: &mut Gates,
+    a: &[Lit],
+    b: &[Lit],
+) -> Result<(Vec<Lit>, Vec<Lit>), AllocError>
     requires same { length a.now ≡ length b.now }
     requires over { All (IsOver gates.old.variables) a.now × All (IsOver gates.old.variables) b.now }
     ensures { IfOk result (λ r. Divides gates.old gates.new (180 * length a.now * length a.now) r.0.items r.1.items a.now b.now (length a.now)) }

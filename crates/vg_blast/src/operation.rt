@@ -20,7 +20,11 @@ use vg_cnf::Lit;
 use vg_term::Op;
 
 /// The literals of an operation of no parts.
-pub(crate) fn without_parts(alloc: Global, gates: &mut Gates, op: Op) -> Result<Vec<Lit>, AllocError>
+pub(crate) fn without_parts(
+    alloc: Global,
+    gates: &mut Gates,
+    op: Op,
+) -> Result<Vec<Lit>, AllocError>
     requires { FitsNone op }
     ensures { IfOk result (λ out. MakesWord gates.old gates.new 0 out.items (width_none op) (λ v. value_none op)) }
 {
@@ -32,7 +36,12 @@ pub(crate) fn without_parts(alloc: Global, gates: &mut Gates, op: Op) -> Result<
 }
 
 /// The literals of an operation of one part.
-pub(crate) fn of_one(alloc: Global, gates: &mut Gates, op: Op, a: &[Lit]) -> Result<Vec<Lit>, AllocError>
+pub(crate) fn of_one(
+    alloc: Global,
+    gates: &mut Gates,
+    op: Op,
+    a: &[Lit],
+) -> Result<Vec<Lit>, AllocError>
     requires fits { FitsOne op (length a.now) }
     requires some { 0 < length a.now }
     requires over { All (IsOver gates.old.variables) a.now }
@@ -56,7 +65,12 @@ fn flag(alloc: Global, literal: Lit) -> Result<Vec<Lit>, AllocError>
 }
 
 /// The difference, modulo 2 to the width.
-fn subtracted(alloc: Global, gates: &mut Gates, a: &[Lit], b: &[Lit]) -> Result<Vec<Lit>, AllocError>
+fn subtracted(
+    alloc: Global,
+    gates: &mut Gates,
+    a: &[Lit],
+    b: &[Lit],
+) -> Result<Vec<Lit>, AllocError>
     requires same { length a.now ≡ length b.now }
     requires over { All (IsOver gates.old.variables) a.now × All (IsOver gates.old.variables) b.now }
     ensures { IfOk result (λ out. MakesWord gates.old gates.new (72 * length a.now) out.items (length a.now) (λ v. words.sub (length a.now) (number v a.now) (number v b.now))) }
@@ -86,7 +100,12 @@ fn remainder(alloc: Global, gates: &mut Gates, a: &[Lit], b: &[Lit]) -> Result<V
 }
 
 /// To the right with zeros from the left.
-fn logical_right(alloc: Global, gates: &mut Gates, a: &[Lit], by: &[Lit]) -> Result<Vec<Lit>, AllocError>
+fn logical_right(
+    alloc: Global,
+    gates: &mut Gates,
+    a: &[Lit],
+    by: &[Lit],
+) -> Result<Vec<Lit>, AllocError>
     requires same { length a.now ≡ length by.now }
     requires at_most_64 { length a.now ≤ 64 }
     requires over { All (IsOver gates.old.variables) a.now × All (IsOver gates.old.variables) by.now }
@@ -97,7 +116,12 @@ fn logical_right(alloc: Global, gates: &mut Gates, a: &[Lit], by: &[Lit]) -> Res
 }
 
 /// To the right with the sign from the left.
-fn arithmetic_right(alloc: Global, gates: &mut Gates, a: &[Lit], by: &[Lit]) -> Result<Vec<Lit>, AllocError>
+fn arithmetic_right(
+    alloc: Global,
+    gates: &mut Gates,
+    a: &[Lit],
+    by: &[Lit],
+) -> Result<Vec<Lit>, AllocError>
     requires same { length a.now ≡ length by.now }
     requires some { 0 < length a.now }
     requires at_most_64 { length a.now ≤ 64 }
@@ -121,7 +145,13 @@ fn less_signed(alloc: Global, gates: &mut Gates, a: &[Lit], b: &[Lit]) -> Result
 }
 
 /// The literals of an operation of two parts.
-pub(crate) fn of_two(alloc: Global, gates: &mut Gates, op: Op, a: &[Lit], b: &[Lit]) -> Result<Vec<Lit>, AllocError>
+pub(crate) fn of_two(
+    alloc: Global,
+    gates: &mut Gates,
+    op: Op,
+    a: &[Lit],
+    b: &[Lit],
+) -> Result<Vec<Lit>, AllocError>
     requires fits { FitsTwo op (length a.now) (length b.now) }
     requires some { 0 < length a.now }
     requires at_most_64 { length a.now ≤ 64 }
@@ -150,7 +180,13 @@ pub(crate) fn of_two(alloc: Global, gates: &mut Gates, op: Op, a: &[Lit], b: &[L
 }
 
 /// The literals of an operation of two parts whose answer is as wide as they are.
-fn of_two_alike(alloc: Global, gates: &mut Gates, op: Op, a: &[Lit], b: &[Lit]) -> Result<Vec<Lit>, AllocError>
+fn of_two_alike(
+    alloc: Global,
+    gates: &mut Gates,
+    op: Op,
+    a: &[Lit],
+    b: &[Lit],
+) -> Result<Vec<Lit>, AllocError>
     requires fits { FitsTwo op (length a.now) (length b.now) }
     requires alike { (op ≢ ops.Concat) × (op ≢ ops.Eq) × (op ≢ ops.Ult) × (op ≢ ops.Slt) }
     requires some { 0 < length a.now }
@@ -175,7 +211,14 @@ fn of_two_alike(alloc: Global, gates: &mut Gates, op: Op, a: &[Lit], b: &[Lit]) 
 }
 
 /// The literals of the choice between two words.
-pub(crate) fn of_three(alloc: Global, gates: &mut Gates, op: Op, condition: &[Lit], a: &[Lit], b: &[Lit]) -> Result<Vec<Lit>, AllocError>
+pub(crate) fn of_three(
+    alloc: Global,
+    gates: &mut Gates,
+    op: Op,
+    condition: &[Lit],
+    a: &[Lit],
+    b: &[Lit],
+) -> Result<Vec<Lit>, AllocError>
     requires fits { FitsThree op (length condition.now) (length a.now) (length b.now) }
     requires some { 0 < length a.now }
     requires over { All (IsOver gates.old.variables) condition.now × All (IsOver gates.old.variables) a.now × All (IsOver gates.old.variables) b.now }

@@ -46,7 +46,13 @@ fn power(exponent: usize) -> usize
 }
 
 /// A word, by so many places to the left where a literal is true.
-fn step_left(alloc: Global, gates: &mut Gates, moved: &[Lit], by: Lit, distance: usize) -> Result<Vec<Lit>, AllocError>
+fn step_left(
+    alloc: Global,
+    gates: &mut Gates,
+    moved: &[Lit],
+    by: Lit,
+    distance: usize,
+) -> Result<Vec<Lit>, AllocError>
     requires within { distance ≤ length moved.now }
     requires over { All (IsOver gates.old.variables) moved.now × IsOver gates.old.variables by }
     ensures { IfOk result (λ out. MakesWord gates.old gates.new (36 * length moved.now) out.items (length moved.now) (λ v. if truth v by then (number v moved.now * 2 ^ distance) % 2 ^ length moved.now else number v moved.now)) }
@@ -56,7 +62,14 @@ fn step_left(alloc: Global, gates: &mut Gates, moved: &[Lit], by: Lit, distance:
 }
 
 /// A word, by so many places to the right where a literal is true, with a literal from the left.
-fn step_right(alloc: Global, gates: &mut Gates, moved: &[Lit], by: Lit, fill: Lit, distance: usize) -> Result<Vec<Lit>, AllocError>
+fn step_right(
+    alloc: Global,
+    gates: &mut Gates,
+    moved: &[Lit],
+    by: Lit,
+    fill: Lit,
+    distance: usize,
+) -> Result<Vec<Lit>, AllocError>
     requires within { distance ≤ length moved.now }
     requires over { All (IsOver gates.old.variables) moved.now × IsOver gates.old.variables by × IsOver gates.old.variables fill }
     ensures { IfOk result (λ out. MakesWord gates.old gates.new (36 * length moved.now) out.items (length moved.now) (λ v. if truth v by then number v (drop distance moved.now ++ replicate distance fill) else number v moved.now)) }
@@ -66,7 +79,13 @@ fn step_right(alloc: Global, gates: &mut Gates, moved: &[Lit], by: Lit, fill: Li
 }
 
 /// A word, or a literal in each of its bits where one of the others is true.
-fn unless_past(alloc: Global, gates: &mut Gates, moved: &[Lit], far: &[Lit], fill: Lit) -> Result<Vec<Lit>, AllocError>
+fn unless_past(
+    alloc: Global,
+    gates: &mut Gates,
+    moved: &[Lit],
+    far: &[Lit],
+    fill: Lit,
+) -> Result<Vec<Lit>, AllocError>
     requires { All (IsOver gates.old.variables) moved.now × All (IsOver gates.old.variables) far.now × IsOver gates.old.variables fill }
     ensures { IfOk result (λ out. MakesWord gates.old gates.new (12 * length far.now + 36 * length moved.now) out.items (length moved.now) (λ v. if nat_eq (number v far.now) 0 then number v moved.now else number v (replicate (length moved.now) fill))) }
 {
@@ -76,7 +95,12 @@ fn unless_past(alloc: Global, gates: &mut Gates, moved: &[Lit], far: &[Lit], fil
 }
 
 /// To the left, with zeros from the right; 0 from the width on.
-pub(crate) fn shifted_left(alloc: Global, gates: &mut Gates, a: &[Lit], by: &[Lit]) -> Result<Vec<Lit>, AllocError>
+pub(crate) fn shifted_left(
+    alloc: Global,
+    gates: &mut Gates,
+    a: &[Lit],
+    by: &[Lit],
+) -> Result<Vec<Lit>, AllocError>
     requires same { length a.now ≡ length by.now }
     requires at_most_64 { length a.now ≤ 64 }
     requires over { All (IsOver gates.old.variables) a.now × All (IsOver gates.old.variables) by.now }
@@ -93,7 +117,13 @@ pub(crate) fn shifted_left(alloc: Global, gates: &mut Gates, a: &[Lit], by: &[Li
 }
 
 /// To the right, with a literal from the left; that literal in every bit from the width on.
-pub(crate) fn shifted_right(alloc: Global, gates: &mut Gates, a: &[Lit], by: &[Lit], fill: Lit) -> Result<Vec<Lit>, AllocError>
+pub(crate) fn shifted_right(
+    alloc: Global,
+    gates: &mut Gates,
+    a: &[Lit],
+    by: &[Lit],
+    fill: Lit,
+) -> Result<Vec<Lit>, AllocError>
     requires same { length a.now ≡ length by.now }
     requires at_most_64 { length a.now ≤ 64 }
     requires over { All (IsOver gates.old.variables) a.now × All (IsOver gates.old.variables) by.now × IsOver gates.old.variables fill }

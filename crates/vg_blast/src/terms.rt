@@ -10,8 +10,8 @@ ghost use Rattle.vg_blast.specs.Marking.{is_marked};
 ghost use Rattle.vg_blast.specs.State.{AddsOperation, AreReady, IsState, MakesOperation, added_to, new_literals, new_names};
 
 use crate::gates::Gates;
-use crate::stops::BlastStop;
 use crate::operation::{of_one, of_three, of_two, without_parts};
+use crate::stops::BlastStop;
 use std::alloc::{AllocError, Global};
 use vg_cnf::{Lit, LiteralLists};
 use vg_term::{Node, Op, Parts, TermId, Terms};
@@ -20,7 +20,13 @@ use vg_term::{Node, Op, Parts, TermId, Terms};
 pub const MOST_LITERALS: usize = 16_777_216;
 
 /// New literals for the bits of a variable, noted as such.
-fn input(alloc: Global, gates: &mut Gates, names: &mut Vec<(TermId, u8, Lit)>, id: TermId, width: u8) -> Result<Vec<Lit>, AllocError>
+fn input(
+    alloc: Global,
+    gates: &mut Gates,
+    names: &mut Vec<(TermId, u8, Lit)>,
+    id: TermId,
+    width: u8,
+) -> Result<Vec<Lit>, AllocError>
     ensures gates { IfOk result (λ out. gates.new ≡ record gates.old { variables = gates.old.variables + width }) }
     ensures names { IfOk result (λ out. names.new.items ≡ names.old.items ++ new_names id gates.old.variables width) }
     ensures literals { IfOk result (λ out. out.items ≡ new_literals gates.old.variables width) }
@@ -35,7 +41,13 @@ fn input(alloc: Global, gates: &mut Gates, names: &mut Vec<(TermId, u8, Lit)>, i
 }
 
 /// The literals of an operation on parts that have theirs.
-fn operation(alloc: Global, gates: &mut Gates, lists: &LiteralLists, op: Op, parts: Parts) -> Result<Vec<Lit>, AllocError>
+fn operation(
+    alloc: Global,
+    gates: &mut Gates,
+    lists: &LiteralLists,
+    op: Op,
+    parts: Parts,
+) -> Result<Vec<Lit>, AllocError>
     requires { AreReady gates.old lists.now op (listed parts) }
     ensures { IfOk result (λ out. MakesOperation gates.old gates.new lists.now op (listed parts) out.items) }
 {
@@ -102,7 +114,13 @@ impl Circuit {
     }
 
     /// For one more term, which has literals if it is marked.
-    fn add_term(&mut self, alloc: Global, terms: &Terms, marks: &[bool], id: TermId) -> Result<(), AllocError>
+    fn add_term(
+        &mut self,
+        alloc: Global,
+        terms: &Terms,
+        marks: &[bool],
+        id: TermId,
+    ) -> Result<(), AllocError>
         requires stands { Stands terms.now id }
         requires long { length marks.now ≡ length terms.now }
         requires closed { is_marked marks.now id ≡ true → All (λ part. is_marked marks.now part ≡ true) (parts_at terms.now id) }

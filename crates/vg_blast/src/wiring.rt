@@ -79,7 +79,12 @@ pub(crate) fn front(alloc: Global, a: &[Lit], width: usize) -> Result<Vec<Lit>, 
 }
 
 /// The literals from one place up to another.
-pub(crate) fn part(alloc: Global, a: &[Lit], from: usize, width: usize) -> Result<Vec<Lit>, AllocError>
+pub(crate) fn part(
+    alloc: Global,
+    a: &[Lit],
+    from: usize,
+    width: usize,
+) -> Result<Vec<Lit>, AllocError>
     requires { from + width ≤ length a.now }
     ensures { IfOk result (λ out. out.items ≡ take width (drop from a.now)) }
 {
@@ -89,7 +94,12 @@ pub(crate) fn part(alloc: Global, a: &[Lit], from: usize, width: usize) -> Resul
 }
 
 /// A word with a literal repeated above it.
-pub(crate) fn extended(alloc: Global, a: &[Lit], fill: Lit, more: usize) -> Result<Vec<Lit>, AllocError>
+pub(crate) fn extended(
+    alloc: Global,
+    a: &[Lit],
+    fill: Lit,
+    more: usize,
+) -> Result<Vec<Lit>, AllocError>
     ensures { IfOk result (λ out. out.items ≡ a.now ++ replicate more fill) }
 {
     let high = repeated(alloc, fill, more)?;
@@ -97,7 +107,12 @@ pub(crate) fn extended(alloc: Global, a: &[Lit], fill: Lit, more: usize) -> Resu
 }
 
 /// A word to the left by so many places, with a literal from the right.
-pub(crate) fn moved_left(alloc: Global, a: &[Lit], fill: Lit, by: usize) -> Result<Vec<Lit>, AllocError>
+pub(crate) fn moved_left(
+    alloc: Global,
+    a: &[Lit],
+    fill: Lit,
+    by: usize,
+) -> Result<Vec<Lit>, AllocError>
     requires { by ≤ length a.now }
     ensures { IfOk result (λ out. out.items ≡ replicate by fill ++ take (length a.now - by) a.now) }
 {
@@ -107,7 +122,12 @@ pub(crate) fn moved_left(alloc: Global, a: &[Lit], fill: Lit, by: usize) -> Resu
 }
 
 /// A word to the right by so many places, with a literal from the left.
-pub(crate) fn moved_right(alloc: Global, a: &[Lit], fill: Lit, by: usize) -> Result<Vec<Lit>, AllocError>
+pub(crate) fn moved_right(
+    alloc: Global,
+    a: &[Lit],
+    fill: Lit,
+    by: usize,
+) -> Result<Vec<Lit>, AllocError>
     requires { by ≤ length a.now }
     ensures { IfOk result (λ out. out.items ≡ drop by a.now ++ replicate by fill) }
 {

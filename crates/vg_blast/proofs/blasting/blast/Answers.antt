@@ -23,13 +23,13 @@ returns-in_err-circuit-clause-refused c =
 
 pub require_all-requires-clause-marked : goal.require_all-requires-clause-marked
 require_all-requires-clause-marked c = λ id asked.
-  ap (λ ms. is_marked ms id) c.deref-2.ensures.value
-  ∙ all_marked follow.Parts c.in_ok-marks.ensures.marks id
-  (by_parts c.in_ok-marks.ensures.made c.args.facts.now id (c.in_ok-asserted.ensures.marks.sound id (sym (ap (λ ms. is_marked ms id) c.deref-3.ensures.value) ∙ asked)))
+    ap (λ ms. is_marked ms id) c.deref-2.ensures.value
+    ∙ all_marked follow.Parts c.in_ok-marks.ensures.marks id
+    (by_parts c.in_ok-marks.ensures.made c.args.facts.now id (c.in_ok-asserted.ensures.marks.sound id (sym (ap (λ ms. is_marked ms id) c.deref-3.ensures.value) ∙ asked)))
 
 pub require_all-requires-clause-flags : goal.require_all-requires-clause-flags
 require_all-requires-clause-flags c = λ id asked.
-  asserted_flag c.in_ok-marks.ensures.made c.args.facts.now c.requires.flags id (c.in_ok-asserted.ensures.marks.sound id (sym (ap (λ ms. is_marked ms id) c.deref-3.ensures.value) ∙ asked))
+    asserted_flag c.in_ok-marks.ensures.made c.args.facts.now c.requires.flags id (c.in_ok-asserted.ensures.marks.sound id (sym (ap (λ ms. is_marked ms id) c.deref-3.ensures.value) ∙ asked))
 
 pub returns-in_err-require_all-clause-refused : goal.returns-in_err-require_all-clause-refused
 returns-in_err-require_all-clause-refused c =

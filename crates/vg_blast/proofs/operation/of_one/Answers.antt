@@ -25,4 +25,3 @@ pub returns-in-Sext : goal.returns-in-Sext
 returns-in-Sext c =
     subst (λ (op : Op). IfOk c.extended-in-Sext.result (λ out. MakesWord c.args.gates.now c.args.gates.now 0 out.items (width_one op (length c.args.a.now)) (λ v. value_one op (bits_by v c.args.a.now)))) (sym c.in-Sext.is)
     (sext_wired c.args.gates.now c.extended-in-Sext.result c.args.a.now c.index-a-a.result c.in-Sext.width c.requires.some (subst (λ (op : Op). FitsOne op (length c.args.a.now)) c.in-Sext.is c.requires.fits).0 c.index-a-a.is c.requires.over c.extended-in-Sext.ensures)
-

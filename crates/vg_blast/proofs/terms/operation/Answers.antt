@@ -7,8 +7,7 @@ use Rattle.vg_blast.proofs.terms.operation.Goals as goal
 
 pub of_three-requires-clause-over : goal.of_three-requires-clause-over
 of_three-requires-clause-over c =
-    let over = subst (All (λ part. All (IsOver c.args.gates.now.variables) (word_at c.args.lists.now part))) (ap listed c.in-Three.is) c.requires.over in
-    (
+    let over = subst (All (λ part. All (IsOver c.args.gates.now.variables) (word_at c.args.lists.now part))) (ap listed c.in-Three.is) c.requires.over in (
       part_over c.args.lists.now c.args.gates.now.variables c.in-Three.c c.get-condition.result.now c.get-condition.ensures (over 0 c.in-Three.c (omega arith)),
       part_over c.args.lists.now c.args.gates.now.variables c.in-Three.a c.get-left-in-Three.result.now c.get-left-in-Three.ensures (over 1 c.in-Three.a (omega arith)),
       part_over c.args.lists.now c.args.gates.now.variables c.in-Three.b c.get-right-in-Three.result.now c.get-right-in-Three.ensures (over 2 c.in-Three.b (omega arith)),

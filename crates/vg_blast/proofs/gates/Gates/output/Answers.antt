@@ -13,6 +13,6 @@ pub invariant_of-self-2 : goal.invariant_of-self-2
 invariant_of-self-2 c = (
   c.define.ensures.grows.net,
   inserted c.define.new.self c.args.gate c.in_ok-out.out c.self.inside.outputs.entries c.insert.new.self.entries c.insert.result
-  (still_entries c.self.inside.net c.define.new.self c.self.inside.outputs.entries c.define.ensures.grows c.self.invariant.1)
-  (record { over = c.in_ok-out.ensures.gate.over; is = c.in_ok-out.ensures.gate.is }) c.insert.ensures.entries c.insert.ensures.err,
+      (still_entries c.self.inside.net c.define.new.self c.self.inside.outputs.entries c.define.ensures.grows c.self.invariant.1)
+      (record { over = c.in_ok-out.ensures.gate.over; is = c.in_ok-out.ensures.gate.is }) c.insert.ensures.entries c.insert.ensures.err,
 )
