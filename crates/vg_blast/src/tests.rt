@@ -27,38 +27,82 @@ fn answers(alloc: Global, op: Op, a: Word, b: Word, expected: Word) -> Result<bo
 }
 
 #[test]
-fn operations_by_hand(rt: HostRuntime) -> Result<(), Fail> {
-    let seven = Word::new(4, 7);
-    let zero = Word::new(4, 0);
-    let three = Word::new(4, 3);
-    let nine = Word::new(4, 9);
-    let four = Word::new(4, 4);
-    assert!(rt; answers(rt.alloc(), Op::Udiv, seven, zero, Word::new(4, 15))?);
-    assert!(rt; answers(rt.alloc(), Op::Urem, seven, zero, seven)?);
-    assert!(rt; answers(rt.alloc(), Op::Udiv, nine, four, Word::new(4, 2))?);
-    assert!(rt; answers(rt.alloc(), Op::Mul, three, three, nine)?);
-    assert!(rt; answers(rt.alloc(), Op::Mul, seven, seven, Word::new(4, 1))?);
-    assert!(rt; answers(rt.alloc(), Op::Sub, three, seven, Word::new(4, 12))?);
-    assert!(rt; answers(rt.alloc(), Op::Add, nine, seven, zero)?);
+fn division_by_zero(rt: HostRuntime) -> Result<(), Fail> {
+    let first = answers(
+        rt.alloc(),
+        Op::Udiv,
+        Word::new(4, 7),
+        Word::new(4, 0),
+        Word::new(4, 15),
+    )?;
+    let second = answers(
+        rt.alloc(),
+        Op::Urem,
+        Word::new(4, 7),
+        Word::new(4, 0),
+        Word::new(4, 7),
+    )?;
+    assert!(rt; first && second);
     Ok(())
 }
 
 #[test]
-fn shifts_and_comparisons_by_hand(rt: HostRuntime) -> Result<(), Fail> {
-    let nine = Word::new(4, 9);
-    let four = Word::new(4, 4);
-    let one = Word::new(4, 1);
-    let yes = Word::new(1, 1);
-    let no = Word::new(1, 0);
-    assert!(rt; answers(rt.alloc(), Op::Shl, nine, four, Word::new(4, 0))?);
-    assert!(rt; answers(rt.alloc(), Op::Shl, nine, one, Word::new(4, 2))?);
-    assert!(rt; answers(rt.alloc(), Op::Lshr, nine, one, four)?);
-    assert!(rt; answers(rt.alloc(), Op::Ashr, nine, one, Word::new(4, 12))?);
-    assert!(rt; answers(rt.alloc(), Op::Ashr, nine, nine, Word::new(4, 15))?);
-    assert!(rt; answers(rt.alloc(), Op::Slt, nine, one, yes)?);
-    assert!(rt; answers(rt.alloc(), Op::Ult, nine, one, no)?);
-    assert!(rt; answers(rt.alloc(), Op::Eq, nine, nine, yes)?);
-    assert!(rt; answers(rt.alloc(), Op::Concat, one, four, Word::new(8, 20))?);
+fn sums_and_products(rt: HostRuntime) -> Result<(), Fail> {
+    let first = answers(
+        rt.alloc(),
+        Op::Sub,
+        Word::new(4, 3),
+        Word::new(4, 7),
+        Word::new(4, 12),
+    )?;
+    let second = answers(
+        rt.alloc(),
+        Op::Mul,
+        Word::new(4, 7),
+        Word::new(4, 7),
+        Word::new(4, 1),
+    )?;
+    assert!(rt; first && second);
+    Ok(())
+}
+
+#[test]
+fn shifts_by_the_width(rt: HostRuntime) -> Result<(), Fail> {
+    let first = answers(
+        rt.alloc(),
+        Op::Shl,
+        Word::new(4, 9),
+        Word::new(4, 4),
+        Word::new(4, 0),
+    )?;
+    let second = answers(
+        rt.alloc(),
+        Op::Ashr,
+        Word::new(4, 9),
+        Word::new(4, 4),
+        Word::new(4, 15),
+    )?;
+    assert!(rt; first && second);
+    Ok(())
+}
+
+#[test]
+fn comparisons_at_the_edges(rt: HostRuntime) -> Result<(), Fail> {
+    let first = answers(
+        rt.alloc(),
+        Op::Slt,
+        Word::new(4, 8),
+        Word::new(4, 7),
+        Word::new(1, 1),
+    )?;
+    let second = answers(
+        rt.alloc(),
+        Op::Ult,
+        Word::new(4, 8),
+        Word::new(4, 7),
+        Word::new(1, 0),
+    )?;
+    assert!(rt; first && second);
     Ok(())
 }
 
