@@ -1,0 +1,16 @@
+pub mod Same
+pub mod Truths
+pub mod Numbers
+pub mod Gating
+pub mod Composing
+pub mod Words
+pub mod Shifts
+pub mod Products
+pub mod Operating
+pub mod Marks
+pub mod Stating
+pub mod Inputs
+pub mod Requiring
+pub mod Blasts
+pub mod Costs
+pub mod Assignments

@@ -1,0 +1,61 @@
+-- The facts as clauses. No public clause rests on this file.
+use Rattle.std.specs.Prelude.{◌≡◌, ℕ, zero, suc, ◌+◌, ◌<◌, ◌≤◌, ℤ, pos, Bool, true, false, ◌&&◌, if◌then◌else◌, List, [], ◌∷◌, length, slice_index_or, All}
+use Rattle.vg_bits.specs.declared.word.Word.{Word}
+use Rattle.vg_cnf.specs.Clauses.{ClauseSet, IsOver}
+use Rattle.vg_term.specs.Terms.{Term}
+use Rattle.vg_term.specs.Value.{value_of, Assigns}
+use Rattle.vg_term.specs.declared.node.TermId.{TermId}
+use Rattle.vg_blast.specs.Circuits.{Adds, literals, Holds}
+use Rattle.vg_blast.specs.Blasting.{BitName, Agree}
+use Rattle.vg_blast.specs.Marking.{followed, is_marked}
+use Rattle.vg_blast.specs.State.{word_at}
+use Rattle.vg_blast.specs.declared.marking.Follow.TheVariants.{Conjuncts}
+
+abbrev pub none_of : List TermId → Bool
+none_of [] = true
+none_of (id ∷ ids) = false
+
+-- whether a term is no conjunction
+abbrev pub is_leaf : List Term → TermId → Bool
+is_leaf terms id = none_of (followed Conjuncts terms id)
+
+-- the lowest literal of a term
+abbrev pub first_of : List (List ℤ) → TermId → ℤ
+first_of lists id = slice_index_or (word_at lists id) 0 (pos 1)
+
+-- the term has a literal over the variables
+pub record HasLiteral (set : ClauseSet) (lists : List (List ℤ)) (id : TermId) : Type 0 where
+  pub within : id.0 < length lists
+  pub some : 0 < length (word_at lists id)
+  pub over : All (IsOver set.variables) (word_at lists id)
+
+-- a clause of the term's literal alone is added
+abbrev pub AddsUnit : ClauseSet → ClauseSet → List (List ℤ) → TermId → Type 0
+AddsUnit old new lists id = Adds old new (first_of lists id ∷ [])
+
+-- it is added where it is asked for, and else nothing is
+pub record AddsIf (asked : Bool) (old new : ClauseSet) (lists : List (List ℤ)) (id : TermId) : Type 0 where
+  pub added : asked ≡ true → AddsUnit old new lists id
+  pub kept : asked ≡ false → new ≡ old
+
+-- one term is required, with so many literals at most
+pub record RequiresOne (terms : List Term) (names : List BitName) (old new : ClauseSet) (id : TermId) : Type 0 where
+  pub variables : new.variables ≡ old.variables
+  pub weaker : (v : List Bool) → Holds v new → Holds v old
+  pub sound : (words : List Word) (v : List Bool) → Assigns words terms → Agree v terms words names → Holds v new → value_of terms words id ≡ 1
+  pub held : (words : List Word) (v : List Bool) → Assigns words terms → Agree v terms words names → Holds v old → value_of terms words id ≡ 1 → Holds v new
+  pub literals : literals new ≤ literals old + 128
+
+-- how many literals that may be for the first n terms
+abbrev pub required_to : List Bool → ℕ → ℕ
+required_to asserted zero = 0
+required_to asserted (suc n) = required_to asserted n + (if is_marked asserted (record { 0 = n }) then 128 else 0)
+
+-- the asserted ones of the first n terms that are no conjunctions are required
+pub record Requires (terms : List Term) (names : List BitName) (asserted : List Bool) (n : ℕ) (old new : ClauseSet) : Type 0 where
+  pub variables : new.variables ≡ old.variables
+  pub weaker : (v : List Bool) → Holds v new → Holds v old
+  pub sound : (words : List Word) (v : List Bool) → Assigns words terms → Agree v terms words names → Holds v new → (id : TermId) → id.0 < n → is_marked asserted id && is_leaf terms id ≡ true → value_of terms words id ≡ 1
+  pub held : (words : List Word) (v : List Bool) → Assigns words terms → Agree v terms words names → Holds v old →
+      ((id : TermId) → id.0 < n → is_marked asserted id && is_leaf terms id ≡ true → value_of terms words id ≡ 1) → Holds v new
+  pub literals : literals new ≤ literals old + required_to asserted n

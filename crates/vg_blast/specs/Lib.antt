@@ -1,0 +1,12 @@
+pub mod Circuits
+pub mod Gates
+pub mod Bitwise
+pub mod Adding
+pub mod Shifting
+pub mod Dividing
+pub mod Cost
+pub mod Marking
+pub mod Blasting
+pub mod State
+pub mod Facts
+pub mod Assigning
