@@ -1,20 +1,19 @@
 -- Words that are read off truth values.
-use Rattle.std.proofs.Common.{◌≡◌, ℕ, zero, suc, ◌+◌, ◌-◌, ◌*◌, ◌/◌, ◌%◌, ◌^◌, ◌<◌, ◌≤◌, List, [], ◌∷◌, ◌++◌, length, set, get_or, take, drop, slice_get, Some, None, Option, Bool, true, false, ◌⊎◌, refl, sym, ap, subst, ◌∙◌, inl, inr, arith, All, add-one, unwrap_or, length-append}
-use Rattle.std.specs.Prelude.{ℤ, bit_or}
-use Rattle.std.specs.Int.{bit_at, w64}
+use Rattle.std.proofs.Common.{◌≡◌, ℕ, zero, suc, ◌+◌, ◌*◌, ◌%◌, ◌^◌, ◌<◌, ◌≤◌, List, [], ◌∷◌, ◌++◌, length, set, get_or, take, slice_get, Some, Bool, true, false, ◌⊎◌, refl, sym, ap, subst, ◌∙◌, inl, inr, arith, unwrap_or, length-append}
+use Rattle.std.specs.Prelude.{bit_or}
+use Rattle.std.specs.Int.{bit_at}
 use Rattle.std.proofs.lemmas.Bool.{cases_lt}
 use Rattle.std.proofs.lemmas.Bool.Decides.{eqb_tells}
 use Rattle.std.proofs.lemmas.List.{length-set, get_or-set_other, get_or_default, take_more}
 use Rattle.std.proofs.lemmas.Grind.{get_or-set_at}
-use Rattle.std.proofs.lemmas.Option.{get_or_from_slice_get, slice_get_within, slice_get-get_or, slice_get_past}
+use Rattle.std.proofs.lemmas.Option.{get_or_from_slice_get, slice_get_within, slice_get-get_or}
 use Rattle.std.proofs.lemmas.Nat.{or_lt, one_shl}
 use Rattle.std.proofs.lemmas.Nat.Bits.{bit_at-zero}
 use Rattle.std.proofs.Math.Pow.{pow-lt}
 use Rattle.std.proofs.Math.Seq.{get_or-append_seam}
-use Rattle.std.proofs.lemmas.List.{get_or_append_left}
 use Rattle.vg_bits.specs.Words.{bit}
 use Rattle.vg_bits.specs.declared.word.Word.{Word}
-use Rattle.vg_term.specs.Terms.{Term, AreTerms, ComesNext, width_at, variable_count}
+use Rattle.vg_term.specs.Terms.{Term, AreTerms, width_at, variable_count}
 use Rattle.vg_term.specs.Value.{value_of, bits_at, entry_value, assigned, Assigns, HasItsWord}
 use Rattle.vg_term.specs.declared.node.TermId.{TermId}
 use Rattle.vg_term.specs.declared.node.Op.{Op}
@@ -22,7 +21,7 @@ use Rattle.vg_term.specs.declared.node.Parts.{Parts}
 use Rattle.vg_term.specs.declared.node.Node.TheVariants as nodes
 use Rattle.vg_term.proofs.Made.{comes_next, stays}
 use Rattle.vg_term.proofs.Values.{value_follows}
-use Rattle.vg_blast.specs.Blasting.{BitName, IsSameBit, IsVariable, IsNamed, Agrees, Agree, AreNames}
+use Rattle.vg_blast.specs.Blasting.{BitName, AreNames}
 use Rattle.vg_blast.specs.Circuits.{truth}
 use Rattle.vg_blast.specs.Assigning.{AreZeros, bit_of_term, SetsBit, AreFilled}
 

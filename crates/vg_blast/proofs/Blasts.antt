@@ -1,35 +1,30 @@
 -- What all clauses together say of the facts.
-use Rattle.std.proofs.Common.{◌≡◌, ℕ, zero, suc, ◌+◌, ◌-◌, ◌*◌, ◌^◌, ◌<◌, ◌≤◌, max, List, [], ◌∷◌, ◌++◌, map, length, get_or, slice_get, Some, None, Option, Bool, true, false, cond, ◌⊎◌, refl, sym, ap, subst, ◌∙◌, inl, inr, arith, All, Contains}
-use Rattle.std.specs.Prelude.{ℤ, pos, ◌&&◌, ◌||◌, nat_eq, bit_and, sum_by, IsTrue}
-use Rattle.std.specs.List.{list_any}
-use Rattle.std.proofs.lemmas.Bool.{cases_Bool, cases_lt, and_parts, and_from, or_left, or_right, false≢true, true≢false, eqb-true, eq-eqb}
+use Rattle.std.proofs.Common.{◌≡◌, ℕ, zero, suc, ◌^◌, ◌<◌, List, [], ◌∷◌, length, get_or, slice_get, Some, Option, Bool, true, false, cond, refl, sym, ap, subst, ◌∙◌, inl, inr, arith, All, Contains}
+use Rattle.std.specs.Prelude.{ℤ, ◌&&◌, nat_eq, bit_and}
+use Rattle.std.proofs.lemmas.Bool.{cases_Bool, cases_lt, and_parts, and_from, false≢true, true≢false, eqb-true}
 use Rattle.std.proofs.lemmas.List.Elements.{All-nil, All-cons, All-contains}
 use Rattle.std.proofs.lemmas.List.{get_or_past}
 use Rattle.std.proofs.lemmas.Nat.{and_le_l, and_le_r}
 use Rattle.vg_bits.specs.declared.word.Word.{Word}
-use Rattle.vg_cnf.specs.Clauses.{ClauseSet, IsModel}
-use Rattle.vg_term.specs.Operations.{Bits, answer, Fits}
-use Rattle.vg_term.specs.Terms.{Term, Stands, AreTerms, listed, width_at, width_in}
-use Rattle.vg_term.specs.Value.{value_of, bits_at, entry_value, Assigns}
+use Rattle.vg_cnf.specs.Clauses.{ClauseSet}
+use Rattle.vg_term.specs.Terms.{Term, Stands, AreTerms, listed, width_at}
+use Rattle.vg_term.specs.Value.{value_of, bits_at, entry_value}
 use Rattle.vg_term.specs.declared.node.TermId.{TermId}
-use Rattle.vg_term.specs.declared.node.Op.{Op}
 use Rattle.vg_term.specs.declared.node.Op.TheVariants as ops
 use Rattle.vg_term.specs.declared.node.Parts.{Parts}
 use Rattle.vg_term.specs.declared.node.Parts.TheVariants as parts
 use Rattle.vg_term.specs.declared.node.Node.TheVariants as nodes
 use Rattle.vg_term.proofs.Made.{is_made}
 use Rattle.vg_term.proofs.Values.{value_follows}
-use Rattle.vg_blast.specs.Circuits.{number, literals, Holds}
-use Rattle.vg_blast.specs.Cost.{parts_at, parts_in, is_under_to, is_reached, operation_cost, entry_cost, cost_to, cost, greatest}
-use Rattle.vg_blast.specs.Blasting.{BitName, IsVariable, Agree, AreTrue, IsNamed, AreNames, IsBlasted}
+use Rattle.vg_blast.specs.Circuits.{number}
+use Rattle.vg_blast.specs.Cost.{parts_at, parts_in}
+use Rattle.vg_blast.specs.Blasting.{BitName, AreTrue, IsNamed, IsBlasted}
 use Rattle.vg_blast.specs.Marking.{followed, conjuncts_in, is_marked, Follows, start, down, AreMarks}
 use Rattle.vg_blast.specs.declared.marking.Follow.{Follow}
 use Rattle.vg_blast.specs.declared.marking.Follow.TheVariants as follow
-use Rattle.vg_blast.specs.State.{word_at, IsWordOf, added_to, IsState}
-use Rattle.vg_blast.specs.Facts.{is_leaf, none_of, required_to, Requires}
-use Rattle.vg_blast.proofs.Marks.{followed_before}
+use Rattle.vg_blast.specs.State.{word_at, IsState}
+use Rattle.vg_blast.specs.Facts.{is_leaf, none_of, Requires}
 use Rattle.vg_blast.proofs.Numbers.{number-below}
-use Rattle.vg_blast.proofs.Stating.{cost_grows, width_ok}
 
 -- ---- conjunctions
 

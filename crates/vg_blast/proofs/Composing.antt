@@ -1,11 +1,11 @@
 -- One circuit after another.
-use Rattle.std.proofs.Common.{◌≡◌, ℕ, zero, suc, ◌+◌, ◌<◌, ◌≤◌, List, [], ◌∷◌, ◌++◌, length, Bool, true, false, refl, sym, ap, subst, ◌∙◌, arith, All, append_assoc}
-use Rattle.std.specs.Prelude.{ℤ, pos, negsuc, neg_ℤ, unsigned_abs, not, ◌&&◌, ◌||◌}
+use Rattle.std.proofs.Common.{◌≡◌, ℕ, zero, suc, ◌+◌, ◌≤◌, List, [], ◌++◌, Bool, true, false, refl, sym, ap, subst, ◌∙◌, arith, All, append_assoc}
+use Rattle.std.specs.Prelude.{ℤ, pos, negsuc, neg_ℤ, not, ◌&&◌, ◌||◌}
 use Rattle.std.proofs.Common.{Result, Ok, Err}
 use Rattle.std.specs.Prelude.{IfOk}
 use Rattle.std.proofs.lemmas.List.{append-nil}
 use Rattle.vg_cnf.specs.Clauses.{ClauseSet, IsOver, IsModel}
-use Rattle.vg_blast.specs.Circuits.{truth, Holds, IsNet, Builds, MakesBit, MakesWord, number, differ, choose, most}
+use Rattle.vg_blast.specs.Circuits.{truth, IsNet, Builds, MakesBit, choose}
 use Rattle.vg_blast.specs.Gates.{Folds, gate_value, IsGateFor}
 use Rattle.vg_blast.specs.declared.gate.Gate.{Gate}
 use Rattle.vg_blast.proofs.Truths.{truth_neg}

@@ -1,8 +1,8 @@
 -- Gates: the clauses that define a new variable by others.
-use Rattle.std.proofs.Common.{◌≡◌, ℕ, suc, ◌+◌, ◌<◌, ◌≤◌, List, [], ◌∷◌, ◌++◌, length, Bool, true, false, refl, sym, ap, subst, ◌∙◌, arith, length-append}
+use Rattle.std.proofs.Common.{◌≡◌, ℕ, ◌+◌, ◌<◌, ◌≤◌, List, [], ◌∷◌, ◌++◌, length, Bool, true, false, refl, sym, ap, subst, ◌∙◌, arith, length-append}
 use Rattle.std.specs.Prelude.{ℤ, pos, neg_ℤ, unsigned_abs, not, ◌&&◌, ◌||◌, sum_by}
 use Rattle.std.proofs.lemmas.Bool.{true≢false, false≢true}
-use Rattle.std.proofs.Common.{All, Some, None, is_some, unwrap_or, cond, inl, inr}
+use Rattle.std.proofs.Common.{All, Some, is_some, unwrap_or, cond, inl, inr}
 use Rattle.std.specs.Prelude.{slice_index_or}
 use Rattle.std.specs.Map.{lookup}
 use Rattle.std.proofs.Common.{Result, Ok, Err, OnOk}
@@ -14,9 +14,9 @@ use Rattle.indexmap.specs.IndexMap.{insert_entry}
 use Rattle.vg_blast.specs.Gates.{IsOutput, IsEntry, gate_value}
 use Rattle.vg_blast.specs.declared.gate.Gate.{Gate}
 use Rattle.vg_blast.proofs.Same.{same_gate, gate-same}
-use Rattle.vg_cnf.specs.Clauses.{ClauseSet, IsOver, IsClauseOver, IsModel, makes_true, makes_all_true}
-use Rattle.vg_blast.specs.Circuits.{truth, Holds, IsNet, Grows, Adds, Builds, MakesBit, literals, differ}
-use Rattle.vg_blast.proofs.Truths.{truth_neg, truth_more, truth_new, holds_more, tautology}
+use Rattle.vg_cnf.specs.Clauses.{ClauseSet, IsOver, IsModel, makes_true, makes_all_true}
+use Rattle.vg_blast.specs.Circuits.{truth, Holds, IsNet, Grows, Adds, MakesBit, literals, differ}
+use Rattle.vg_blast.proofs.Truths.{truth_neg, truth_more, truth_new, holds_more}
 
 -- a clause that needn't be added
 pub added_tautology : (set : ClauseSet) (c : List ℤ) → ((v : List Bool) → makes_true v c ≡ true) → Adds set set c

@@ -1,6 +1,6 @@
 -- New variables for the bits of a variable, and terms that need none.
-use Rattle.std.proofs.Common.{◌≡◌, ℕ, zero, suc, ◌+◌, ◌-◌, ◌*◌, ◌/◌, ◌%◌, ◌^◌, ◌<◌, ◌≤◌, List, [], ◌∷◌, ◌++◌, length, get_or, slice_get, Some, None, Bool, true, false, cond, ◌⊎◌, refl, sym, ap, subst, ◌∙◌, inl, inr, arith, All, Contains, add-one, length-append, append_assoc, Result, Ok, Err, OnOk}
-use Rattle.std.specs.Prelude.{ℤ, pos, unsigned_abs, nat_eq, sum_by}
+use Rattle.std.proofs.Common.{◌≡◌, ℕ, zero, suc, ◌+◌, ◌-◌, ◌*◌, ◌/◌, ◌%◌, ◌^◌, ◌<◌, ◌≤◌, List, [], ◌∷◌, ◌++◌, length, get_or, slice_get, Some, Bool, true, false, cond, ◌⊎◌, refl, sym, ap, subst, ◌∙◌, inl, inr, arith, All, add-one, length-append, append_assoc, Result, Ok, Err, OnOk}
+use Rattle.std.specs.Prelude.{ℤ, pos, nat_eq, sum_by}
 use Rattle.std.specs.List.{AllPairs}
 use Rattle.std.specs.Int.{bit_at}
 use Rattle.std.proofs.lemmas.List.{append-nil}
@@ -12,9 +12,9 @@ use Rattle.std.proofs.Math.Nat.{mod-eq_of_lt, mod-one}
 use Rattle.std.proofs.lemmas.Bool.{true≢false, cases_lt}
 use Rattle.vg_bits.specs.Words.{bit}
 use Rattle.vg_bits.specs.declared.word.Word.{Word}
-use Rattle.vg_cnf.specs.Clauses.{ClauseSet, IsOver, IsClauseOver, IsModel, makes_all_true}
-use Rattle.vg_term.specs.Terms.{Term, AreTerms, listed, width_at, width_in}
-use Rattle.vg_term.specs.Value.{value_of, bits_at, entry_value, assigned, Assigns, HasItsWord}
+use Rattle.vg_cnf.specs.Clauses.{ClauseSet, IsOver, IsModel, makes_all_true}
+use Rattle.vg_term.specs.Terms.{Term, AreTerms, listed, width_at}
+use Rattle.vg_term.specs.Value.{value_of, bits_at, entry_value, assigned, Assigns}
 use Rattle.vg_term.specs.declared.node.TermId.{TermId}
 use Rattle.vg_term.specs.declared.node.Op.{Op}
 use Rattle.vg_term.specs.declared.node.Parts.{Parts}
@@ -25,7 +25,7 @@ use Rattle.vg_blast.specs.Circuits.{truth, number, literals, Holds, IsNet}
 use Rattle.vg_blast.specs.Cost.{entry_cost, parts_at, parts_in}
 use Rattle.vg_blast.specs.Marking.{is_marked}
 use Rattle.vg_blast.specs.Blasting.{BitName, IsSameBit, IsVariable, IsNamed, Agrees, Agree, AreNames}
-use Rattle.vg_blast.specs.State.{word_at, MakesOperation, new_literals, new_names, IsWordOf, IsState, AddsOperation, added_to}
+use Rattle.vg_blast.specs.State.{MakesOperation, new_literals, new_names, IsWordOf, IsState, AddsOperation, added_to}
 use Rattle.vg_blast.proofs.Truths.{truth_more, truth_new, holds_more}
 use Rattle.vg_blast.proofs.Numbers.{number-push}
 use Rattle.vg_blast.proofs.Words.{bit_of}

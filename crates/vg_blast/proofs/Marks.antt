@@ -1,5 +1,5 @@
 -- Marks that go down.
-use Rattle.std.proofs.Common.{◌≡◌, ℕ, zero, suc, ◌+◌, ◌-◌, ◌<◌, ◌≤◌, List, [], ◌∷◌, length, set, get_or, replicate, take, Bool, true, false, cond, ◌⊎◌, ◌++◌, refl, sym, ap, subst, ◌∙◌, inl, inr, arith, All, Contains, Some, None, slice_get, Option}
+use Rattle.std.proofs.Common.{◌≡◌, ℕ, suc, ◌+◌, ◌<◌, ◌≤◌, List, [], ◌∷◌, length, set, get_or, replicate, take, Bool, true, false, cond, ◌⊎◌, ◌++◌, refl, sym, ap, subst, ◌∙◌, inl, inr, arith, All, Contains, Some, None, slice_get, Option}
 use Rattle.std.specs.Prelude.{nat_eq}
 use Rattle.std.proofs.lemmas.Bool.{cases_Bool, cases_lt, false≢true}
 use Rattle.std.proofs.lemmas.Bool.Decides.{eqb_tells}
@@ -9,11 +9,10 @@ use Rattle.std.proofs.lemmas.Grind.{get_or-set_at}
 use Rattle.std.proofs.lemmas.List.Elements.{All-nil, All-cons, All-head, All-tail, All-weaker, All-contains}
 use Rattle.vg_term.specs.Terms.{Term, Stands, AreTerms, listed}
 use Rattle.vg_term.specs.declared.node.TermId.{TermId}
-use Rattle.vg_term.specs.declared.node.Op.{Op}
 use Rattle.vg_term.specs.declared.node.Op.TheVariants as ops
 use Rattle.vg_term.specs.declared.node.Node.TheVariants as nodes
 use Rattle.vg_term.proofs.Made.{is_made}
-use Rattle.vg_blast.specs.Marking.{followed, conjuncts_in, is_marked, marked, Follows, start, down, AreStarts, AreMarks}
+use Rattle.vg_blast.specs.Marking.{followed, conjuncts_in, is_marked, marked, start, down, AreStarts, AreMarks}
 use Rattle.vg_blast.specs.declared.marking.Follow.{Follow}
 use Rattle.vg_blast.specs.declared.marking.Follow.TheVariants.{Parts, Conjuncts}
 

@@ -1,8 +1,8 @@
 -- The numbers that literals spell: joined, cut, repeated and negated.
-use Rattle.std.proofs.Common.{◌≡◌, ℕ, zero, suc, ◌+◌, ◌-◌, ◌*◌, ◌/◌, ◌%◌, ◌^◌, ◌<◌, ◌≤◌, List, [], ◌∷◌, ◌++◌, map, length, take, drop, get_or, replicate, Bool, true, false, refl, sym, ap, subst, ◌∙◌, arith, All, add-one, length-take-le}
-use Rattle.std.specs.Prelude.{ℤ, neg_ℤ, not, if◌then◌else◌}
+use Rattle.std.proofs.Common.{◌≡◌, ℕ, zero, suc, ◌+◌, ◌*◌, ◌/◌, ◌%◌, ◌^◌, ◌<◌, ◌≤◌, List, [], ◌∷◌, ◌++◌, map, length, take, drop, get_or, replicate, Bool, true, false, refl, sym, ap, subst, ◌∙◌, arith, All, add-one, length-take-le}
+use Rattle.std.specs.Prelude.{ℤ, neg_ℤ, not}
 use Rattle.std.proofs.Math.Nat.{pow-succ'}
-use Rattle.std.proofs.lemmas.Nat.{pow_pos, pow-add, mod_low, shr_high, mul-add-lt}
+use Rattle.std.proofs.lemmas.Nat.{mod_low, shr_high}
 use Rattle.std.proofs.lemmas.List.{take-append-drop, take_more}
 use Rattle.std.proofs.lemmas.List.Elements.{All-head, All-tail}
 use Rattle.vg_bits.specs.Words.{bit}

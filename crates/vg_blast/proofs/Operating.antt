@@ -1,24 +1,21 @@
 -- Operations as circuits, against their formulas.
-use Rattle.std.proofs.Common.{◌≡◌, ℕ, zero, suc, ◌+◌, ◌-◌, ◌*◌, ◌/◌, ◌%◌, ◌^◌, ◌<◌, ◌≤◌, List, [], ◌∷◌, ◌++◌, map, length, take, drop, get_or, replicate, Bool, true, false, cond, refl, sym, ap, subst, ◌∙◌, ◌⊎◌, inl, inr, arith, All, lt-ltb, le-ltb, eq-eqb, length-append, length-drop, length-take-le, Result, Ok, Err, Vec, Global}
+use Rattle.std.proofs.Common.{◌≡◌, ℕ, zero, suc, ◌+◌, ◌-◌, ◌*◌, ◌/◌, ◌%◌, ◌^◌, ◌<◌, ◌≤◌, List, [], ◌∷◌, ◌++◌, map, length, take, drop, get_or, replicate, Bool, true, false, cond, refl, sym, ap, subst, ◌∙◌, ◌⊎◌, inl, inr, arith, All, lt-ltb, le-ltb, length-append, length-drop, length-take-le, Result, Ok, Err, Vec, Global}
 use Rattle.std.specs.Prelude.{ℤ, pos, negsuc, neg_ℤ, not, nat_lt, nat_eq, int_lt, IfOk}
-use Rattle.std.proofs.lemmas.Bool.{cases_lt, ne_eqb}
+use Rattle.std.proofs.lemmas.Bool.{cases_lt}
 use Rattle.std.proofs.lemmas.Bool.Decides.{eqb_tells}
 use Rattle.std.proofs.lemmas.List.{length-replicate, take_all, length-map, get_or_default}
 use Rattle.std.proofs.lemmas.List.Elements.{All-nil, All-cons, All-append, All-replicate, All-take, All-drop, All-get_or, All-map, All-weaker}
-use Rattle.std.proofs.lemmas.Nat.{pow_pos, pow-add, mod_low, div-mul-add, mod-mul-add, shr_le}
-use Rattle.std.proofs.Math.Nat.{mod-eq_of_lt, zero-mod, mul-le-mul_left}
+use Rattle.std.proofs.lemmas.Nat.{mod_low, div-mul-add, mod-mul-add, shr_le}
+use Rattle.std.proofs.Math.Nat.{mod-eq_of_lt, mul-le-mul_left}
 use Rattle.std.proofs.Math.Pow.{pow_mono}
 use Rattle.vg_bits.specs.Words as words
 use Rattle.vg_bits.specs.Words.{bit}
 use Rattle.vg_bits.proofs.Machine.{sub-is, signed_pos, signed_neg, halves}
-use Rattle.vg_term.specs.declared.node.Op.{Op}
-use Rattle.vg_term.specs.declared.node.Op.TheVariants as ops
 use Rattle.vg_cnf.specs.Clauses.{ClauseSet, IsOver}
-use Rattle.vg_blast.specs.Circuits.{truth, number, Holds, IsNet, Builds, MakesBit, MakesWord, bits_by}
+use Rattle.vg_blast.specs.Circuits.{truth, number, Holds, IsNet, Builds, MakesBit, MakesWord}
 use Rattle.vg_blast.specs.Adding.{MakesDifference}
 use Rattle.vg_blast.specs.Dividing.{IsDivided, Divides}
 use Rattle.vg_blast.specs.Shifting.{turned, ShiftsRight}
-use Rattle.vg_blast.specs.Cost.{operation_cost}
 use Rattle.vg_blast.proofs.Truths.{truth_neg}
 use Rattle.vg_blast.proofs.Composing.{nothing_built, over_negated}
 use Rattle.vg_blast.proofs.Numbers.{number-append, number-push, number-take, number-drop, number-more, number-below, number-zeros, number-ones, number-negated, low_below}

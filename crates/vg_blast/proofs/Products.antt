@@ -1,16 +1,15 @@
 -- Products and quotients, bit by bit.
-use Rattle.std.proofs.Common.{◌≡◌, ℕ, zero, suc, ◌+◌, ◌-◌, ◌*◌, ◌/◌, ◌%◌, ◌^◌, ◌<◌, ◌≤◌, List, [], ◌∷◌, ◌++◌, length, take, drop, get_or, replicate, Bool, true, false, cond, refl, sym, ap, subst, ◌∙◌, inl, inr, arith, All, lt-ltb, le-ltb, eq-eqb, length-append, length-drop, length-take-le, Result, Ok, Err, Vec, Global}
+use Rattle.std.proofs.Common.{◌≡◌, ℕ, suc, ◌+◌, ◌-◌, ◌*◌, ◌%◌, ◌^◌, ◌<◌, ◌≤◌, List, [], ◌∷◌, ◌++◌, length, take, drop, get_or, replicate, Bool, true, false, cond, sym, ap, subst, ◌∙◌, inl, inr, arith, All, lt-ltb, le-ltb, length-drop, length-take-le, Result, Ok, Err, Vec, Global}
 use Rattle.std.specs.Prelude.{ℤ, neg_ℤ, negsuc, not, nat_lt, IfOk}
-use Rattle.std.proofs.lemmas.Bool.{cases_lt, ne_eqb}
+use Rattle.std.proofs.lemmas.Bool.{cases_lt}
 use Rattle.std.proofs.lemmas.List.{length-replicate, take_all, drop_all}
 use Rattle.std.proofs.lemmas.List.Elements.{All-nil, All-cons, All-replicate}
-use Rattle.std.proofs.lemmas.Nat.{pow_pos, pow-add}
 use Rattle.std.proofs.Math.Nat.{mod-eq_of_lt, add-mod, zero-mod}
 use Rattle.std.proofs.Math.Pow.{pow_mono}
 use Rattle.std.proofs.Math.Seq.{drop-cons}
 use Rattle.vg_bits.specs.Words.{bit}
 use Rattle.vg_cnf.specs.Clauses.{ClauseSet, IsOver}
-use Rattle.vg_blast.specs.Circuits.{truth, number, Holds, IsNet, Builds, MakesBit, MakesWord}
+use Rattle.vg_blast.specs.Circuits.{truth, number, Holds, IsNet, Builds, MakesWord}
 use Rattle.vg_blast.specs.Adding.{MakesDifference}
 use Rattle.vg_blast.specs.Dividing.{left_of, DividesStep, IsDivided, Divides}
 use Rattle.vg_blast.proofs.Truths.{truth_neg}

@@ -1,30 +1,18 @@
 -- The facts as clauses.
-use Rattle.std.proofs.Common.{◌≡◌, ℕ, zero, suc, ◌+◌, ◌-◌, ◌*◌, ◌^◌, ◌<◌, ◌≤◌, max, List, [], ◌∷◌, ◌++◌, map, length, get_or, slice_get, Some, None, Option, Bool, true, false, cond, ◌⊎◌, refl, sym, ap, subst, ◌∙◌, inl, inr, arith, All, Contains, add-one, Result, Ok, Err, OnOk}
-use Rattle.std.specs.Prelude.{ℤ, pos, ◌&&◌, ◌||◌, nat_eq, bit_and, sum_by}
-use Rattle.std.specs.List.{list_any}
-use Rattle.std.proofs.lemmas.Bool.{cases_Bool, cases_lt, and_parts, and_from, or_left, or_right, false≢true, true≢false, eq-eqb}
-use Rattle.std.proofs.lemmas.Bool.Decides.{eqb_tells}
-use Rattle.std.proofs.lemmas.List.Elements.{All-head, All-tail, All-contains, All-get_or}
-use Rattle.std.proofs.lemmas.Nat.{and_le_l, and_le_r}
+use Rattle.std.proofs.Common.{◌≡◌, ℕ, zero, suc, ◌+◌, ◌<◌, ◌≤◌, List, [], ◌∷◌, length, get_or, Bool, true, false, cond, ◌⊎◌, refl, sym, ap, subst, ◌∙◌, inl, inr, arith, All, add-one}
+use Rattle.std.specs.Prelude.{ℤ, pos, ◌&&◌, ◌||◌}
+use Rattle.std.proofs.lemmas.Bool.{cases_Bool, cases_lt, and_parts, or_left, true≢false}
 use Rattle.vg_bits.specs.Words.{bit}
 use Rattle.vg_bits.specs.declared.word.Word.{Word}
-use Rattle.vg_cnf.specs.Clauses.{ClauseSet, IsOver, IsModel, makes_true}
-use Rattle.vg_term.specs.Operations.{Bits, answer}
-use Rattle.vg_term.specs.Terms.{Term, Stands, AreTerms, listed, width_at}
-use Rattle.vg_term.specs.Value.{value_of, bits_at, entry_value, Assigns}
+use Rattle.vg_cnf.specs.Clauses.{ClauseSet, IsOver, makes_true}
+use Rattle.vg_term.specs.Terms.{Term, width_at}
+use Rattle.vg_term.specs.Value.{value_of, Assigns}
 use Rattle.vg_term.specs.declared.node.TermId.{TermId}
-use Rattle.vg_term.specs.declared.node.Op.{Op}
-use Rattle.vg_term.specs.declared.node.Op.TheVariants as ops
-use Rattle.vg_term.specs.declared.node.Parts.{Parts}
-use Rattle.vg_term.specs.declared.node.Node.TheVariants as nodes
-use Rattle.vg_term.proofs.Made.{is_made}
-use Rattle.vg_term.proofs.Values.{value_follows}
-use Rattle.vg_blast.specs.Circuits.{truth, number, literals, Holds, Adds}
+use Rattle.vg_blast.specs.Circuits.{truth, number, Holds}
 use Rattle.vg_blast.specs.Blasting.{BitName, Agree}
-use Rattle.vg_blast.specs.Marking.{followed, is_marked}
+use Rattle.vg_blast.specs.Marking.{is_marked}
 use Rattle.vg_blast.specs.State.{word_at, IsWordOf, IsState}
-use Rattle.vg_blast.specs.Facts.{is_leaf, first_of, HasLiteral, AddsUnit, AddsIf, required_to, Requires}
-use Rattle.vg_blast.proofs.Numbers.{number-below}
+use Rattle.vg_blast.specs.Facts.{is_leaf, first_of, HasLiteral, AddsIf, required_to, Requires}
 
 -- ---- one term
 

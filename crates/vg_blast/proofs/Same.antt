@@ -1,6 +1,5 @@
 -- The derived equality of gates is equality.
-use Rattle.std.proofs.Common.{◌≡◌, ◌&&◌, Bool, true, false, refl}
-use Rattle.std.specs.Prelude.{ℤ}
+use Rattle.std.proofs.Common.{◌≡◌, Bool, true}
 use Rattle.std.proofs.lemmas.Bool.{false≢true, and_parts}
 use Rattle.vg_cnf.proofs.Steps.{same_literal}
 use Rattle.vg_blast.specs.declared.gate.Gate.{Gate}

@@ -1,7 +1,7 @@
 -- Shifts in steps.
-use Rattle.std.proofs.Common.{◌≡◌, ℕ, zero, suc, ◌+◌, ◌-◌, ◌*◌, ◌/◌, ◌%◌, ◌^◌, ◌<◌, ◌≤◌, List, [], ◌∷◌, ◌++◌, length, take, drop, get_or, replicate, Bool, true, false, cond, refl, sym, ap, subst, ◌∙◌, inl, inr, arith, All, eq-eqb, length-append, length-drop, length-take-le, Result, Ok, Err, Vec, Global}
+use Rattle.std.proofs.Common.{◌≡◌, ℕ, zero, suc, ◌+◌, ◌-◌, ◌*◌, ◌/◌, ◌%◌, ◌^◌, ◌<◌, ◌≤◌, List, ◌++◌, length, take, drop, get_or, replicate, Bool, true, false, cond, refl, sym, ap, subst, ◌∙◌, inl, inr, arith, All, length-append, length-drop, length-take-le, Result, Ok, Err, Vec, Global}
 use Rattle.std.specs.Prelude.{ℤ, neg_ℤ, negsuc, not, ◌||◌, nat_eq, IfOk}
-use Rattle.std.proofs.lemmas.Bool.{cases_Bool, ne_eqb}
+use Rattle.std.proofs.lemmas.Bool.{ne_eqb}
 use Rattle.std.proofs.lemmas.Bool.Decides.{eqb_tells}
 use Rattle.std.proofs.lemmas.List.{take-append-drop, length-replicate}
 use Rattle.std.proofs.lemmas.List.Elements.{All-append, All-replicate, All-take, All-drop}
@@ -15,7 +15,7 @@ use Rattle.vg_blast.specs.Circuits.{truth, number, Holds, IsNet, Builds, MakesBi
 use Rattle.vg_blast.specs.Shifting.{turned, AreSteps, ShiftsRight}
 use Rattle.vg_blast.proofs.Truths.{truth_neg}
 use Rattle.vg_blast.proofs.Composing.{chained, nothing_built}
-use Rattle.vg_blast.proofs.Numbers.{number-append, number-take, number-drop, number-more, number-below, number-zeros, number-ones, pow_next, pow_more}
+use Rattle.vg_blast.proofs.Numbers.{number-append, number-take, number-drop, number-more, number-below, number-zeros, number-ones, pow_more}
 
 -- ---- the false literal
 

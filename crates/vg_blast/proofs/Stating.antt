@@ -1,23 +1,17 @@
 -- From the literals of some terms to those of one more.
-use Rattle.std.proofs.Common.{◌≡◌, ℕ, zero, suc, ◌+◌, ◌-◌, ◌*◌, ◌/◌, ◌%◌, ◌^◌, ◌<◌, ◌≤◌, max, List, [], ◌∷◌, ◌++◌, map, length, take, get_or, slice_get, Option, Some, None, Bool, true, false, cond, ◌⊎◌, refl, sym, ap, subst, ◌∙◌, inl, inr, arith, All, Contains, add-one, length-append, append_assoc, Result, Ok, Err, Vec, Global}
-use Rattle.std.specs.Prelude.{ℤ, pos, nat_eq, IfOk, sum_by}
-use Rattle.std.specs.List.{AllPairs}
-use Rattle.std.specs.Int.{bit_at}
-use Rattle.std.proofs.lemmas.Bool.{cases_Bool, cases_lt, false≢true}
-use Rattle.std.proofs.lemmas.Bool.Decides.{eqb_tells}
-use Rattle.std.proofs.lemmas.List.{get_or_append_left, append-nil}
-use Rattle.std.proofs.lemmas.List.Elements.{All-nil, All-cons, All-head, All-tail, All-append, All-push, All-weaker, All-contains, All-get_or, All-take}
-use Rattle.std.proofs.lemmas.List.Quantifiers.{all_pairs_push}
+use Rattle.std.proofs.Common.{◌≡◌, ℕ, zero, suc, ◌+◌, ◌-◌, ◌*◌, ◌<◌, ◌≤◌, List, [], ◌∷◌, ◌++◌, map, length, get_or, slice_get, Some, Bool, true, false, cond, refl, sym, ap, subst, ◌∙◌, inl, inr, arith, All, add-one, length-append, Result, Vec, Global}
+use Rattle.std.specs.Prelude.{ℤ, IfOk}
+use Rattle.std.proofs.lemmas.Bool.{cases_lt}
+use Rattle.std.proofs.lemmas.List.{get_or_append_left}
+use Rattle.std.proofs.lemmas.List.Elements.{All-nil, All-cons, All-head, All-tail, All-weaker}
 use Rattle.std.proofs.lemmas.Option.{get_or_from_slice_get, slice_get_within, slice_get-get_or}
 use Rattle.std.proofs.Math.Seq.{get_or-append_seam}
-use Rattle.std.proofs.lemmas.Nat.{mod-pow-add}
-use Rattle.std.proofs.Math.Nat.{mod-eq_of_lt, mul-le-mul_left}
-use Rattle.vg_bits.specs.Words.{bit}
+use Rattle.std.proofs.Math.Nat.{mul-le-mul_left}
 use Rattle.vg_bits.specs.declared.word.Word.{Word}
-use Rattle.vg_cnf.specs.Clauses.{ClauseSet, IsOver, IsModel, makes_all_true}
-use Rattle.vg_term.specs.Operations.{Bits, Fits, FitsOne, answer, width_of, width_one, width_two, value_one, value_two, value_three}
-use Rattle.vg_term.specs.Terms.{Term, Stands, AreTerms, listed, width_at, width_in}
-use Rattle.vg_term.specs.Value.{value_of, bits_at, entry_value, assigned, Assigns}
+use Rattle.vg_cnf.specs.Clauses.{ClauseSet, IsOver, IsModel}
+use Rattle.vg_term.specs.Operations.{Fits, answer, width_of, width_one, width_two, value_one, value_two, value_three}
+use Rattle.vg_term.specs.Terms.{Term, AreTerms, listed, width_at, width_in}
+use Rattle.vg_term.specs.Value.{bits_at, entry_value, Assigns}
 use Rattle.vg_term.specs.declared.node.TermId.{TermId}
 use Rattle.vg_term.specs.declared.node.Op.{Op}
 use Rattle.vg_term.specs.declared.node.Op.TheVariants as ops
@@ -25,16 +19,12 @@ use Rattle.vg_term.specs.declared.node.Parts.{Parts}
 use Rattle.vg_term.specs.declared.node.Node.TheVariants as nodes
 use Rattle.vg_term.proofs.Made.{is_made, same_map, comes_next}
 use Rattle.vg_term.proofs.Values.{value_follows}
-use Rattle.vg_blast.specs.Circuits.{truth, number, literals, Holds, IsNet, Builds, MakesWord, bits_by}
+use Rattle.vg_blast.specs.Circuits.{number, literals, Holds, MakesWord, bits_by}
 use Rattle.vg_blast.specs.Cost.{operation_cost, entry_cost, greatest}
 use Rattle.vg_blast.specs.Marking.{is_marked}
-use Rattle.vg_blast.specs.Blasting.{BitName, IsSameBit, IsVariable, IsNamed, Agrees, Agree, AreNames}
-use Rattle.vg_blast.specs.State.{word_at, part_bits, part_width, AreReady, most_added, MakesOperation, new_literals, new_names, IsWordOf, added_to, IsState}
-use Rattle.vg_blast.proofs.Truths.{truth_more, truth_new}
-use Rattle.vg_blast.proofs.Composing.{all_over_later}
-use Rattle.vg_blast.proofs.Numbers.{number-push}
+use Rattle.vg_blast.specs.Blasting.{BitName, Agrees, Agree, AreNames}
+use Rattle.vg_blast.specs.State.{word_at, part_bits, part_width, AreReady, most_added, MakesOperation, IsWordOf, added_to, IsState}
 use Rattle.vg_blast.proofs.Operating.{cheaper_result}
-use Rattle.vg_blast.proofs.Words.{bit_of}
 
 -- ---- costs grow with the width
 

@@ -1,13 +1,13 @@
 -- The truth of literals and clauses under values, and under more values.
-use Rattle.std.proofs.Common.{◌≡◌, ℕ, zero, suc, ◌+◌, ◌<◌, ◌≤◌, List, [], ◌∷◌, ◌++◌, length, Bool, true, false, refl, sym, ap, subst, ◌∙◌, inl, inr, arith, add-one, All, length-append}
+use Rattle.std.proofs.Common.{◌≡◌, ℕ, zero, suc, ◌+◌, ◌<◌, List, [], ◌∷◌, ◌++◌, length, Bool, true, false, refl, sym, ap, subst, ◌∙◌, inl, inr, arith, add-one, All}
 use Rattle.std.specs.Prelude.{ℤ, pos, negsuc, neg_ℤ, unsigned_abs, not, ◌&&◌, ◌||◌, slice_index_or}
-use Rattle.std.specs.List.{list_all, list_any}
+use Rattle.std.specs.List.{list_all}
 use Rattle.std.specs.Ordering.{int_eq}
-use Rattle.std.proofs.lemmas.Bool.{cases_Bool, and_parts, and_from, or_parts, or_left, or_right, true≢false, false≢true}
+use Rattle.std.proofs.lemmas.Bool.{cases_Bool, and_from, or_parts, or_left, or_right, false≢true}
 use Rattle.std.proofs.lemmas.List.{get_or_append_left}
 use Rattle.std.proofs.Math.Seq.{get_or-append_seam}
 use Rattle.std.proofs.lemmas.List.Elements.{All-head, All-tail}
-use Rattle.vg_cnf.specs.Clauses.{ClauseSet, IsOver, IsClauseOver, IsModel, holds, is_clause, makes_literal_true, makes_true, makes_all_true}
+use Rattle.vg_cnf.specs.Clauses.{ClauseSet, IsOver, IsClauseOver, holds, is_clause, makes_true, makes_all_true}
 use Rattle.vg_cnf.proofs.Steps.{same_literal, clash}
 use Rattle.vg_blast.specs.Circuits.{truth, Holds}
 

@@ -1,22 +1,21 @@
 -- Loops over the bits of words: what one more bit does.
-use Rattle.std.proofs.Common.{◌≡◌, ℕ, zero, suc, ◌+◌, ◌-◌, ◌*◌, ◌/◌, ◌%◌, ◌^◌, ◌<◌, ◌≤◌, List, [], ◌∷◌, ◌++◌, length, take, get_or, Bool, true, false, cond, refl, sym, ap, subst, ◌∙◌, inl, inr, arith, All, lt-ltb, le-ltb, eq-eqb, length-append}
-use Rattle.std.specs.Prelude.{ℤ, pos, neg_ℤ, not, ◌&&◌, ◌||◌, nat_lt, nat_eq, bit_and, bit_or, bit_xor}
+use Rattle.std.proofs.Common.{◌≡◌, ℕ, zero, suc, ◌+◌, ◌*◌, ◌/◌, ◌%◌, ◌^◌, ◌<◌, ◌≤◌, List, [], ◌∷◌, ◌++◌, length, take, get_or, Bool, true, false, cond, refl, sym, ap, subst, ◌∙◌, inl, inr, arith, lt-ltb, le-ltb, eq-eqb, length-append}
+use Rattle.std.specs.Prelude.{ℤ, neg_ℤ, not, ◌&&◌, ◌||◌, nat_lt, nat_eq, bit_and, bit_or, bit_xor}
 use Rattle.std.proofs.lemmas.Bool.{cases_lt, ne_eqb}
 use Rattle.std.proofs.lemmas.Bool.Decides.{eqb_tells}
-use Rattle.std.proofs.lemmas.List.{length-take-le, take_all}
+use Rattle.std.proofs.lemmas.List.{take_all}
 use Rattle.std.proofs.lemmas.List.Elements.{All-push}
-use Rattle.std.proofs.lemmas.Nat.{and_block, or_block, xor_block, pow_pos, mod_low, mod_below, mod-pow-add}
-use Rattle.std.proofs.Math.Nat.{mod-eq_of_lt}
+use Rattle.std.proofs.lemmas.Nat.{and_block, or_block, xor_block, mod_low, mod_below, mod-pow-add}
 use Rattle.vg_bits.specs.Words.{bit}
 use Rattle.vg_cnf.specs.Clauses.{ClauseSet, IsOver}
-use Rattle.vg_blast.specs.Circuits.{truth, number, Holds, Builds, MakesBit, MakesWord, IsConstant, IsKnown, differ, choose}
+use Rattle.vg_blast.specs.Circuits.{truth, number, Builds, MakesBit, MakesWord, IsConstant, IsKnown, differ, choose}
 use Rattle.vg_blast.specs.Bitwise.{bit_by, number_by}
 use Rattle.vg_blast.specs.declared.bitwise.Bitwise.{Bitwise}
 use Rattle.vg_blast.specs.declared.bitwise.Bitwise.TheVariants.{And, Or, Xor}
 use Rattle.vg_blast.specs.Adding.{borrow, AddsBits, TakesBits, Sums, Differs}
 use Rattle.vg_blast.proofs.Truths.{truth_neg}
 use Rattle.vg_blast.proofs.Composing.{chained, all_over_later}
-use Rattle.vg_blast.proofs.Numbers.{number-push, number-more, number-below, bit_below, pow_next, low_below}
+use Rattle.vg_blast.proofs.Numbers.{number-push, number-more, number-below, pow_next, low_below}
 
 -- ---- one more bit of a word
 

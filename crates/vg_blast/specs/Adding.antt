@@ -1,5 +1,5 @@
 -- Sums and differences bit by bit. No public clause rests on this file.
-use Rattle.std.specs.Prelude.{◌≡◌, ℕ, ◌+◌, ◌*◌, ◌^◌, ℤ, Bool, not, if◌then◌else◌, List, length, take, All}
+use Rattle.std.specs.Prelude.{◌≡◌, ℕ, ◌+◌, ◌*◌, ◌^◌, ℤ, Bool, if◌then◌else◌, List, length, take, All}
 use Rattle.vg_bits.specs.Words.{bit}
 use Rattle.vg_cnf.specs.Clauses.{ClauseSet, IsOver}
 use Rattle.vg_blast.specs.Circuits.{truth, number, Holds, Builds, differ}

@@ -1,13 +1,12 @@
 -- Words that are read off truth values. No public clause rests on this file.
-use Rattle.std.specs.Prelude.{◌≡◌, ℕ, ◌<◌, Bool, true, false, List, take, length, slice_get, slice_index_or, Some}
+use Rattle.std.specs.Prelude.{◌≡◌, ℕ, ◌<◌, Bool, List, take, length, slice_get, slice_index_or, Some}
 use Rattle.std.specs.Int.{bit_at}
 use Rattle.vg_bits.specs.Words.{bit}
 use Rattle.vg_bits.specs.declared.word.Word.{Word}
-use Rattle.vg_cnf.specs.Clauses.{makes_literal_true}
 use Rattle.vg_term.specs.Terms.{Term, variable_count}
 use Rattle.vg_term.specs.Value.{value_of, HasItsWord, Assigns}
 use Rattle.vg_term.specs.declared.node.TermId.{TermId}
-use Rattle.vg_blast.specs.Blasting.{BitName, IsSameBit, IsVariable, Agrees}
+use Rattle.vg_blast.specs.Blasting.{BitName, IsVariable, Agrees}
 
 -- a zero for each variable among the first n terms
 pub record AreZeros (terms : List Term) (n : ℕ) (words : List Word) : Type 0 where

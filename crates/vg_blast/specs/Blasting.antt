@@ -5,7 +5,7 @@ use Rattle.std.specs.Int.{bit_at}
 use Rattle.vg_bits.specs.Words.{bit}
 use Rattle.vg_bits.specs.declared.word.Word.{Word}
 use Rattle.vg_cnf.specs.Clauses.{ClauseSet, IsOver, IsModel, makes_literal_true}
-use Rattle.vg_term.specs.Terms.{Term, Stands, width_at}
+use Rattle.vg_term.specs.Terms.{Term, width_at}
 use Rattle.vg_term.specs.Value.{value_of, Assigns}
 use Rattle.vg_term.specs.declared.node.TermId.{TermId}
 use Rattle.vg_term.specs.declared.node.Node.TheVariants as nodes

@@ -1,5 +1,5 @@
 -- Gates, and a table of those that stand. No public clause rests on this file.
-use Rattle.std.specs.Prelude.{◌≡◌, ℕ, ◌<◌, ℤ, pos, unsigned_abs, Bool, true, not, ◌&&◌, List, if◌then◌else◌}
+use Rattle.std.specs.Prelude.{◌≡◌, ℕ, ◌<◌, ℤ, pos, unsigned_abs, Bool, true, ◌&&◌, List}
 use Rattle.vg_cnf.specs.Clauses.{ClauseSet, IsOver}
 use Rattle.vg_blast.specs.Circuits.{truth, Holds, differ}
 use Rattle.vg_blast.specs.declared.gate.Gate.{Gate}

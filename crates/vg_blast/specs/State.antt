@@ -1,18 +1,16 @@
 -- Clauses for the terms up to a number. No public clause rests on this file.
 use Rattle.std.specs.Prelude.{◌≡◌, ℕ, zero, suc, ◌+◌, ◌-◌, ◌<◌, ◌≤◌, ℤ, pos, Bool, true, if◌then◌else◌, List, [], ◌∷◌, ◌++◌, map, length, slice_get, slice_index_or, All}
-use Rattle.std.specs.List.{AllPairs}
 use Rattle.vg_bits.specs.declared.word.Word.{Word}
 use Rattle.vg_cnf.specs.Clauses.{ClauseSet, IsOver, IsModel}
 use Rattle.vg_term.specs.Operations.{Bits, Fits, answer, width_of}
-use Rattle.vg_term.specs.Terms.{Term, listed, width_at}
+use Rattle.vg_term.specs.Terms.{Term, width_at}
 use Rattle.vg_term.specs.Value.{value_of, Assigns}
 use Rattle.vg_term.specs.declared.node.TermId.{TermId}
 use Rattle.vg_term.specs.declared.node.Op.{Op}
-use Rattle.vg_term.specs.declared.node.Parts.{Parts}
 use Rattle.vg_blast.specs.Circuits.{number, literals, Holds, MakesWord, bits_by}
 use Rattle.vg_blast.specs.Cost.{entry_cost, greatest, operation_cost}
 use Rattle.vg_blast.specs.Marking.{is_marked}
-use Rattle.vg_blast.specs.Blasting.{BitName, IsNamed, IsSameBit, AreNames, Agree}
+use Rattle.vg_blast.specs.Blasting.{BitName, AreNames, Agree}
 
 -- the literals of the term with a number
 abbrev pub word_at : List (List ℤ) → TermId → List ℤ

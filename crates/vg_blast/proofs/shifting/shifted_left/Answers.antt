@@ -1,4 +1,4 @@
-use Rattle.std.proofs.Common.{◌+◌, ◌*◌, ◌%◌, ◌^◌, ◌<◌, ◌≤◌, length, take, sym, ap, subst, arith}
+use Rattle.std.proofs.Common.{◌*◌, ◌%◌, ◌^◌, ◌<◌, ◌≤◌, length, take, sym, ap, subst, arith}
 use Rattle.vg_blast.specs.Circuits.{MakesWord, number}
 use Rattle.vg_blast.proofs.Shifts.{left_none, left_more, left_result, power_within}
 use Rattle.vg_blast.proofs.shifting.shifted_left.Goals as goal

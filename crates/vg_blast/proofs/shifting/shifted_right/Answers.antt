@@ -1,4 +1,4 @@
-use Rattle.std.proofs.Common.{◌+◌, ◌*◌, ◌^◌, ◌<◌, ◌≤◌, length, take, refl, sym, ap, subst, arith}
+use Rattle.std.proofs.Common.{◌*◌, ◌^◌, ◌<◌, ◌≤◌, length, take, refl, sym, ap, subst, arith}
 use Rattle.vg_blast.specs.Circuits.{number}
 use Rattle.vg_blast.specs.Shifting.{ShiftsRight}
 use Rattle.vg_blast.proofs.Shifts.{right_none, right_more, right_result, power_within}

@@ -1,6 +1,6 @@
 use Rattle.vg_blast.proofs.Truths.{tautology}
 use Rattle.vg_blast.proofs.Gating.{added_tautology}
-use Rattle.std.proofs.Common.{◌≡◌, false, sym, ◌∙◌}
+use Rattle.std.proofs.Common.{sym, ◌∙◌}
 use Rattle.vg_blast.proofs.net.Net.add.Goals as goal
 
 pub returns-else-is_clause-clause-adds : goal.returns-else-is_clause-clause-adds

@@ -1,4 +1,4 @@
-use Rattle.std.proofs.Common.{◌≡◌, ◌+◌, ◌≤◌, length, ap, subst, arith}
+use Rattle.std.proofs.Common.{◌≡◌, ◌+◌, length, ap, subst, arith}
 use Rattle.vg_blast.specs.Circuits.{literals}
 use Rattle.vg_blast.specs.State.{IsState}
 use Rattle.vg_blast.proofs.Inputs.{first_state, added_grows}

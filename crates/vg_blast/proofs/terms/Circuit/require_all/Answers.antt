@@ -1,6 +1,6 @@
-use Rattle.std.proofs.Common.{◌≡◌, ◌+◌, ◌<◌, ◌≤◌, length, refl, subst, ◌∙◌, arith}
+use Rattle.std.proofs.Common.{◌+◌, ◌<◌, length, refl, subst, ◌∙◌, arith}
 use Rattle.vg_term.specs.declared.node.TermId.{TermId}
-use Rattle.vg_blast.specs.Facts.{AddsIf, Requires}
+use Rattle.vg_blast.specs.Facts.{AddsIf}
 use Rattle.vg_blast.specs.Facts.{is_leaf}
 use Rattle.std.specs.Prelude.{◌&&◌}
 use Rattle.vg_blast.specs.Marking.{is_marked}
