@@ -24,6 +24,7 @@ use Rattle.vg_blast.specs.declared.marking.Follow.{Follow}
 use Rattle.vg_blast.specs.declared.marking.Follow.TheVariants as follow
 use Rattle.vg_blast.specs.State.{word_at, IsState}
 use Rattle.vg_blast.specs.Facts.{is_leaf, none_of, Requires}
+use Rattle.vg_blast.proofs.Costs.{reached_follows}
 use Rattle.vg_blast.proofs.Numbers.{number-below}
 
 -- ---- conjunctions
@@ -162,6 +163,9 @@ pub blasted : {terms : List Term} → AreTerms terms → (facts : List TermId) (
 blasted {terms} made facts marks asserted old new lists names bits stand flags are_marks are_asserted state required bits_are =
     subst (IsBlasted terms facts new) (sym bits_are) (record {
       names_ok = record { named = subst (λ n. All (IsNamed terms n) names) (sym required.variables) state.names_ok.named; once = state.names_ok.once };
+      complete = λ id reached variable at h.
+        let marked = all_marked follow.Parts are_marks id (reached_follows terms facts id reached) in
+        state.complete id (stands_marked terms marks are_marks.long id marked) marked variable at h;
       sound = λ words assigns true_facts.
           let before = state.models words assigns in
           let v = before.0 in

@@ -89,6 +89,23 @@ reached_mark {terms} made facts _ (down x part before there) =
     let way = some_of (λ fact. is_under_to fact.0 terms fact x) facts (reached_mark made facts x before) in
     any_at (λ fact. is_under_to fact.0 terms fact part) facts way.0 way.1 (levels made (suc way.0.0) way.0.0 way.0 part (one_down way.0.0 terms way.0 x part way.2 there) (omega arith))
 
+-- and what is reached is followed
+under_follows : (d : ℕ) (terms : List Term) (facts : List TermId) (top id : TermId) → Follows follow.Parts terms facts top → is_under_to d terms top id ≡ true → Follows follow.Parts terms facts id
+under_follows zero terms facts top id follows e = subst (Follows follow.Parts terms facts) (same_term top id e) follows
+under_follows (suc d) terms facts top id follows e =
+    elim (cases_Bool (nat_eq top.0 id.0)) [
+      | inl here ↦ subst (Follows follow.Parts terms facts) (same_term top id here) follows
+      | inr lower ↦
+          let rest : list_any (λ p. is_under_to d terms p id) (parts_at terms top) ≡ true = sym (ap (λ b. b || list_any (λ p. is_under_to d terms p id) (parts_at terms top)) lower) ∙ e in
+          let way = some_of (λ p. is_under_to d terms p id) (parts_at terms top) rest in
+          under_follows d terms facts way.0 id (down top way.0 follows way.1) way.2
+    ]
+
+pub reached_follows : (terms : List Term) (facts : List TermId) (id : TermId) → is_reached terms facts id ≡ true → Follows follow.Parts terms facts id
+reached_follows terms facts id e =
+    let way = some_of (λ fact. is_under_to fact.0 terms fact id) facts e in
+    under_follows way.0.0 terms facts way.0 id (start way.0 way.1) way.2
+
 -- ---- each term costs enough
 
 one_costs : (op : Op) → 400 ≤ operation_cost op 1

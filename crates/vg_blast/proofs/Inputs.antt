@@ -1,10 +1,10 @@
 -- New variables for the bits of a variable, and terms that need none.
-use Rattle.std.proofs.Common.{◌≡◌, ℕ, zero, suc, ◌+◌, ◌-◌, ◌*◌, ◌/◌, ◌%◌, ◌^◌, ◌<◌, ◌≤◌, List, [], ◌∷◌, ◌++◌, length, get_or, slice_get, Some, Bool, true, false, cond, ◌⊎◌, refl, sym, ap, subst, ◌∙◌, inl, inr, arith, All, add-one, length-append, append_assoc, Result, Ok, Err, OnOk}
+use Rattle.std.proofs.Common.{◌≡◌, ℕ, zero, suc, ◌+◌, ◌-◌, ◌*◌, ◌/◌, ◌%◌, ◌^◌, ◌<◌, ◌≤◌, List, [], ◌∷◌, ◌++◌, length, get_or, slice_get, Some, Bool, true, false, cond, ◌⊎◌, refl, sym, ap, subst, ◌∙◌, inl, inr, arith, All, add-one, length-append, append_assoc, Result, Ok, Err, OnOk, Contains, Option}
 use Rattle.std.specs.Prelude.{ℤ, pos, nat_eq, sum_by}
 use Rattle.std.specs.List.{AllPairs}
 use Rattle.std.specs.Int.{bit_at}
 use Rattle.std.proofs.lemmas.List.{append-nil}
-use Rattle.std.proofs.lemmas.List.Elements.{All-nil, All-append, All-push, All-weaker}
+use Rattle.std.proofs.lemmas.List.Elements.{All-nil, All-append, All-push, All-weaker, Contains-append_left, Contains-append_right, Contains-push}
 use Rattle.std.proofs.lemmas.List.Quantifiers.{all_pairs_push}
 use Rattle.std.proofs.Math.Seq.{get_or-append_seam}
 use Rattle.std.proofs.lemmas.Nat.{mod-pow-add}
@@ -173,6 +173,26 @@ variable_below {terms} made words id number width w here assigns =
     let value : value_of terms words id ≡ word.0.value = value_follows made words id ∙ ap (entry_value words (bits_at terms words)) here ∙ ap assigned word.1 in
     subst (λ k. k < 2 ^ w) (sym value) (subst (λ k. word.0.value < 2 ^ k) word.2 word.0.in_range)
 
+-- each bit has its entry
+new_contains : (id : TermId) (n w at : ℕ) → at < w → Contains (new_names id n w) (id, at, pos (n + at + 1))
+new_contains id n zero at h = let none : ⊥ = omega (arith, h) in absurd none
+new_contains id n (suc w) at h =
+    elim (cases_lt at w) [
+      | inl lower ↦ Contains-append_left (new_names id n w) ((id, w, pos (n + w + 1)) ∷ []) (id, at, pos (n + at + 1)) (new_contains id n w at lower)
+      | inr past ↦
+          let e : at ≡ w = omega (arith, h, past) in
+          subst (λ k. Contains (new_names id n (suc w)) (id, k, pos (n + k + 1))) (sym e) (Contains-push (new_names id n w) (id, w, pos (n + w + 1)))
+    ]
+
+-- an entry is not a variable and an operation
+is_input : Option Term → Bool
+is_input (Some (nodes.Var number width, w)) = true
+is_input _ = false
+
+no_variable : (index width v : ℕ) (op : Op) (parts : Parts) (w : ℕ) → ◌≡◌ {A = Option Term} (Some (nodes.Var index width, v)) (Some (nodes.Op op parts, w)) → ⊥
+unfolding is_input
+no_variable index width v op parts w e = true≢false (ap is_input e)
+
 -- ---- one more term
 
 -- a variable with new literals
@@ -214,6 +234,7 @@ variable_state {terms} made marks n set new lists names word id index width at s
           ∙ input_number v terms words names id set.variables width agree
           ∙ mod-eq_of_lt (subst (λ k. value_of terms words id < 2 ^ k) (sym wide) (variable_below made words id index width (width_at terms id) here assigns));
     })
+    (λ marked is k h. (pos (set.variables + k + 1), Contains-append_right names (new_names id set.variables width) (id, k, pos (set.variables + k + 1)) (new_contains id set.variables width k (omega (arith, h, wide)))))
     (let e : literals new ≤ literals set = omega (arith, ap (sum_by length) same) in omega (arith, e))
 
 -- an operation on parts
@@ -230,6 +251,7 @@ operation_state {terms} made marks n set new lists names word id op parts w at s
     let more = makes.builds.extends before.0 before.1 in
     (before.0 ++ more.0, more.1, subst (Agree (before.0 ++ more.0) terms words) (sym (append-nil names)) (agree_more before.0 more.0 terms words names set.variables before.1.each_variable state.names_ok.named before.2)))
     (λ m. subst (λ ns. IsWordOf terms new ns id word) (sym (append-nil names)) (operation_word made state id at op parts w here closed new word makes))
+    (λ m variable k h. absurd (no_variable variable.0 (width_at terms id) (width_at terms id) op parts w (sym variable.1 ∙ here)))
     (let cost = operation_cost_within made state id at op parts w here closed new word makes in
     let e : cond (is_marked marks id) (entry_cost terms (slice_get terms n) - 130) 0 ≡ entry_cost terms (slice_get terms id.0) - 130 =
     ap (λ b. cond b (entry_cost terms (slice_get terms n) - 130) 0) marked ∙ ap (λ k. entry_cost terms (slice_get terms k) - 130) (sym at) in
@@ -244,6 +266,7 @@ skipped_state terms marks n set lists names id at state not_marked =
     (subst (AreNames terms set.variables) (sym (append-nil names)) state.names_ok)
     (subst (All (λ name. name.0.0 < n + 1)) (sym (append-nil names)) (All-weaker (λ name. name.0.0 < n) (λ name. name.0.0 < n + 1) (λ name h. omega (arith, h)) names state.low))
     (λ words assigns. let before = state.models words assigns in (before.0, before.1, subst (Agree before.0 terms words) (sym (append-nil names)) before.2))
+    (λ m. absurd (true≢false (sym m ∙ not_marked)))
     (λ m. absurd (true≢false (sym m ∙ not_marked)))
     (omega arith))
 
@@ -286,6 +309,7 @@ first_state terms marks set lists names set_is lists_are names_are =
     (subst (IsState terms marks 0 (record { variables = 1; clauses = (pos 1 ∷ []) ∷ [] }) []) (sym names_are) (record {
       count = refl;
       each = λ id below marked. let none : ⊥ = omega (arith, below) in absurd none;
+      complete = λ id below marked variable at h. let none : ⊥ = omega (arith, below) in absurd none;
       names_ok = record { named = All-nil (IsNamed terms 1); once = λ i j d h k. let none : ⊥ = omega (arith, h, k) in absurd none };
       low = All-nil (λ name. name.0.0 < 0);
       models = λ words assigns. (true ∷ [], first_holds terms words, All-nil (Agrees (true ∷ []) terms words));

@@ -14,3 +14,4 @@ pub mod Requiring
 pub mod Blasts
 pub mod Costs
 pub mod Assignments
+pub mod Refuting

@@ -1,9 +1,9 @@
 -- From the literals of some terms to those of one more.
-use Rattle.std.proofs.Common.{◌≡◌, ℕ, zero, suc, ◌+◌, ◌-◌, ◌*◌, ◌<◌, ◌≤◌, List, [], ◌∷◌, ◌++◌, map, length, get_or, slice_get, Some, Bool, true, false, cond, refl, sym, ap, subst, ◌∙◌, inl, inr, arith, All, add-one, length-append, Result, Vec, Global}
+use Rattle.std.proofs.Common.{◌≡◌, ℕ, zero, suc, ◌+◌, ◌-◌, ◌*◌, ◌<◌, ◌≤◌, List, [], ◌∷◌, ◌++◌, map, length, get_or, slice_get, Some, Bool, true, false, cond, refl, sym, ap, subst, ◌∙◌, inl, inr, arith, All, add-one, length-append, Result, Vec, Global, Contains}
 use Rattle.std.specs.Prelude.{ℤ, IfOk}
 use Rattle.std.proofs.lemmas.Bool.{cases_lt}
 use Rattle.std.proofs.lemmas.List.{get_or_append_left}
-use Rattle.std.proofs.lemmas.List.Elements.{All-nil, All-cons, All-head, All-tail, All-weaker}
+use Rattle.std.proofs.lemmas.List.Elements.{All-nil, All-cons, All-head, All-tail, All-weaker, Contains-append_left}
 use Rattle.std.proofs.lemmas.Option.{get_or_from_slice_get, slice_get_within, slice_get-get_or}
 use Rattle.std.proofs.Math.Seq.{get_or-append_seam}
 use Rattle.std.proofs.Math.Nat.{mul-le-mul_left}
@@ -22,7 +22,7 @@ use Rattle.vg_term.proofs.Values.{value_follows}
 use Rattle.vg_blast.specs.Circuits.{number, literals, Holds, MakesWord, bits_by}
 use Rattle.vg_blast.specs.Cost.{operation_cost, entry_cost, greatest}
 use Rattle.vg_blast.specs.Marking.{is_marked}
-use Rattle.vg_blast.specs.Blasting.{BitName, Agrees, Agree, AreNames}
+use Rattle.vg_blast.specs.Blasting.{BitName, Agrees, Agree, AreNames, IsVariable}
 use Rattle.vg_blast.specs.State.{word_at, part_bits, part_width, AreReady, most_added, MakesOperation, IsWordOf, added_to, IsState}
 use Rattle.vg_blast.proofs.Operating.{cheaper_result}
 
@@ -235,8 +235,9 @@ later_word terms set new names more cost id word le weaker is = record {
 pub more_state : (terms : List Term) (marks : List Bool) (n : ℕ) (set new : ClauseSet) (lists : List (List ℤ)) (names more : List BitName) (word : List ℤ) (id : TermId) → id.0 ≡ n → IsState terms marks n set lists names →
     set.variables ≤ new.variables → ((v : List Bool) → Holds v new → Holds v set) → AreNames terms new.variables (names ++ more) → All (λ name. name.0.0 < n + 1) (names ++ more) →
     ((words : List Word) → Assigns words terms → (v : List Bool) × IsModel v new × Agree v terms words (names ++ more)) → (is_marked marks id ≡ true → IsWordOf terms new (names ++ more) id word) →
+    (is_marked marks id ≡ true → IsVariable terms id → (k : ℕ) → k < width_at terms id → (l : ℤ) × Contains (names ++ more) (id, k, l)) →
     literals new ≤ literals set + cond (is_marked marks id) (entry_cost terms (slice_get terms n) - 130) 0 → IsState terms marks (n + 1) new (lists ++ word ∷ []) (names ++ more)
-more_state terms marks n set new lists names more word id at state le weaker names_ok low models here cost = record {
+more_state terms marks n set new lists names more word id at state le weaker names_ok low models here whole cost = record {
   count = length-append lists (word ∷ []) ∙ omega (arith, state.count);
   each = λ x below marked.
       elim (cases_lt x.0 n) [
@@ -251,6 +252,14 @@ more_state terms marks n set new lists names more word id at state le weaker nam
       ];
   names_ok = names_ok;
   low = low;
+  complete = λ x below marked variable k h.
+    elim (cases_lt x.0 n) [
+      | inl earlier ↦ let there = state.complete x earlier marked variable k h in (there.0, Contains-append_left names more (x, k, there.0) there.1)
+      | inr later ↦
+          let x_is : x ≡ id = (let e : x.0 ≡ id.0 = omega (arith, below, later, at) in (λ j. record { 0 = e j })) in
+          subst (λ (y : TermId). (l : ℤ) × Contains (names ++ more) (y, k, l)) (sym x_is)
+          (whole (ap (is_marked marks) (sym x_is) ∙ marked) (subst (IsVariable terms) x_is variable) k (subst (λ (y : TermId). k < width_at terms y) x_is h))
+    ];
   models = models;
   added =
       let e : added_to terms marks (n + 1) ≡ added_to terms marks n + cond (is_marked marks id) (entry_cost terms (slice_get terms n) - 130) 0 =

@@ -1,5 +1,5 @@
 -- What clauses say of facts: their models are the assignments that make every fact true, seen through the bits of the variables.
-use Rattle.std.specs.Prelude.{◌≡◌, ℕ, ◌<◌, ℤ, Bool, List, slice_get, Some, All}
+use Rattle.std.specs.Prelude.{◌≡◌, ℕ, ◌<◌, ℤ, Bool, List, slice_get, Some, All, true, Contains}
 use Rattle.std.specs.List.{AllPairs}
 use Rattle.std.specs.Int.{bit_at}
 use Rattle.vg_bits.specs.Words.{bit}
@@ -9,6 +9,7 @@ use Rattle.vg_term.specs.Terms.{Term, width_at}
 use Rattle.vg_term.specs.Value.{value_of, Assigns}
 use Rattle.vg_term.specs.declared.node.TermId.{TermId}
 use Rattle.vg_term.specs.declared.node.Node.TheVariants as nodes
+use Rattle.vg_blast.specs.Cost.{is_reached}
 
 -- a bit of a variable with its literal: the variable's term, the bit's number from the lowest on, and the literal that says that it is 1
 abbrev pub BitName : Type 0
@@ -49,6 +50,8 @@ pub record AreNames (terms : List Term) (n : ℕ) (names : List BitName) : Type 
 pub record IsBlasted (terms : List Term) (facts : List TermId) (set : ClauseSet) (names : List BitName) : Type 0 where
   -- the entries name bits of variables, each once
   pub names_ok : AreNames terms set.variables names
+  -- each bit of each variable under the facts has its entry
+  pub complete : (id : TermId) → is_reached terms facts id ≡ true → IsVariable terms id → (at : ℕ) → at < width_at terms id → (l : ℤ) × Contains names (id, at, l)
   -- an assignment that makes every fact true gives a model that agrees with it: where the clauses have none, nothing makes the facts true
   pub sound : (words : List Word) → Assigns words terms → AreTrue terms words facts → (values : List Bool) × IsModel values set × Agree values terms words names
   -- and an assignment that agrees with a model makes every fact true
