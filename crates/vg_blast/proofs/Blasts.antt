@@ -164,8 +164,8 @@ blasted {terms} made facts marks asserted old new lists names bits stand flags a
     subst (IsBlasted terms facts new) (sym bits_are) (record {
       names_ok = record { named = subst (λ n. All (IsNamed terms n) names) (sym required.variables) state.names_ok.named; once = state.names_ok.once };
       complete = λ id reached variable at h.
-        let marked = all_marked follow.Parts are_marks id (reached_follows terms facts id reached) in
-        state.complete id (stands_marked terms marks are_marks.long id marked) marked variable at h;
+          let marked = all_marked follow.Parts are_marks id (reached_follows terms facts id reached) in
+          state.complete id (stands_marked terms marks are_marks.long id marked) marked variable at h;
       sound = λ words assigns true_facts.
           let before = state.models words assigns in
           let v = before.0 in

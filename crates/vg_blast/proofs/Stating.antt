@@ -253,13 +253,13 @@ more_state terms marks n set new lists names more word id at state le weaker nam
   names_ok = names_ok;
   low = low;
   complete = λ x below marked variable k h.
-    elim (cases_lt x.0 n) [
-      | inl earlier ↦ let there = state.complete x earlier marked variable k h in (there.0, Contains-append_left names more (x, k, there.0) there.1)
-      | inr later ↦
-          let x_is : x ≡ id = (let e : x.0 ≡ id.0 = omega (arith, below, later, at) in (λ j. record { 0 = e j })) in
-          subst (λ (y : TermId). (l : ℤ) × Contains (names ++ more) (y, k, l)) (sym x_is)
-          (whole (ap (is_marked marks) (sym x_is) ∙ marked) (subst (IsVariable terms) x_is variable) k (subst (λ (y : TermId). k < width_at terms y) x_is h))
-    ];
+      elim (cases_lt x.0 n) [
+        | inl earlier ↦ let there = state.complete x earlier marked variable k h in (there.0, Contains-append_left names more (x, k, there.0) there.1)
+        | inr later ↦
+            let x_is : x ≡ id = (let e : x.0 ≡ id.0 = omega (arith, below, later, at) in (λ j. record { 0 = e j })) in
+            subst (λ (y : TermId). (l : ℤ) × Contains (names ++ more) (y, k, l)) (sym x_is)
+            (whole (ap (is_marked marks) (sym x_is) ∙ marked) (subst (IsVariable terms) x_is variable) k (subst (λ (y : TermId). k < width_at terms y) x_is h))
+      ];
   models = models;
   added =
       let e : added_to terms marks (n + 1) ≡ added_to terms marks n + cond (is_marked marks id) (entry_cost terms (slice_get terms n) - 130) 0 =
