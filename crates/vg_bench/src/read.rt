@@ -61,7 +61,9 @@ mod tests {
     fn counts_and_refusals(rt: HostRuntime) -> Result<(), Fail> {
         let alloc = rt.alloc();
         // Tokens: int f ( void ) { return 0 ; } and nodes: 0, return, block, function, unit.
-        let counts = reported(alloc, "int f(void) { return 0; }").ok().ok_or("no line")?;
+        let counts = reported(alloc, "int f(void) { return 0; }")
+            .ok()
+            .ok_or("no line")?;
         assert!(rt; counts.as_str() == "tokens 10 nodes 5");
         let syntax = reported(alloc, "int f(").ok().ok_or("no line")?;
         assert!(rt; syntax.as_str() == "syntax at 6");
