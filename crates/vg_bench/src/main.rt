@@ -3,11 +3,15 @@
 
 mod containers;
 mod count;
+mod dimacs;
+mod files;
 mod keys;
+mod solving;
 mod stop;
 
 use crate::stop::Stop;
 use std::env::Env;
+use std::fs::Files;
 use std::process::ExitCode;
 use std::{env, io};
 
@@ -21,7 +25,7 @@ fn words(rt: &(impl Env + AllocGlobal)) -> io::Result<Vec<String>> {
 }
 
 // Runs the layer that the first word names, with the words after it.
-fn run(rt: &(impl Env + AllocGlobal + Print)) -> Result<(), Stop> {
+fn run(rt: &(impl Env + Files + AllocGlobal + Print)) -> Result<(), Stop> {
     let words = match words(rt) {
         Ok(words) => words,
         Err(error) if error.kind() == io::ErrorKind::OutOfMemory => return Err(Stop::Memory),
@@ -30,6 +34,8 @@ fn run(rt: &(impl Env + AllocGlobal + Print)) -> Result<(), Stop> {
     };
     match words.as_slice() {
         [layer, rest @ ..] if layer.as_str() == "containers" => containers::run(rt, rest),
+        [run, rest @ ..] if run.as_str() == "solve" => files::run_solve(rt, rest),
+        [run, rest @ ..] if run.as_str() == "check" => files::run_check(rt, rest),
         _ => Err(Stop::Usage),
     }
 }

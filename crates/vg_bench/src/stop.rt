@@ -2,6 +2,7 @@
 ghost use Rattle.std.specs.Prelude.{◌≡◌};
 ghost use Rattle.vg_bench.specs.Statuses.{status_of};
 
+use std::alloc::AllocError;
 use thiserror::Error;
 use vg_base::Memory;
 
@@ -9,7 +10,9 @@ use vg_base::Memory;
 #[derive(Clone, Copy, Debug, PartialEq, Eq, Error)]
 pub enum Stop {
     /// The command line is that of no run.
-    #[error("usage: vg_bench containers lookups|mix COUNT")]
+    #[error(
+        "usage: vg_bench containers lookups|mix COUNT, solve FILE LIMIT [PROOF], check FILE PROOF"
+    )]
     Usage,
     /// Memory ran out.
     #[error("no memory")]
@@ -17,6 +20,12 @@ pub enum Stop {
     /// Printing failed.
     #[error("write fault")]
     Print,
+    /// A file couldn't be read.
+    #[error("read fault")]
+    Read,
+    /// A file couldn't be written.
+    #[error("write fault")]
+    Write,
 }
 
 impl Stop {
@@ -27,13 +36,20 @@ impl Stop {
         match self {
             Stop::Usage => 2,
             Stop::Memory => 8,
-            Stop::Print => 7,
+            Stop::Print | Stop::Write => 7,
+            Stop::Read => 6,
         }
     }
 }
 
 impl From<Memory> for Stop {
     fn from(_: Memory) -> Stop {
+        Stop::Memory
+    }
+}
+
+impl From<AllocError> for Stop {
+    fn from(_: AllocError) -> Stop {
         Stop::Memory
     }
 }
