@@ -21,7 +21,6 @@ impl From<AllocError> for Unread {
     }
 }
 
-
 /// The clauses that a text spells. A list with a literal and its negation is left out, and a repeated literal counts once.
 pub fn read(alloc: Global, text: &str) -> Result<Clauses, Unread> {
     let mut clauses: Option<Clauses> = None;
@@ -62,11 +61,7 @@ fn head(alloc: Global, line: &str) -> Option<Clauses> {
 }
 
 /// Reads the literals of a line, and answers whether it is well formed.
-fn read_line(
-    clauses: &mut Clauses,
-    clause: &mut Vec<Lit>,
-    line: &str,
-) -> Result<bool, AllocError> {
+fn read_line(clauses: &mut Clauses, clause: &mut Vec<Lit>, line: &str) -> Result<bool, AllocError> {
     for word in line.split_ascii_whitespace() {
         let Ok(number) = word.parse::<i32>() else {
             return Ok(false);

@@ -15,7 +15,12 @@ pub struct Solved {
 }
 
 /// Solves the clauses that a text spells. A refutation is checked, or where a proof is wanted, written out.
-pub fn solve_text(alloc: Global, text: &str, limit: u32, wants_proof: bool) -> Result<Solved, Stop> {
+pub fn solve_text(
+    alloc: Global,
+    text: &str,
+    limit: u32,
+    wants_proof: bool,
+) -> Result<Solved, Stop> {
     let clauses = match read(alloc, text) {
         Ok(clauses) => clauses,
         Err(unread) => return Ok(plain(refusal(alloc, unread)?)),

@@ -10,9 +10,7 @@ use vg_base::Memory;
 #[derive(Clone, Copy, Debug, PartialEq, Eq, Error)]
 pub enum Stop {
     /// The command line is that of no run.
-    #[error(
-        "usage: vg_bench containers lookups|mix COUNT, solve FILE LIMIT [PROOF], check FILE PROOF"
-    )]
+    #[error("usage: vg_bench containers lookups|mix COUNT, solve FILE LIMIT [PROOF], check FILE PROOF")]
     Usage,
     /// Memory ran out.
     #[error("no memory")]
