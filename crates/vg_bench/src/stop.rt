@@ -10,12 +10,12 @@ use vg_base::Memory;
 #[derive(Clone, Copy, Debug, PartialEq, Eq, Error)]
 pub enum Stop {
     /// The command line is that of no run.
-    #[error("usage: vg_bench containers lookups|mix COUNT, or read FILE")]
+    #[error("usage: vg_bench containers lookups|mix COUNT, read FILE, solve FILE LIMIT [PROOF], check FILE PROOF")]
     Usage,
     /// Memory ran out.
     #[error("no memory")]
     Memory,
-    /// The file couldn't be read.
+    /// A file couldn't be read.
     #[error("read fault")]
     Read,
     /// The file is longer than a C text may be.
@@ -24,6 +24,9 @@ pub enum Stop {
     /// Printing failed.
     #[error("write fault")]
     Print,
+    /// A file couldn't be written.
+    #[error("write fault")]
+    Write,
 }
 
 impl Stop {
@@ -34,9 +37,9 @@ impl Stop {
         match self {
             Stop::Usage => 2,
             Stop::Memory => 8,
+            Stop::Print | Stop::Write => 7,
             Stop::Read => 6,
             Stop::Long => 11,
-            Stop::Print => 7,
         }
     }
 }
