@@ -4,11 +4,13 @@
 mod containers;
 mod count;
 mod keys;
+mod read;
 mod stop;
 
 use crate::stop::Stop;
 use std::env::Env;
 use std::process::ExitCode;
+use std::rt::Files as System;
 use std::{env, io};
 
 // The words of the command line, without the program's name.
@@ -21,7 +23,7 @@ fn words(rt: &(impl Env + AllocGlobal)) -> io::Result<Vec<String>> {
 }
 
 // Runs the layer that the first word names, with the words after it.
-fn run(rt: &(impl Env + AllocGlobal + Print)) -> Result<(), Stop> {
+fn run(rt: &(impl Env + System + AllocGlobal + Print)) -> Result<(), Stop> {
     let words = match words(rt) {
         Ok(words) => words,
         Err(error) if error.kind() == io::ErrorKind::OutOfMemory => return Err(Stop::Memory),
@@ -30,6 +32,7 @@ fn run(rt: &(impl Env + AllocGlobal + Print)) -> Result<(), Stop> {
     };
     match words.as_slice() {
         [layer, rest @ ..] if layer.as_str() == "containers" => containers::run(rt, rest),
+        [layer, rest @ ..] if layer.as_str() == "read" => read::run(rt, rest),
         _ => Err(Stop::Usage),
     }
 }

@@ -2,6 +2,7 @@
 ghost use Rattle.std.specs.Prelude.{◌≡◌};
 ghost use Rattle.vg_bench.specs.Statuses.{status_of};
 
+use std::alloc::AllocError;
 use thiserror::Error;
 use vg_base::Memory;
 
@@ -9,11 +10,17 @@ use vg_base::Memory;
 #[derive(Clone, Copy, Debug, PartialEq, Eq, Error)]
 pub enum Stop {
     /// The command line is that of no run.
-    #[error("usage: vg_bench containers lookups|mix COUNT")]
+    #[error("usage: vg_bench containers lookups|mix COUNT, or read FILE")]
     Usage,
     /// Memory ran out.
     #[error("no memory")]
     Memory,
+    /// The file couldn't be read.
+    #[error("read fault")]
+    Read,
+    /// The file is longer than a C text may be.
+    #[error("limit c")]
+    Long,
     /// Printing failed.
     #[error("write fault")]
     Print,
@@ -27,6 +34,8 @@ impl Stop {
         match self {
             Stop::Usage => 2,
             Stop::Memory => 8,
+            Stop::Read => 6,
+            Stop::Long => 11,
             Stop::Print => 7,
         }
     }
@@ -34,6 +43,12 @@ impl Stop {
 
 impl From<Memory> for Stop {
     fn from(_: Memory) -> Stop {
+        Stop::Memory
+    }
+}
+
+impl From<AllocError> for Stop {
+    fn from(_: AllocError) -> Stop {
         Stop::Memory
     }
 }
