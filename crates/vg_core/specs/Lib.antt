@@ -1,6 +1,8 @@
-pub mod Words
-pub mod Spelling
-pub mod Meaning
 pub mod Joining
+pub mod Layouts
+pub mod Meaning
 pub mod Reader
+pub mod Spelling
 pub mod Syntax
+pub mod Units
+pub mod Words

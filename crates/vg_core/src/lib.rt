@@ -9,6 +9,7 @@ mod reason;
 mod small;
 mod tree;
 mod types;
+mod unit;
 mod verdict;
 mod words;
 
@@ -19,6 +20,7 @@ pub use tree::{
     Base, BinaryOp, HandleKind, IntType, Kind, Memory, Name, Node, Parts, Tree, UnaryOp,
 };
 pub use types::{CType, Integer, Layout, Target};
+pub use unit::{Note, Referent, Unit, erase, layout_of, offset_of, target_layout};
 pub use verdict::Verdict;
 
 #[cfg(test)]
