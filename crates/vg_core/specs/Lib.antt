@@ -1,5 +1,6 @@
 pub mod Joining
 pub mod Layouts
+pub mod Library
 pub mod Meaning
 pub mod Reader
 pub mod Spelling

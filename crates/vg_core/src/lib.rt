@@ -3,6 +3,7 @@
 
 mod bytes;
 mod form;
+mod library;
 mod numbers;
 mod reading;
 mod reason;
@@ -13,6 +14,7 @@ mod unit;
 mod verdict;
 mod words;
 
+pub use library::{Row, library_row, library_rows};
 pub use reading::read_small;
 pub use reason::Reason;
 pub use small::{Lang, Small, SmallFault, Test, Tests};
