@@ -11,11 +11,11 @@ abbrev pub low : Integer → ℕ → ℕ
 low t a = a % 2 ^ width t
 
 -- the integer that a word of the type stands for
-abbrev pub reading : Integer → ℕ → ℤ
+unfoldable pub reading : Integer → ℕ → ℤ
 reading t a = if t.signed then bits.signed (width t) (low t a) else pos (low t a)
 
 -- the word of the integer that equals z modulo 2 ^ width and that the type can hold
-abbrev pub word_of : Integer → ℤ → ℕ
+unfoldable pub word_of : Integer → ℤ → ℕ
 word_of t z = bits.reduced (width t) z
 
 -- the least and the greatest value of the type
@@ -25,7 +25,7 @@ least t = if t.signed then neg_ℤ (pos (2 ^ (width t - 1))) else pos 0
 abbrev pub greatest : Integer → ℤ
 greatest t = if t.signed then pos (2 ^ (width t - 1)) -ℤ pos 1 else pos (2 ^ width t) -ℤ pos 1
 
-abbrev pub can_hold : Integer → ℤ → Bool
+unfoldable pub can_hold : Integer → ℤ → Bool
 can_hold t z = int_le (least t) z && int_le z (greatest t)
 
 -- a conversion (6.3.1.3): the same value where the type can hold it, else modulo 2 ^ width, to a signed type too
@@ -33,11 +33,11 @@ abbrev pub converted : (to from : Integer) → ℕ → ℕ
 converted to from a = word_of to (reading from a)
 
 -- a signed type can't hold the result of an operator (6.5, paragraph 5); an unsigned one takes it modulo 2 ^ width (6.2.5, paragraph 9)
-abbrev pub overflows : Integer → ℤ → Bool
+unfoldable pub overflows : Integer → ℤ → Bool
 overflows t z = t.signed && not (can_hold t z)
 
 -- the word of an operator's whole-number result
-abbrev pub held : Integer → ℤ → Result ℕ Reason
+unfoldable pub held : Integer → ℤ → Result ℕ Reason
 held t z = if overflows t z then Err reasons.Overflow else Ok (word_of t z)
 
 abbrev pub is_zero : ℤ → Bool

@@ -18,6 +18,7 @@ pub(crate) fn low(of: Integer, word: u64) -> Word
 }
 
 /// The integer that a word stands for.
+#[tactic(auto, unfolding(crate::specs::Values::reading))]
 pub(crate) fn reading(of: Integer, word: u64) -> i128
     ensures value { result ≡ values.reading of word }
     ensures least { neg_ℤ (pos (2 ^ 63)) ≤ℤ result }
@@ -32,6 +33,7 @@ pub(crate) fn reading(of: Integer, word: u64) -> i128
 }
 
 /// The word of an integer, modulo 2 to the width.
+#[tactic(auto, unfolding(crate::specs::Values::word_of))]
 pub(crate) fn word_of(of: Integer, value: i128) -> u64
     ensures { result ≡ values.word_of of value }
 {
@@ -62,6 +64,7 @@ fn greatest(of: Integer) -> i128
 }
 
 /// Whether a type has this value.
+#[tactic(auto, unfolding(crate::specs::Values::can_hold))]
 pub(crate) fn can_hold(of: Integer, value: i128) -> bool
     ensures { result ≡ values.can_hold of value }
 {
@@ -69,6 +72,7 @@ pub(crate) fn can_hold(of: Integer, value: i128) -> bool
 }
 
 /// Whether this result of an operator is one that its signed type can't hold.
+#[tactic(auto, unfolding(crate::specs::Values::overflows))]
 pub(crate) fn overflows(of: Integer, value: i128) -> bool
     ensures { result ≡ values.overflows of value }
 {
@@ -76,6 +80,7 @@ pub(crate) fn overflows(of: Integer, value: i128) -> bool
 }
 
 /// The word of an operator's result. `Overflow`: a signed type that can't hold it.
+#[tactic(auto, unfolding(crate::specs::Values::held))]
 pub(crate) fn held(of: Integer, value: i128) -> Result<u64, Reason>
     ensures { result ≡ values.held of value }
 {
