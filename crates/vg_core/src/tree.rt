@@ -1,6 +1,6 @@
 //! The tree of a C text: its nodes in one list, each part before the node that it is a part of.
 ghost use Rattle.std.specs.Prelude.{◌≡◌, ◌+◌, ◌++◌, [], ◌∷◌, length, IfOk, OnOk, OnErr};
-ghost use Rattle.vg_core.specs.Syntax.{Syntax, with_node, with_parts};
+ghost use Rattle.vg_core.specs.Syntax.{Syntax, with_node, with_parts, listed};
 
 use std::alloc::{AllocError, AllocFailed, Global};
 use std::marker::Model;
@@ -307,6 +307,17 @@ impl Tree {
         ensures { result.now ≡ self.now.items }
     {
         &self.item_list
+    }
+
+    /// The numbers of the parts in a list.
+    pub fn listed(&self, parts: Parts) -> &[u32]
+        ensures { result.now ≡ listed self.now parts }
+    {
+        let from = usize::min(parts.from as usize, self.item_list.len());
+        let (_, behind) = self.item_list.split_at(from);
+        let count = usize::min(parts.count as usize, behind.len());
+        let (list, _) = behind.split_at(count);
+        list
     }
 
     /// Adds a node, and answers its number.

@@ -1,0 +1,7 @@
+//! Typing of C texts.
+#![tactic(auto)]
+
+mod fault;
+mod standing;
+
+pub use fault::TypeFault;
