@@ -4,6 +4,9 @@ pub mod Rooms
 pub mod Loops
 pub mod Agreement
 pub mod Units
+pub mod Waiting
+pub mod Leaving
+pub mod Rules
 pub mod Bounds
 pub mod Stopping
 pub mod Prefixes

@@ -63,15 +63,15 @@ seen_behind tree seen (part ∷ parts) = seen_behind tree (behind tree seen part
 
 -- what the parts of a node see, by what it sees itself
 abbrev pub sight : Syntax → ℕ → Option ℕ → Kind → Sight
-sight tree n seen (nodes.Unit items) = in_row tree None (listed tree items)
-sight tree n seen (nodes.Struct tag fields attribute) = in_row tree (Some n) (listed tree fields)
+sight tree n seen (nodes.Unit items) = in_row tree None (listed tree.items items)
+sight tree n seen (nodes.Struct tag fields attribute) = in_row tree (Some n) (listed tree.items fields)
 sight tree n seen (nodes.Field base name count) = all_see seen (optional count)
 sight tree n seen (nodes.ExternHandle handle name) = []
 sight tree n seen (nodes.ExternNumber of name) = []
 sight tree n seen (nodes.Function is_static is_inline answer name params body) =
-    in_row tree (Some n) (listed tree params) ++ all_see (seen_behind tree (Some n) (listed tree params)) (body ∷ [])
+    in_row tree (Some n) (listed tree.items params) ++ all_see (seen_behind tree (Some n) (listed tree.items params)) (body ∷ [])
 sight tree n seen (nodes.Param base pointer name) = []
-sight tree n seen (nodes.Block statements) = in_row tree seen (listed tree statements)
+sight tree n seen (nodes.Block statements) = in_row tree seen (listed tree.items statements)
 sight tree n seen (nodes.Declare base pointer name count value) = all_see seen (optional count) ++ all_see (Some n) (optional value)
 sight tree n seen nodes.Empty = []
 sight tree n seen (nodes.Evaluate value) = all_see seen (value ∷ [])
@@ -91,7 +91,7 @@ sight tree n seen (nodes.Member whole field) = all_see seen (whole ∷ [])
 sight tree n seen (nodes.Arrow pointer field) = all_see seen (pointer ∷ [])
 sight tree n seen (nodes.Number value of) = []
 sight tree n seen (nodes.Variable name) = []
-sight tree n seen (nodes.Call name arguments) = all_see seen (listed tree arguments)
+sight tree n seen (nodes.Call name arguments) = all_see seen (listed tree.items arguments)
 sight tree n seen (nodes.Parens inner) = all_see seen (inner ∷ [])
 
 -- each part is told what it sees, and of which node it is a part
