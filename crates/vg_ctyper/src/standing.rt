@@ -15,12 +15,14 @@ pub(crate) struct Standing {
 }
 
 /// Where each node stands, told from the whole down to the parts.
+#[tactic(auto, using(crate::proofs::Telling::told_next))]
 pub(crate) fn standings_of(alloc: Global, tree: &Tree) -> Result<Vec<Standing>, AllocError>
     ensures { IfOk result (λ v. v.items ≡ scopes.standings_of tree.now) }
 {
-    let mut standings = nobody(alloc, tree.nodes().len())?;
-    for below in 0..tree.nodes().len() {
-        tell(tree, &mut standings, (tree.nodes().len() - 1 - below) as u32);
+    let count = tree.nodes().len();
+    let mut standings = nobody(alloc, count)?;
+    for below in 0..count {
+        tell(tree, &mut standings, (count - 1 - below) as u32);
     }
     Ok(standings)
 }
