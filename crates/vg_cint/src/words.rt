@@ -1,6 +1,6 @@
 // Words as the integers that they stand for, and back.
 
-ghost use Rattle.std.specs.Prelude.{◌≡◌, ◌<◌, ◌^◌, ◌%◌, ◌≤ℤ◌, ◌<ℤ◌, pos, neg_ℤ};
+ghost use Rattle.std.specs.Prelude.{◌≡◌, ◌<◌, ◌^◌, ◌%◌, ◌≤ℤ◌, ◌<ℤ◌, pos, neg_ℤ, IsTrue};
 ghost use Rattle.vg_cint.specs.Types as types;
 ghost use Rattle.vg_cint.specs.Values as values;
 
@@ -17,6 +17,15 @@ pub(crate) fn low(of: Integer, word: u64) -> Word
     Word::from_low_bits(width(of), word)
 }
 
+/// The integer that a word of a signed type stands for.
+#[tactic(auto, unfolding(crate::specs::Values::reading))]
+pub(crate) fn signed_reading(of: Integer, word: u64) -> i64
+    requires { IsTrue of.signed }
+    ensures { result ≡ values.reading of word }
+{
+    low(of, word).signed()
+}
+
 /// The integer that a word stands for.
 #[tactic(auto, unfolding(crate::specs::Values::reading))]
 pub(crate) fn reading(of: Integer, word: u64) -> i128
@@ -24,11 +33,10 @@ pub(crate) fn reading(of: Integer, word: u64) -> i128
     ensures least { neg_ℤ (pos (2 ^ 63)) ≤ℤ result }
     ensures greatest { result <ℤ pos (2 ^ 64) }
 {
-    let word = low(of, word);
     if of.signed {
-        i128::from(word.signed())
+        i128::from(signed_reading(of, word))
     } else {
-        i128::from(word.value)
+        i128::from(low(of, word).value)
     }
 }
 
