@@ -1,6 +1,6 @@
 // Sums, products, quotients and remainders. An `i128` holds every whole-number result but an unsigned product.
 
-ghost use Rattle.std.specs.Prelude.{◌≡◌, ◌*ℤ◌, IsTrue};
+ghost use Rattle.std.specs.Prelude.{◌≡◌, ◌^◌, ◌*ℤ◌, ◌≤ℤ◌, pos, neg_ℤ, IsTrue};
 ghost use Rattle.vg_cint.specs.Values as values;
 ghost use Rattle.vg_cint.specs.Operators as operators;
 
@@ -69,6 +69,14 @@ pub fn remainder(of: Integer, a: u64, b: u64) -> Result<u64, Reason>
 {
     let dividend = reading(of, a);
     let divisor = reading(of, b);
+    remaining(of, dividend, divisor)
+}
+
+/// The remainder of two values of the type `of`, which isn't defined where the quotient isn't.
+fn remaining(of: Integer, dividend: i128, divisor: i128) -> Result<u64, Reason>
+    requires { neg_ℤ (pos (2 ^ 63)) ≤ℤ dividend }
+    ensures { result ≡ operators.remaining of dividend divisor }
+{
     if divisor == 0 {
         return Err(Reason::DivZero);
     }
