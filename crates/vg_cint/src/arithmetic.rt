@@ -4,9 +4,8 @@ ghost use Rattle.std.specs.Prelude.{◌≡◌, ◌^◌, ◌*ℤ◌, ◌≤ℤ◌
 ghost use Rattle.vg_cint.specs.Values as values;
 ghost use Rattle.vg_cint.specs.Operators as operators;
 
-use vg_core::{Integer, Reason};
-
 use crate::words::{held, low, overflows, reading, signed_reading, word_of};
+use vg_core::{Integer, Reason};
 
 /// The sum of two words of one promoted type, modulo 2 to the width for an unsigned type (C11 6.5.6).
 ///

@@ -3,10 +3,9 @@
 ghost use Rattle.std.specs.Prelude.{◌≡◌, ◌<◌, ◌≤ℤ◌, ◌<ℤ◌, ◌*ℤ◌, ◌^◌, pos, neg_ℤ};
 ghost use Rattle.vg_cint.specs.Operators as operators;
 
-use vg_core::{Integer, Reason};
-
 use crate::types::width;
 use crate::words::{can_hold, reading, word_of};
+use vg_core::{Integer, Reason};
 
 /// Whether a shift of a word of this type by `count` is wrong: by a negative number, or by the width or more.
 fn is_out(of: Integer, count: i128) -> bool

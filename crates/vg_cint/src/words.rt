@@ -4,10 +4,9 @@ ghost use Rattle.std.specs.Prelude.{◌≡◌, ◌<◌, ◌^◌, ◌%◌, ◌≤
 ghost use Rattle.vg_cint.specs.Types as types;
 ghost use Rattle.vg_cint.specs.Values as values;
 
+use crate::types::width;
 use vg_bits::Word;
 use vg_core::{Integer, Reason};
-
-use crate::types::width;
 
 /// The word's low bits, as many as its type has.
 pub(crate) fn low(of: Integer, word: u64) -> Word
