@@ -18,6 +18,8 @@ type Row = (
     Result<Number, Reason>,
 );
 
+type UnaryRow = (&'static str, UnaryOp, Number, Result<Number, Reason>);
+
 // Sums, differences and products: the edges of each type, and operands of two types.
 const SUMS: [Row; 30] = [
     (
@@ -714,7 +716,7 @@ const COMPARISONS: [Row; 21] = [
 ];
 
 // The operators with one operand.
-const UNARY: [(&str, UnaryOp, Number, Result<Number, Reason>); 17] = [
+const UNARY: [UnaryRow; 17] = [
     (
         "-INT_MAX",
         Negate,
@@ -804,51 +806,77 @@ fn result_of(gives: Result<Number, Reason>) -> Result<Value, Reason> {
     }
 }
 
-#[test]
-fn rows_of_two_operands(rt: HostRuntime) {
-    for rows in [
-        SUMS.as_slice(),
-        QUOTIENTS.as_slice(),
-        BITS.as_slice(),
-        SHIFTS.as_slice(),
-        COMPARISONS.as_slice(),
-    ] {
-        for (text, left, op, right, gives) in rows {
-            let (left, right) = (value_of(*left), value_of(*right));
-            let wanted = result_of(*gives);
-            assert_eq!(rt; binary(*op, left, right), wanted, "{text}");
-            if let Ok(value) = wanted {
-                assert_eq!(rt; type_of_binary(*op, left.of, right.of), value.of, "{text}");
-            }
+/// The text of the first row that gives something else.
+fn first_wrong(rows: &[Row]) -> Option<&'static str> {
+    for (text, left, op, right, gives) in rows {
+        let found = binary(*op, value_of(*left), value_of(*right));
+        if found != result_of(*gives) {
+            return Some(text);
         }
     }
+    None
 }
 
 #[test]
-fn rows_of_one_operand(rt: HostRuntime) {
-    for (text, op, operand, gives) in UNARY {
-        let operand = value_of(operand);
-        let wanted = result_of(gives);
-        let found = match op {
-            Negate | Complement | Not => unary(op, operand),
-            _ => Err(Reason::Unset),
+fn two_operands(rt: HostRuntime) {
+    assert_eq!(rt; first_wrong(&SUMS), None);
+    assert_eq!(rt; first_wrong(&QUOTIENTS), None);
+    assert_eq!(rt; first_wrong(&BITS), None);
+    assert_eq!(rt; first_wrong(&SHIFTS), None);
+    assert_eq!(rt; first_wrong(&COMPARISONS), None);
+}
+
+/// The text of the first row that gives something else.
+fn first_wrong_unary(rows: &[UnaryRow]) -> Option<&'static str> {
+    for (text, op, operand, gives) in rows {
+        let found = match *op {
+            UnaryOp::Load | UnaryOp::Address => Err(Reason::Unset),
+            arithmetic => unary(arithmetic, value_of(*operand)),
         };
-        assert_eq!(rt; found, wanted, "{text}");
-        if let Ok(value) = wanted {
-            assert_eq!(rt; type_of_unary(op, operand.of), value.of, "{text}");
+        if found != result_of(*gives) {
+            return Some(text);
         }
     }
+    None
+}
+
+#[test]
+fn one_operand(rt: HostRuntime) {
+    assert_eq!(rt; first_wrong_unary(&UNARY), None);
+}
+
+/// The number of the first row that gives something else.
+fn first_wrong_conversion(rows: &[(IntType, Number, i128)]) -> Option<usize> {
+    for (i, (to, from, wanted)) in rows.iter().enumerate() {
+        let value = value_of(*from);
+        let wanted = value_of((*to, *wanted));
+        if converted(wanted.of, value.of, value.word) != wanted.word {
+            return Some(i);
+        }
+    }
+    None
 }
 
 #[test]
 fn conversions(rt: HostRuntime) {
-    for (to, from, wanted) in CONVERSIONS {
-        let value = value_of(from);
-        let wanted = value_of((to, wanted));
-        assert_eq!(rt;
-            converted(wanted.of, value.of, value.word),
-            wanted.word,
-            "{wanted:?}"
-        );
-    }
+    assert_eq!(rt; first_wrong_conversion(&CONVERSIONS), None);
+}
+
+// The types that the typer asks for: operands of each rank and sign, and the operators that don't take the common type.
+#[test]
+fn types_of_results(rt: HostRuntime) {
+    let narrow = integer_of(Uint8);
+    let unsigned = integer_of(Unsigned);
+    let long = integer_of(Int64);
+    assert_eq!(rt; integer_of(Int32), INT);
+    assert_eq!(rt; promoted(narrow), INT);
+    assert_eq!(rt; common(narrow, integer_of(Int16)), INT);
+    assert_eq!(rt; common(INT, unsigned), unsigned);
+    assert_eq!(rt; common(long, unsigned), long);
+    assert_eq!(rt; common(long, integer_of(Uint64)), integer_of(Uint64));
+    assert_eq!(rt; type_of_binary(ShiftLeft, narrow, long), INT);
+    assert_eq!(rt; type_of_binary(Add, narrow, long), long);
+    assert_eq!(rt; type_of_binary(Less, unsigned, long), INT);
+    assert_eq!(rt; type_of_unary(Complement, unsigned), unsigned);
+    assert_eq!(rt; type_of_unary(Not, long), INT);
 }

@@ -97,9 +97,13 @@ pub(crate) fn held(of: Integer, value: i128) -> Result<u64, Reason>
     Ok(word_of(of, value))
 }
 
-/// A word of the type `from` converted to the type `to` (C11 6.3.1.3): modulo 2 to the width where `to` can't hold the value, also where `to` is signed.
+/// A word of the type `from` converted to the type `to` (C11 6.3.1.3): the same value where `to` can hold it, and else modulo 2 to the width, also where
+/// `to` is signed.
+#[tactic(auto, using(crate::proofs::Laws::word_of_below, crate::proofs::Laws::kept))]
 pub fn converted(to: Integer, from: Integer, word: u64) -> u64
-    ensures { result ≡ values.converted to from word }
+    ensures word { result ≡ values.converted to from word }
+    ensures below { result < 2 ^ types.width to }
+    ensures kept { IsTrue (values.can_hold to (values.reading from word)) → values.reading to result ≡ values.reading from word }
 {
     word_of(to, reading(from, word))
 }
