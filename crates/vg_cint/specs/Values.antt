@@ -1,5 +1,5 @@
 -- What a word of an integer type stands for, and the word of an integer (C11 6.2.6.2 in two's complement, 6.3.1.3).
-use Rattle.std.specs.Prelude.{ℕ, ◌-◌, ◌%◌, ◌^◌, Bool, true, false, not, ◌&&◌, if◌then◌else◌, ℤ, pos, neg_ℤ, ◌-ℤ◌, int_le, nat_eq, unsigned_abs, Result, Ok, Err}
+use Rattle.std.specs.Prelude.{ℕ, ◌-◌, ◌%◌, ◌^◌, Bool, true, false, not, ◌&&◌, if◌then◌else◌, ℤ, pos, neg_ℤ, int_le, nat_eq, unsigned_abs, Result, Ok, Err}
 use Rattle.vg_bits.specs.Words as bits
 use Rattle.vg_core.specs.declared.types.Integer.{Integer}
 use Rattle.vg_core.specs.declared.reason.Reason.{Reason}
@@ -23,7 +23,7 @@ abbrev pub least : Integer → ℤ
 least t = if t.signed then neg_ℤ (pos (2 ^ (width t - 1))) else pos 0
 
 abbrev pub greatest : Integer → ℤ
-greatest t = if t.signed then pos (2 ^ (width t - 1)) -ℤ pos 1 else pos (2 ^ width t) -ℤ pos 1
+greatest t = if t.signed then pos (2 ^ (width t - 1) - 1) else pos (2 ^ width t - 1)
 
 unfoldable pub can_hold : Integer → ℤ → Bool
 can_hold t z = int_le (least t) z && int_le z (greatest t)

@@ -1,11 +1,11 @@
 // Sums, products, quotients and remainders. An `i128` holds every whole-number result but an unsigned product.
 
-ghost use Rattle.std.specs.Prelude.{◌≡◌};
+ghost use Rattle.std.specs.Prelude.{◌≡◌, ◌^◌, ◌*ℤ◌, ◌≤ℤ◌, pos, neg_ℤ, IsTrue};
+ghost use Rattle.vg_cint.specs.Values as values;
 ghost use Rattle.vg_cint.specs.Operators as operators;
 
+use crate::words::{held, low, overflows, reading, signed_reading, word_of};
 use vg_core::{Integer, Reason};
-
-use crate::words::{held, low, overflows, reading, word_of};
 
 /// The sum of two words of one promoted type, modulo 2 to the width for an unsigned type (C11 6.5.6).
 ///
@@ -28,13 +28,23 @@ pub fn subtract(of: Integer, a: u64, b: u64) -> Result<u64, Reason>
 /// The product of two words of one promoted type, modulo 2 to the width for an unsigned type (C11 6.5.5).
 ///
 /// `Overflow`: the type is signed and can't hold the product.
+#[tactic(auto, using(crate::proofs::Products::unsigned_product))]
 pub fn multiply(of: Integer, a: u64, b: u64) -> Result<u64, Reason>
     ensures { result ≡ operators.multiply of a b }
 {
     if of.signed {
-        return held(of, reading(of, a) * reading(of, b));
+        return held(of, signed_product(of, a, b));
     }
     Ok(vg_bits::mul(low(of, a), low(of, b)).value)
+}
+
+/// The product of the integers that two words of a signed type stand for.
+#[tactic(auto, using(crate::proofs::Products::product_fits))]
+fn signed_product(of: Integer, a: u64, b: u64) -> i128
+    requires { IsTrue of.signed }
+    ensures { result ≡ values.reading of a *ℤ values.reading of b }
+{
+    i128::from(signed_reading(of, a)) * i128::from(signed_reading(of, b))
 }
 
 /// The quotient of two words of one promoted type, rounded towards zero (C11 6.5.5).
@@ -58,6 +68,14 @@ pub fn remainder(of: Integer, a: u64, b: u64) -> Result<u64, Reason>
 {
     let dividend = reading(of, a);
     let divisor = reading(of, b);
+    remaining(of, dividend, divisor)
+}
+
+/// The remainder of two values of the type `of`, which isn't defined where the quotient isn't.
+fn remaining(of: Integer, dividend: i128, divisor: i128) -> Result<u64, Reason>
+    requires { neg_ℤ (pos (2 ^ 63)) ≤ℤ dividend }
+    ensures { result ≡ operators.remaining of dividend divisor }
+{
     if divisor == 0 {
         return Err(Reason::DivZero);
     }

@@ -3,9 +3,8 @@
 ghost use Rattle.std.specs.Prelude.{◌≡◌};
 ghost use Rattle.vg_cint.specs.Operators as operators;
 
-use vg_core::Integer;
-
 use crate::words::low;
+use vg_core::Integer;
 
 /// The bits that both words of one promoted type have (C11 6.5.10).
 pub fn and(of: Integer, a: u64, b: u64) -> u64

@@ -3,9 +3,8 @@
 ghost use Rattle.std.specs.Prelude.{◌≡◌};
 ghost use Rattle.vg_cint.specs.Operators as operators;
 
-use vg_core::Integer;
-
 use crate::words::reading;
+use vg_core::Integer;
 
 /// Whether two words of one promoted type stand for the same integer (C11 6.5.9).
 pub fn equal(of: Integer, a: u64, b: u64) -> bool

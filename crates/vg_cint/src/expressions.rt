@@ -3,8 +3,6 @@
 ghost use Rattle.std.specs.Prelude.{◌≡◌, ◌≢◌};
 ghost use Rattle.vg_cint.specs.Expressions as expressions;
 
-use vg_core::{BinaryOp, Integer, Reason, UnaryOp};
-
 use crate::arithmetic::{add, divide, multiply, negated, remainder, subtract};
 use crate::bitwise::{and, complement, or, xor};
 use crate::comparing::{equal, less, less_equal};
@@ -12,6 +10,7 @@ use crate::shifts::{shift_left, shift_right};
 use crate::types::{left_type, promoted, right_type, type_of_binary, type_of_unary};
 use crate::value::Value;
 use crate::words::{converted, truth};
+use vg_core::{BinaryOp, Integer, Reason, UnaryOp};
 
 /// `a op b` as C does it (C11 6.5.5 to 6.5.14): both operands promoted or converted to their common type, and the result with the type that
 /// `type_of_binary` gives.

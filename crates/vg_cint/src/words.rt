@@ -1,13 +1,12 @@
 // Words as the integers that they stand for, and back.
 
-ghost use Rattle.std.specs.Prelude.{◌≡◌, ◌<◌, ◌^◌, ◌%◌, ◌≤ℤ◌, ◌<ℤ◌, pos, neg_ℤ};
+ghost use Rattle.std.specs.Prelude.{◌≡◌, ◌<◌, ◌^◌, ◌%◌, ◌≤ℤ◌, ◌<ℤ◌, pos, neg_ℤ, IsTrue};
 ghost use Rattle.vg_cint.specs.Types as types;
 ghost use Rattle.vg_cint.specs.Values as values;
 
+use crate::types::width;
 use vg_bits::Word;
 use vg_core::{Integer, Reason};
-
-use crate::types::width;
 
 /// The word's low bits, as many as its type has.
 pub(crate) fn low(of: Integer, word: u64) -> Word
@@ -17,6 +16,15 @@ pub(crate) fn low(of: Integer, word: u64) -> Word
     Word::from_low_bits(width(of), word)
 }
 
+/// The integer that a word of a signed type stands for.
+#[tactic(auto, unfolding(crate::specs::Values::reading))]
+pub(crate) fn signed_reading(of: Integer, word: u64) -> i64
+    requires { IsTrue of.signed }
+    ensures { result ≡ values.reading of word }
+{
+    low(of, word).signed()
+}
+
 /// The integer that a word stands for.
 #[tactic(auto, unfolding(crate::specs::Values::reading))]
 pub(crate) fn reading(of: Integer, word: u64) -> i128
@@ -24,11 +32,10 @@ pub(crate) fn reading(of: Integer, word: u64) -> i128
     ensures least { neg_ℤ (pos (2 ^ 63)) ≤ℤ result }
     ensures greatest { result <ℤ pos (2 ^ 64) }
 {
-    let word = low(of, word);
     if of.signed {
-        i128::from(word.signed())
+        i128::from(signed_reading(of, word))
     } else {
-        i128::from(word.value)
+        i128::from(low(of, word).value)
     }
 }
 
@@ -90,9 +97,13 @@ pub(crate) fn held(of: Integer, value: i128) -> Result<u64, Reason>
     Ok(word_of(of, value))
 }
 
-/// A word of the type `from` converted to the type `to` (C11 6.3.1.3): modulo 2 to the width where `to` can't hold the value, also where `to` is signed.
+/// A word of the type `from` converted to the type `to` (C11 6.3.1.3): the same value where `to` can hold it, and else modulo 2 to the width, also where
+/// `to` is signed.
+#[tactic(auto, using(crate::proofs::Laws::word_of_below, crate::proofs::Laws::kept))]
 pub fn converted(to: Integer, from: Integer, word: u64) -> u64
-    ensures { result ≡ values.converted to from word }
+    ensures word { result ≡ values.converted to from word }
+    ensures below { result < 2 ^ types.width to }
+    ensures kept { IsTrue (values.can_hold to (values.reading from word)) → values.reading to result ≡ values.reading from word }
 {
     word_of(to, reading(from, word))
 }
