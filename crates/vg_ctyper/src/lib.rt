@@ -2,6 +2,7 @@
 #![tactic(auto)]
 
 mod fault;
+mod given;
 mod standing;
 
 pub use fault::TypeFault;
