@@ -1,5 +1,5 @@
 -- The calls of the library, after libVig. Its rows are numbered from 1.
-use Rattle.std.specs.Prelude.{ℕ, ◌+◌, ◌-◌, List, [], ◌∷◌, codes, Bool, true, false, Option, Some, None, slice_get, if◌then◌else◌}
+use Rattle.std.specs.Prelude.{ℕ, ◌+◌, nat_eq, List, [], ◌∷◌, codes, true, false, Option, Some, None, if◌then◌else◌}
 use Rattle.std.specs.Str.{bytes_eq}
 use Rattle.vg_core.specs.declared.tree.HandleKind.{HandleKind}
 use Rattle.vg_core.specs.declared.tree.HandleKind.TheVariants as handles
@@ -64,6 +64,18 @@ number_from n (row ∷ more) name = if bytes_eq row.0 name then Some n else numb
 abbrev pub row_named : List ℕ → Option ℕ
 row_named name = number_from 1 rows name
 
--- the types of a row's answer and parameters
+-- what the row with a number answers, where the rows are numbered from one on
+abbrev pub answer_from : ℕ → List Row → ℕ → Option CType
+answer_from n [] number = None
+answer_from n (row ∷ more) number = if nat_eq n number then Some row.1 else answer_from (n + 1) more number
+
 abbrev pub answer_of : ℕ → Option CType
-answer_of n = elim (slice_get rows (n - 1)) as (λ _. Option CType) [ None ↦ None | Some row ↦ Some row.1 ]
+answer_of number = answer_from 1 rows number
+
+-- what it takes; nothing where no row has the number
+abbrev pub takes_from : ℕ → List Row → ℕ → List CType
+takes_from n [] number = []
+takes_from n (row ∷ more) number = if nat_eq n number then row.2 else takes_from (n + 1) more number
+
+abbrev pub takes : ℕ → List CType
+takes number = takes_from 1 rows number

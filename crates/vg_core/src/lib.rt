@@ -14,7 +14,7 @@ mod unit;
 mod verdict;
 mod words;
 
-pub use library::{Row, library_row, library_rows};
+pub use library::{Row, library_answer, library_row, library_rows, library_takes};
 pub use reading::read_small;
 pub use reason::Reason;
 pub use small::{Lang, Small, SmallFault, Test, Tests};

@@ -1,6 +1,6 @@
 //! The calls of the library.
 ghost use Rattle.std.specs.Prelude.{◌≡◌, ◌<◌, map, length};
-ghost use Rattle.vg_core.specs.Library.{rows, row_named, number_from};
+ghost use Rattle.vg_core.specs.Library.{rows, row_named, number_from, answer_of, answer_from, takes, takes_from};
 
 use crate::tree::HandleKind;
 use crate::types::{CType, Target};
@@ -76,4 +76,54 @@ fn number_of(table: &[Row], name: &[u8]) -> Option<u8>
         number += 1;
     }
     None
+}
+
+/// The type of what the call with a number answers.
+pub fn library_answer(number: u8) -> Option<CType>
+    ensures { result ≡ answer_of number }
+{
+    answer_in(library_rows(), number)
+}
+
+/// The types of what the call with a number takes; none where no call has the number.
+pub fn library_takes(number: u8) -> &'static [CType]
+    ensures { result.now ≡ takes number }
+{
+    takes_in(library_rows(), number)
+}
+
+fn answer_in(table: &[Row], wanted: u8) -> Option<CType>
+    requires { length table.now < 255 }
+    ensures { result ≡ answer_from 1 (map (λ row. (row.0.now, row.1, row.2.now)) table.now) wanted }
+{
+    let mut number = 1;
+    for row in table {
+        let answer = answer_in_row(row);
+        if number == wanted {
+            return Some(answer);
+        }
+        number += 1;
+    }
+    None
+}
+
+fn answer_in_row(row: &Row) -> CType
+    ensures { result ≡ row.now.1 }
+{
+    row.1
+}
+
+fn takes_in(table: &[Row], wanted: u8) -> &'static [CType]
+    requires { length table.now < 255 }
+    ensures { result.now ≡ takes_from 1 (map (λ row. (row.0.now, row.1, row.2.now)) table.now) wanted }
+{
+    let mut number = 1;
+    for row in table {
+        let takes = row.2;
+        if number == wanted {
+            return takes;
+        }
+        number += 1;
+    }
+    &[]
 }

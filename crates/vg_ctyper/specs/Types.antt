@@ -2,10 +2,11 @@
 use Rattle.std.specs.Prelude.{ℕ, ◌-◌, ◌^◌, [], ◌∷◌, nat_le, nat_lt, List, slice_get, Bool, true, false, not, ◌&&◌, is_some, Option, Some, None, Result, Ok, Err, if◌then◌else◌}
 use Rattle.vg_core.specs.Syntax.{listed}
 use Rattle.vg_core.specs.Layouts.{layout}
-use Rattle.vg_core.specs.Library.{rows}
+use Rattle.vg_core.specs.Library.{answer_of}
 use Rattle.vg_core.specs.declared.tree.Name.{Name}
 use Rattle.vg_core.specs.declared.tree.Base.{Base}
 use Rattle.vg_core.specs.declared.tree.Base.TheVariants as bases
+use Rattle.vg_core.specs.declared.tree.Parts.{Parts}
 use Rattle.vg_core.specs.declared.tree.BinaryOp.{BinaryOp}
 use Rattle.vg_core.specs.declared.tree.BinaryOp.TheVariants as binary
 use Rattle.vg_core.specs.declared.tree.UnaryOp.{UnaryOp}
@@ -128,13 +129,16 @@ base_target k n (bases.Struct at tag) = found k (wanted.Tag tag) n >>= laid_out 
 abbrev pub as_length : ℕ → Option ℕ
 as_length n = if nat_lt 0 n && nat_le n 65536 then Some n else None
 
+abbrev pub length_at : Known → ℕ → Option ℕ
+length_at k n = number_at k n >>= as_length
+
 abbrev pub array_of : Target → Option ℕ → Option CType
 array_of target None = None
 array_of target (Some count) = Some (types.Array target count)
 
 abbrev pub sized : Known → Target → Option ℕ → CType → Option CType
 sized k target None plain = Some plain
-sized k target (Some count) plain = array_of target (number_at k count >>= as_length)
+sized k target (Some count) plain = array_of target (length_at k count)
 
 -- an object has at most 65,536 bytes
 abbrev pub is_small : Known → CType → Bool
@@ -173,7 +177,7 @@ type_of_declaration k d = type_declared k d (kind_at k.tree d)
 -- the type of an object that a name stands for, or of what it answers
 abbrev pub type_of_referent : Known → Referent → Option CType
 type_of_referent k (referents.Declared d) = type_of_declaration k d
-type_of_referent k (referents.Library row) = slice_get rows (row - 1) >>= λ r. Some r.1
+type_of_referent k (referents.Library row) = answer_of row
 
 -- ---- expressions
 
@@ -187,9 +191,9 @@ unary_type k unary.Address operand = type_at k operand >>= address
 unary_type k op operand = integer_at k operand >>= λ t. Some (of_integer (type_of_unary op t))
 
 -- a cast goes from integers to integers, and from pointers to pointers
-abbrev pub cast_type : Known → Bool → Target → CType → Option CType
-cast_type k true target from = pointed from >>= λ _. Some (types.Pointer target)
-cast_type k false target from = as_integer (of_target target) >>= λ _. as_integer from >>= λ _. Some (of_target target)
+abbrev pub cast_type : Bool → Target → CType → Option CType
+cast_type true target from = pointed from >>= λ _. Some (types.Pointer target)
+cast_type false target from = as_integer (of_target target) >>= λ _. as_integer from >>= λ _. Some (of_target target)
 
 -- the field that is taken from a struct
 abbrev pub field_of : Known → Name → Target → Option Referent
@@ -208,29 +212,44 @@ referent k n (nodes.Member whole field) = type_at k whole >>= as_struct >>= fiel
 referent k n (nodes.Arrow pointer field) = type_at k pointer >>= pointee >>= field_of k field
 referent k n _ = None
 
+abbrev pub cast : Known → ℕ → Base → Bool → ℕ → Option CType
+cast k n base pointer operand = base_target k n base >>= λ target. type_at k operand >>= cast_type pointer target
+
+abbrev pub binary_type : Known → BinaryOp → ℕ → ℕ → Option CType
+binary_type k op left right = integer_at k left >>= λ l. integer_at k right >>= λ r. Some (of_integer (type_of_binary op l r))
+
+abbrev pub choice_type : Known → (condition one other : ℕ) → Option CType
+choice_type k condition one other = integer_at k condition >>= λ _. integer_at k one >>= λ a. integer_at k other >>= λ b. Some (of_integer (common a b))
+
+abbrev pub element_type : Known → (array index : ℕ) → Option CType
+element_type k array index = type_at k array >>= pointee >>= λ target. integer_at k index >>= λ _. Some (of_target target)
+
+abbrev pub call_type : Known → ℕ → Name → Parts → Option CType
+call_type k n name arguments = if are_typed k (listed k.tree.items arguments) then (callee k n name >>= type_of_referent k) else None
+
 -- the type of an expression; none where a part has none
 abbrev pub expression_type : Known → ℕ → Kind → Option CType
 expression_type k n (nodes.Number value of) = Some (of_integer (integer_of of))
 expression_type k n (nodes.Variable name) = referent k n (nodes.Variable name) >>= type_of_referent k
 expression_type k n (nodes.Parens inner) = type_at k inner
 expression_type k n (nodes.Sizeof base) = base_target k n base >>= λ _. Some (of_integer unsigned_64)
-expression_type k n (nodes.Cast base pointer operand) = base_target k n base >>= λ target. type_at k operand >>= cast_type k pointer target
+expression_type k n (nodes.Cast base pointer operand) = cast k n base pointer operand
 expression_type k n (nodes.Unary op operand) = unary_type k op operand
-expression_type k n (nodes.Binary op left right) = integer_at k left >>= λ l. integer_at k right >>= λ r. Some (of_integer (type_of_binary op l r))
-expression_type k n (nodes.Choose condition one other) =
-    integer_at k condition >>= λ _. integer_at k one >>= λ a. integer_at k other >>= λ b. Some (of_integer (common a b))
-expression_type k n (nodes.Index array index) = type_at k array >>= pointee >>= λ target. integer_at k index >>= λ _. Some (of_target target)
+expression_type k n (nodes.Binary op left right) = binary_type k op left right
+expression_type k n (nodes.Choose condition one other) = choice_type k condition one other
+expression_type k n (nodes.Index array index) = element_type k array index
 expression_type k n (nodes.Member whole field) = referent k n (nodes.Member whole field) >>= type_of_referent k
 expression_type k n (nodes.Arrow pointer field) = referent k n (nodes.Arrow pointer field) >>= type_of_referent k
-expression_type k n (nodes.Call name arguments) =
-    if are_typed k (listed k.tree.items arguments) then (callee k n name >>= type_of_referent k) else None
+expression_type k n (nodes.Call name arguments) = call_type k n name arguments
 expression_type k n _ = None
+
+abbrev pub word_of_binary : Known → BinaryOp → ℕ → ℕ → Option ℕ
+word_of_binary k op left right = if is_constant_op op then (constant_at k left >>= λ l. constant_at k right >>= λ r. word_of (binary_of op l r)) else None
 
 -- the word of a constant expression: numbers, sizes, and + - and * of such
 abbrev pub constant_word : Known → ℕ → Kind → Option ℕ
 constant_word k n (nodes.Number value of) = Some value
 constant_word k n (nodes.Sizeof base) = base_target k n base >>= λ target. Some (layout k.notes (of_target target)).size
 constant_word k n (nodes.Parens inner) = word_at k inner
-constant_word k n (nodes.Binary op left right) =
-    if is_constant_op op then (constant_at k left >>= λ l. constant_at k right >>= λ r. word_of (binary_of op l r)) else None
+constant_word k n (nodes.Binary op left right) = word_of_binary k op left right
 constant_word k n _ = None

@@ -3,6 +3,8 @@
 
 mod fault;
 mod given;
+mod kinds;
 mod standing;
+mod typed;
 
 pub use fault::TypeFault;
