@@ -72,8 +72,8 @@ Holds t name bytes = (more : List ℕ) × (t.made name ≡ Some (bytes ++ more))
 abbrev pub HoldCaptures : Disk → ReplayFiles → Small → List Arrival → Type 0
 HoldCaptures t n f frames = (port : ℕ) (name : List ℕ) → slice_get n.outs port ≡ Some name → Holds t name (capture_to port (handled_by f frames))
 
--- Each output holds no more than first bytes of what it should of these frames. All of them were handled whole but at most the last one: the captures
--- have those frames, and the log their lines. The line of the last one was begun only where every capture has it.
+-- Each output was left as it was or holds no more than first bytes of what it should of these frames. All of them were handled whole but at most the last
+-- one: the captures have those frames, and the log their lines. The line of the last one was begun only where every capture has it.
 pub record WroteParts (s t : Disk) (n : ReplayFiles) (f : Small) (frames : List Arrival) : Type 0 where
   pub outs : (port : ℕ) (name : List ℕ) → slice_get n.outs port ≡ Some name → IsPart s t name (capture_to port (handled_by f frames))
   pub log : IsPart s t n.log (log_of (handled_by f frames))
@@ -156,7 +156,7 @@ pub record StopsAtMost (s t : Disk) (n : ReplayFiles) (f : Small) : Type 0 where
   pub wrote : IsTrue s.tells_made → WroteAll s t n f frames
   pub read_faults : t.read_faults ≡ s.read_faults
 
--- outputs were begun, and hold no more than first bytes of what they should
+-- outputs were begun: each was left as it was, or holds no more than first bytes of what it should
 pub record Began (s t : Disk) (n : ReplayFiles) (f : Small) : Type 0 where
   pub frames : List Arrival
   pub ports : HavePorts n frames

@@ -22,8 +22,8 @@ pub record Unwritten (s t : Disk) : Type 0 where
   pub made : t.made ≡ s.made
   pub write_faults : t.write_faults ≡ s.write_faults
 
--- The replay of these words began, through the functions that the files hold: each output holds no more than first bytes of what it should of
--- first frames, the log no further than the captures, and no other file was changed.
+-- The replay of these words began, through the functions that the files hold: each output was left as it was or holds no more than first bytes of what it
+-- should of first frames, the log no further than the captures, and no other file was changed.
 pub record BeganReplay (words : List (List ℕ)) (s t : Disk) : Type 0 where
   pub names : Files
   pub c : Small
@@ -36,7 +36,7 @@ pub record BeganReplay (words : List (List ℕ)) (s t : Disk) : Type 0 where
 -- ---- a run that was done
 
 -- The run was done: the two functions agree, the frames are all that came in, the captures are those of the specification, the log is that of the C
--- function, no frame took more steps than are reported, the reported totals are those of the log, and no fault was counted.
+-- function, no frame took more steps than are reported, the reported totals are those of the log, and no fault was counted but in closing what was read.
 pub record Finished (words : List (List ℕ)) (s t : Disk) (report : List ℕ) : Type 0 where
   pub names : Files
   pub c : Small

@@ -138,7 +138,7 @@ pub fn run<F: Files, O: Sink>(alloc: Global, words: &[String], files: &mut F, ou
     ensures quiet { result.0 ≢ 6 → result.0 ≢ 7 →
         IsQuiet (F.disk files.old) (F.disk files.new) (O.flow out.old) (O.flow out.new) }
 
-    // Whatever the status: no output holds more than first bytes of what it should, and what can be read stays.
+    // Whatever the status: each output was left as it was or holds no more than first bytes of what it should, and what can be read stays.
     ensures outputs { Unwritten (F.disk files.old) (F.disk files.new)
         ⊎ BeganReplay (words_in words.now) (F.disk files.old) (F.disk files.new) }
     ensures held { SameHeld (F.disk files.old) (F.disk files.new) }
