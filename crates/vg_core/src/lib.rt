@@ -12,7 +12,7 @@ mod types;
 mod verdict;
 mod words;
 
-pub use reading::read_small;
+pub use reading::{read_small, sends_to_ports, takes_few_steps};
 pub use reason::Reason;
 pub use small::{Lang, Small, SmallFault, Test, Tests};
 pub use tree::{

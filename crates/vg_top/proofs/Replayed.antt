@@ -9,7 +9,7 @@ use Rattle.vg_pcap.specs.declared.faults.CaptureFault.TheVariants as faults
 use Rattle.vg_pcap.specs.declared.faults.HeaderField.{HeaderField}
 use Rattle.vg_pcap.specs.Arrivals.{Arrival}
 use Rattle.vg_pcap.specs.Frames.{Stream}
-use Rattle.vg_pcap.specs.Merge.{AllComeIn, IsFirstBadHeader}
+use Rattle.vg_pcap.specs.Incoming.{AllComeIn, IsFirstBadHeader}
 use Rattle.vg_replay.specs.declared.stop.RunStop.{RunStop}
 use Rattle.vg_replay.specs.declared.stop.RunStop.TheVariants as stops
 use Rattle.vg_replay.specs.declared.totals.Totals.{Totals}

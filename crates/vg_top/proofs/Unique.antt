@@ -11,7 +11,7 @@ use Rattle.vg_core.specs.Spelling.{Spells, SpellsNone}
 use Rattle.vg_core.proofs.SpellingLaws.{Spells-unique}
 use Rattle.vg_pcap.specs.declared.faults.HeaderField.{HeaderField}
 use Rattle.vg_pcap.specs.Arrivals.{Arrival}
-use Rattle.vg_pcap.specs.Merge.{IsFirstBadHeader}
+use Rattle.vg_pcap.specs.Incoming.{IsFirstBadHeader}
 use Rattle.vg_replay.specs.Replays.{SendsBelow, AreAll, AreUpTo, AreTooMany}
 use Rattle.vg_top.specs.declared.limits.TheConstants.{MAX_TEXT}
 use Rattle.vg_top.specs.declared.stop.Damage.{Damage}

@@ -7,7 +7,7 @@ use Rattle.vg_core.specs.declared.small.Lang.TheVariants.{C, Spec}
 use Rattle.vg_core.specs.Spelling as small
 use Rattle.vg_core.specs.Spelling.{Spells}
 use Rattle.vg_pcap.specs.Arrivals.{Arrival}
-use Rattle.vg_pcap.specs.Merge.{IsFirstBadHeader}
+use Rattle.vg_pcap.specs.Incoming.{IsFirstBadHeader}
 use Rattle.vg_replay.specs.Replays.{SendsBelow, AreAll, AreUpTo, AreTooMany}
 use Rattle.vg_top.specs.declared.limits.TheConstants.{MAX_TEXT}
 use Rattle.vg_top.specs.declared.stop.Stop.{Stop}
