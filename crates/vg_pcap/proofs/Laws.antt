@@ -1,5 +1,5 @@
 -- What a reader of the definitions may rely on: any file has a bad header or is one stream, and what is written is read again as the same frames.
-use Rattle.std.proofs.Common.{◌≡◌, ◌≢◌, ◌≤◌, ◌<◌, ◌*◌, ◌^◌, ◌⊎◌, inl, inr, max, ℕ, zero, suc, List, [], ◌∷◌, ◌++◌, length, take, drop, get_or, slice_index, append-nil, refl, sym, ap, ◌∙◌, All, arith}
+use Rattle.std.proofs.Common.{◌≡◌, ◌≢◌, ◌≤◌, ◌⊎◌, inl, inr, max, ℕ, suc, List, [], ◌∷◌, ◌++◌, length, take, drop, slice_index, append-nil, refl, sym, ap, ◌∙◌, All, arith}
 use Rattle.std.specs.List.{flat_map}
 use Rattle.std.specs.List.Sorted.{IsNonDecreasingBy}
 use Rattle.std.specs.Prelude.{map}
@@ -12,12 +12,11 @@ use Rattle.std.proofs.Math.Nat.{max-eq_right}
 use Rattle.vg_base.specs.Files.{AreBytes}
 use Rattle.vg_pcap.specs.declared.faults.HeaderField.{HeaderField}
 use Rattle.vg_pcap.specs.declared.faults.HeaderField.TheVariants.{Length, Magic, Version, Link}
-use Rattle.vg_pcap.specs.Captures.{Encoding, Order, Little, Big, Resolution, Microseconds, Nanoseconds, magic_bytes, version_bytes, link_bytes, number_bytes, longest, HasHeader, IsBadHeader, header_bytes, Record, IsGood, record_bytes, CaptureEnd, Whole, AreRecords}
-use Rattle.vg_pcap.specs.Frames.{Framed, Stream, Fits, frame_of, frames_after, time_of, HoldsStream, written_encoding, written_record, record_of, capture_of}
+use Rattle.vg_pcap.specs.Captures.{Encoding, Order, Little, Big, Resolution, Microseconds, Nanoseconds, magic_bytes, version_bytes, link_bytes, number_bytes, longest, HasHeader, IsBadHeader, header_bytes, IsGood, record_bytes, CaptureEnd, Whole, AreRecords}
+use Rattle.vg_pcap.specs.Frames.{Framed, Stream, Fits, frames_after, time_of, HoldsStream, written_encoding, written_record, record_of, capture_of}
 use Rattle.vg_pcap.proofs.FileHeaders.{HasParts, HasHeader-of_parts, HasHeader-parts, length-header_bytes}
 use Rattle.vg_pcap.proofs.RecordLists.{AreRecords-same}
 use Rattle.vg_pcap.proofs.Starting.{stream_behind}
-use Rattle.vg_pcap.proofs.Streams.{time_early}
 
 -- ---- headers
 

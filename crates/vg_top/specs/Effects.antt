@@ -50,7 +50,7 @@ pub record Finished (words : List (List ℕ)) (s t : Disk) (report : List ℕ) :
   pub log : IsTrue s.tells_made → t.made names.log ≡ Some (log_of (handled_by c frames))
   pub others : IsTrue s.tells_made → KeepsOthers s t (replay_files names)
   pub paths : ℕ
-  pub counted : IsPathCount c spec paths
+  pub counted : IsPathCount c spec spec.ports paths
   pub steps : ℕ
   pub most : IsMostSteps c spec.ports steps
   pub bounded : All (λ h. h.steps ≤ steps) (handled_by c frames)
@@ -127,11 +127,6 @@ pub record FailsSaying (u v : Flow) (text : List ℕ) : Type 0 where
   pub rose : Rose u.faults v.faults
 
 -- ---- both
-
--- no fault was counted at reading or printing
-pub record IsQuiet (s t : Disk) (u v : Flow) : Type 0 where
-  pub read_faults : t.read_faults ≡ s.read_faults
-  pub faults : v.faults ≡ u.faults
 
 -- the run was done, and its report was printed
 pub record IsDone (words : List (List ℕ)) (s t : Disk) (u v : Flow) : Type 0 where
