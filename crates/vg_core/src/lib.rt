@@ -15,7 +15,7 @@ mod verdict;
 mod words;
 
 pub use library::{Row, library_answer, library_row, library_rows, library_takes};
-pub use reading::read_small;
+pub use reading::{read_small, sends_to_ports, takes_few_steps};
 pub use reason::Reason;
 pub use small::{Lang, Small, SmallFault, Test, Tests};
 pub use tree::{
@@ -27,3 +27,5 @@ pub use verdict::Verdict;
 
 #[cfg(test)]
 mod tests;
+#[cfg(test)]
+mod unit_tests;

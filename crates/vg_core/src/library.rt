@@ -9,29 +9,38 @@ use crate::types::{CType, Target};
 pub type Row = (&'static str, CType, &'static [CType]);
 
 const ANY_POINTER: CType = CType::Pointer(Target::Void);
+
 const INT: CType = CType::Int {
     bits: 32,
     signed: true,
 };
+
 const U32: CType = CType::Int {
     bits: 32,
     signed: false,
 };
+
 const U64: CType = CType::Int {
     bits: 64,
     signed: false,
 };
+
 const TO_U16: CType = CType::Pointer(Target::Int {
     bits: 16,
     signed: false,
 });
+
 const TO_U32: CType = CType::Pointer(Target::Int {
     bits: 32,
     signed: false,
 });
+
 const MAP: CType = CType::Handle(HandleKind::Map);
+
 const CHAIN: CType = CType::Handle(HandleKind::Chain);
+
 const VECTOR: CType = CType::Handle(HandleKind::Vector);
+
 const PREFIX: CType = CType::Handle(HandleKind::Prefix);
 
 /// The library's table. Its rows are numbered from 1.

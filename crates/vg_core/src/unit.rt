@@ -2,7 +2,6 @@
 ghost use Rattle.std.specs.Prelude.{◌≡◌, ◌≤◌, slice_get};
 ghost use Rattle.vg_core.specs.Layouts.{layout, offset, field_of_node};
 
-
 use crate::tree::{Kind, Tree};
 use crate::types::{CType, Layout, Target};
 use std::marker::Model;
