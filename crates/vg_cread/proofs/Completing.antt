@@ -1,21 +1,20 @@
 -- Tokens along which the grammar leads begin a whole tree: what is open at their end can be completed.
-use Rattle.std.proofs.Common.{◌≡◌, ◌∙◌, ◌<◌, ◌≤◌, ◌+◌, ◌⊎◌, inl, inr, ℕ, zero, suc, Bool, true, false, List, [], ◌∷◌, ◌++◌, take, drop, length, slice_get, Option, Some, None, refl, sym, ap, subst, arith, length-append}
+use Rattle.std.proofs.Common.{◌≡◌, ◌∙◌, ◌<◌, ◌≤◌, ◌+◌, ◌⊎◌, inl, inr, ℕ, zero, suc, Bool, true, false, List, [], ◌∷◌, ◌++◌, take, drop, length, slice_get, Some, refl, sym, ap, subst, arith, length-append}
 use Rattle.std.specs.Prelude.{is_some, ◌&&◌}
 use Rattle.std.proofs.lemmas.Bool.{cases_eq}
 use Rattle.std.proofs.lemmas.Option.{slice_get_past}
 use Rattle.std.proofs.lemmas.List.{take-append-drop, length-take-le, append_assoc, length_push}
-use Rattle.vg_core.specs.Syntax.{Syntax}
 use Rattle.vg_ctok.specs.declared.kinds.Token.{Token}
 use Rattle.vg_cread.specs.Forms.{Form, Plain, Place, One, Both, Either, Chain, Inner, Made, Nested, Growth}
 use Rattle.vg_cread.specs.Grammar.{begins, form, unit}
 use Rattle.vg_cread.specs.Places.{State, place_at, passes, tested}
-use Rattle.vg_cread.specs.Spelling.{Spelled, Turns, spelled_with, spelled_inner, spelled, start, Spells}
+use Rattle.vg_cread.specs.Spelling.{Spelled, Turns, spelled_with, spelled_inner, spelled, start}
 use Rattle.vg_cread.specs.Refusals.{TurnsTo, comes_with, lacks_inner, Lacks, Begins}
 use Rattle.vg_cread.proofs.Onward.{eats, further, further-least}
 use Rattle.vg_cread.proofs.Rooms.{form_eats}
 use Rattle.vg_cread.proofs.Prefixes.{get_front}
-use Rattle.vg_cread.proofs.Shortest.{whole, fits, calls, form_fits, unit_fits, unit_whole}
-use Rattle.vg_cread.proofs.Going.{bool_cases, halts, halts_second, halts_both, halts_left, halts_right, halts_side, halts_first, halts_more, halts_test, halts_form, fits_both, fits_either, fits_chain, some_of, Gaining, spelled_gains, turns_gain, Goes, ends, begins_at, goes_one, goes_both, goes_left, goes_right, goes_made, goes_form, Rounds, goes_chain, Stands, Ready, stands_front, stands_back, both_end, shortest, room_begins}
+use Rattle.vg_cread.proofs.Shortest.{whole, fits, calls, form_fits, unit_fits}
+use Rattle.vg_cread.proofs.Going.{bool_cases, halts, halts_second, halts_both, halts_left, halts_right, halts_side, halts_first, halts_more, halts_test, halts_form, fits_both, fits_either, fits_chain, Gaining, spelled_gains, turns_gain, Goes, ends, begins_at, goes_one, goes_both, goes_left, goes_right, goes_made, goes_form, Rounds, goes_chain, Stands, Ready, stands_front, stands_back, both_end, shortest, room_begins}
 
 below_or : (a b : ℕ) → a ≤ b → (a < b) ⊎ (a ≡ b)
 below_or a b le = elim (cases_eq a b) [
@@ -67,9 +66,12 @@ module _ (toks : List Token) (i : ℕ) where
     turns_sure (suc n) test more eat h at a s b t (so, g, u, one, rest) le ended tested =
         let step = eaten (eats more) s.at u.at (spelled_gains toks says gain more s g u one) eat in
         let later : u.at ≤ t.at =
-        turns_gain toks n test (spelled_with toks says more) (λ v p w is. further-least (eats more) v.at w.at (spelled_gains toks says gain more v p w is)) at (g at a u.tree).0 (record u { tree = (g at a u.tree).1 }) b t rest in
-        (same_test test s.at (omega (arith, step, later, le)) ∙ so, u.at, h s g u one (omega (arith, later, le)) (λ here. ended (omega (arith, here, later, le))),
-        turns_sure n test more eat h at (g at a u.tree).0 (record u { tree = (g at a u.tree).1 }) b t rest le ended tested)
+        turns_gain toks n test (spelled_with toks says more) (λ v p w is. further-least (eats more) v.at w.at (spelled_gains toks says gain more v p w is)) at (g at a u.tree).0 (record u { tree = (g at a u.tree).1 }) b t rest in (
+          same_test test s.at (omega (arith, step, later, le)) ∙ so,
+          u.at,
+          h s g u one (omega (arith, later, le)) (λ here. ended (omega (arith, here, later, le))),
+          turns_sure n test more eat h at (g at a u.tree).0 (record u { tree = (g at a u.tree).1 }) b t rest le ended tested,
+        )
 
     pub sure : {A : Type 0} (f : Form A) → fits f ≡ true → (s : State) (a : A) (t : State) → spelled_with toks says f s a t → t.at ≤ i → (t.at ≡ i → halts f (slice_get all i) ≡ true) → Goes all far f s.at t.at
     sure (Plain b) fit s a t (same, to) le ended = λ v e. (b, v, (refl, refl), e ∙ sym (ap (λ (u : State). u.at) to))
@@ -143,9 +145,12 @@ module _ (toks : List Token) (i : ℕ) where
     comes_within (Either test x y) s (inr (unless, is)) = comes_within y s is
     comes_within (Chain test x more) s (inl first) = comes_within x s first
     comes_within (Chain test x more) s (inr (a, u, n, one, later)) =
-        omega (arith, further-least (eats x) s.at u.at (spelled_gains toks says gain x s a u one),
-        turns_within n test (spelled_with toks says more) (comes_with toks says (λ u. u.at ≡ i) lacks more) (λ v p w is. further-least (eats more) v.at w.at (spelled_gains toks says gain more v p w is)) (λ v is. comes_within more v is)
-        (place_at toks s.at) a u later)
+        omega (
+          arith,
+          further-least (eats x) s.at u.at (spelled_gains toks says gain x s a u one),
+          turns_within n test (spelled_with toks says more) (comes_with toks says (λ u. u.at ≡ i) lacks more) (λ v p w is. further-least (eats more) v.at w.at (spelled_gains toks says gain more v p w is)) (λ v is. comes_within more v is)
+              (place_at toks s.at) a u later,
+        )
     comes_within (Inner n) s is = near n s is
     comes_within (Made f) s is = comes_within f s is
 
@@ -170,9 +175,11 @@ module _ (toks : List Token) (i : ℕ) where
       turns_complete zero test rest fit h at a s (so, is) le = elim (below_or s.at i le) [
         | inr end ↦ turning_end test rest s end
         | inl less ↦
-            let c = h s is less in
-            (c.0, (λ here. absurd (omega (arith, here, less))),
-            λ all agrees stand ended tested. (1, (ap (passes test) (agrees s.at less) ∙ so, i + length c.0, c.1 all agrees stand ended, (tested, refl))))
+            let c = h s is less in (
+              c.0,
+              (λ here. absurd (omega (arith, here, less))),
+              λ all agrees stand ended tested. (1, (ap (passes test) (agrees s.at less) ∙ so, i + length c.0, c.1 all agrees stand ended, (tested, refl))),
+            )
       ]
       turns_complete (suc n) test rest fit h at a s (so, g, u, one, later) le = elim (below_or s.at i le) [
         | inr end ↦ turning_end test rest s end
@@ -180,13 +187,20 @@ module _ (toks : List Token) (i : ℕ) where
             let there : u.at ≤ i =
             turns_within n test (spelled_with toks says rest) (comes_with toks says (λ u. u.at ≡ i) lacks rest) (λ v p w is. further-least (eats rest) v.at w.at (spelled_gains toks says gain rest v p w is)) (λ v is. comes_within rest v is)
             at (g at a u.tree).0 (record u { tree = (g at a u.tree).1 }) later in
-            let c = turns_complete n test rest fit h at (g at a u.tree).0 (record u { tree = (g at a u.tree).1 }) later there in
-            (c.0, (λ here. absurd (omega (arith, here, less))),
-            λ all agrees stand ended tested.
-            let r = c.2 all agrees stand ended tested in
-            (suc r.0, (ap (passes test) (agrees s.at less) ∙ so, u.at,
-            sure all agrees says (far all) gain (kept all agrees) rest fit s g u one there (λ here. let same : i + length c.0 ≡ i = omega (arith, ap length (c.1 here)) in ap (λ n. halts rest (slice_get all n)) (sym same) ∙ ended),
-            r.1)))
+            let c = turns_complete n test rest fit h at (g at a u.tree).0 (record u { tree = (g at a u.tree).1 }) later there in (
+              c.0,
+              (λ here. absurd (omega (arith, here, less))),
+              λ all agrees stand ended tested.
+                  let r = c.2 all agrees stand ended tested in (
+                    suc r.0,
+                    (
+                      ap (passes test) (agrees s.at less) ∙ so,
+                      u.at,
+                      sure all agrees says (far all) gain (kept all agrees) rest fit s g u one there (λ here. let same : i + length c.0 ≡ i = omega (arith, ap length (c.1 here)) in ap (λ n. halts rest (slice_get all n)) (sym same) ∙ ended),
+                      r.1,
+                    ),
+                  ),
+            )
       ]
 
       pub complete : {A : Type 0} (f : Form A) → fits f ≡ true → ((n : Nested) (s : State) → lacks n s → s.at < i → Completed (Inner n) s) → (s : State) → comes_with toks says (λ u. u.at ≡ i) lacks f s → s.at < i → Completed f s
@@ -195,52 +209,66 @@ module _ (toks : List Token) (i : ℕ) where
       complete (One test) fit inner s (here, none) less = absurd (omega (arith, here, less))
       complete (Both f x) fit inner s (inl first) less =
           let parts = fits_both f x fit in
-          let c = complete f parts.0 inner s first less in
-          (c.0 ++ whole x, λ all agrees stand ended.
-          let k = i + length (c.0 ++ whole x) in
-          let j = i + length c.0 in
-          let last : k ≡ j + length (whole x) = omega (arith, length-append c.0 (whole x)) in
-          let behind = stands_back all c.0 (whole x) i stand in
-          goes_both all (far all) f x s.at j k (c.1 all agrees (stands_front all c.0 (whole x) i stand) (both_end all f x j k last fit behind ended)) (short all x parts.1 j k last behind (halts_second f x (slice_get all k) ended)))
+          let c = complete f parts.0 inner s first less in (
+            c.0 ++ whole x,
+            λ all agrees stand ended.
+                let k = i + length (c.0 ++ whole x) in
+                let j = i + length c.0 in
+                let last : k ≡ j + length (whole x) = omega (arith, length-append c.0 (whole x)) in
+                let behind = stands_back all c.0 (whole x) i stand in
+                goes_both all (far all) f x s.at j k (c.1 all agrees (stands_front all c.0 (whole x) i stand) (both_end all f x j k last fit behind ended)) (short all x parts.1 j k last behind (halts_second f x (slice_get all k) ended)),
+          )
       complete (Both f x) fit inner s (inr (g, u, one, second)) less =
           let parts = fits_both f x fit in
           elim (below_or u.at i (comes_within x u second)) [
             | inl inside ↦
-                let c = complete x parts.1 inner u second inside in
-                (c.0, λ all agrees stand ended.
-                goes_both all (far all) f x s.at u.at (i + length c.0) (sure all agrees says (far all) gain (kept all agrees) f parts.0 s g u one (omega (arith, inside)) (λ here. absurd (omega (arith, here, inside))))
-                (c.1 all agrees stand (halts_second f x (slice_get all (i + length c.0)) ended)))
-            | inr end ↦
-                (whole x, λ all agrees stand ended.
-                let k = i + length (whole x) in
-                goes_both all (far all) f x s.at u.at k (sure all agrees says (far all) gain (kept all agrees) f parts.0 s g u one (omega (arith, end)) (λ here. both_end all f x i k refl fit stand ended))
-                (begins_at all (far all) x i u.at k (sym end) (short all x parts.1 i k refl stand (halts_second f x (slice_get all k) ended))))
+                let c = complete x parts.1 inner u second inside in (
+                  c.0,
+                  λ all agrees stand ended.
+                      goes_both all (far all) f x s.at u.at (i + length c.0) (sure all agrees says (far all) gain (kept all agrees) f parts.0 s g u one (omega (arith, inside)) (λ here. absurd (omega (arith, here, inside))))
+                      (c.1 all agrees stand (halts_second f x (slice_get all (i + length c.0)) ended)),
+                )
+            | inr end ↦ (
+              whole x,
+              λ all agrees stand ended.
+                  let k = i + length (whole x) in
+                  goes_both all (far all) f x s.at u.at k (sure all agrees says (far all) gain (kept all agrees) f parts.0 s g u one (omega (arith, end)) (λ here. both_end all f x i k refl fit stand ended))
+                  (begins_at all (far all) x i u.at k (sym end) (short all x parts.1 i k refl stand (halts_second f x (slice_get all k) ended))),
+            )
           ]
       complete (Either test x y) fit inner s (inl (so, is)) less =
-          let c = complete x (fits_either test x y fit).0 inner s is less in
-          (c.0, λ all agrees stand ended.
-          goes_left all (far all) test x y s.at (i + length c.0) (ap (passes test) (agrees s.at less) ∙ so) (c.1 all agrees stand (halts_left test x y (slice_get all (i + length c.0)) ended)))
+          let c = complete x (fits_either test x y fit).0 inner s is less in (
+            c.0,
+            λ all agrees stand ended.
+                goes_left all (far all) test x y s.at (i + length c.0) (ap (passes test) (agrees s.at less) ∙ so) (c.1 all agrees stand (halts_left test x y (slice_get all (i + length c.0)) ended)),
+          )
       complete (Either test x y) fit inner s (inr (unless, is)) less =
-          let c = complete y (fits_either test x y fit).1 inner s is less in
-          (c.0, λ all agrees stand ended.
-          goes_right all (far all) test x y s.at (i + length c.0) (ap (passes test) (agrees s.at less) ∙ unless) (c.1 all agrees stand (halts_right test x y (slice_get all (i + length c.0)) ended)))
+          let c = complete y (fits_either test x y fit).1 inner s is less in (
+            c.0,
+            λ all agrees stand ended.
+                goes_right all (far all) test x y s.at (i + length c.0) (ap (passes test) (agrees s.at less) ∙ unless) (c.1 all agrees stand (halts_right test x y (slice_get all (i + length c.0)) ended)),
+          )
       complete (Chain test x more) fit inner s (inl first) less =
-          let c = complete x (fits_chain test x more fit).0 inner s first less in
-          (c.0, λ all agrees stand ended.
-          let k = i + length c.0 in
-          goes_chain all (far all) 0 test x more s.at k k (c.1 all agrees stand (halts_first test x more (slice_get all k) ended)) (halts_test test x more (slice_get all k) ended, refl))
+          let c = complete x (fits_chain test x more fit).0 inner s first less in (
+            c.0,
+            λ all agrees stand ended.
+                let k = i + length c.0 in
+                goes_chain all (far all) 0 test x more s.at k k (c.1 all agrees stand (halts_first test x more (slice_get all k) ended)) (halts_test test x more (slice_get all k) ended, refl),
+          )
       complete (Chain test x more) fit inner s (inr (a, u, n, one, later)) less =
           let parts = fits_chain test x more fit in
           let there : u.at ≤ i =
           turns_within n test (spelled_with toks says more) (comes_with toks says (λ u. u.at ≡ i) lacks more) (λ v p w is. further-least (eats more) v.at w.at (spelled_gains toks says gain more v p w is)) (λ v is. comes_within more v is)
           (place_at toks s.at) a u later in
-          let c = turns_complete n test more parts.1 (λ v is inside. complete more parts.1 inner v is inside) (place_at toks s.at) a u later there in
-          (c.0, λ all agrees stand ended.
-          let k = i + length c.0 in
-          let r = c.2 all agrees stand (halts_more test x more (slice_get all k) ended) (halts_test test x more (slice_get all k) ended) in
-          goes_chain all (far all) r.0 test x more s.at u.at k
-          (sure all agrees says (far all) gain (kept all agrees) x parts.0 s a u one there (λ here. let same : k ≡ i = omega (arith, ap length (c.1 here)) in ap (λ n. halts x (slice_get all n)) (sym same) ∙ halts_first test x more (slice_get all k) ended))
-          r.1)
+          let c = turns_complete n test more parts.1 (λ v is inside. complete more parts.1 inner v is inside) (place_at toks s.at) a u later there in (
+            c.0,
+            λ all agrees stand ended.
+                let k = i + length c.0 in
+                let r = c.2 all agrees stand (halts_more test x more (slice_get all k) ended) (halts_test test x more (slice_get all k) ended) in
+                goes_chain all (far all) r.0 test x more s.at u.at k
+                (sure all agrees says (far all) gain (kept all agrees) x parts.0 s a u one there (λ here. let same : k ≡ i = omega (arith, ap length (c.1 here)) in ap (λ n. halts x (slice_get all n)) (sym same) ∙ halts_first test x more (slice_get all k) ended))
+                r.1,
+          )
       complete (Inner n) fit inner s is less = inner n s is less
       complete (Made f) fit inner s is less =
           let c = complete f fit inner s is less in
@@ -260,19 +288,23 @@ module _ (toks : List Token) (i : ℕ) where
   inner_complete zero n s (here, unless) less = absurd (omega (arith, here, less))
   inner_complete (suc room) n s (inl (here, unless)) less = absurd (omega (arith, here, less))
   inner_complete (suc room) n s (inr (so, is)) less =
-      let c = complete (spelled_inner toks room) (lacks_inner toks i room) (inner_gaining room) (inner_within room) (roomy room) (λ all agrees. inner_sure all agrees room) (λ all. room_begins all room) (form n) (form_fits n) (inner_complete room) s is less in
-      (c.0, λ all agrees stand ended.
-      goes_form all (suc (suc room)) n s.at (i + length c.0) (ap (passes (begins n)) (agrees s.at less) ∙ so) (c.1 all agrees stand (halts_form n (slice_get all (i + length c.0)) ended)))
+      let c = complete (spelled_inner toks room) (lacks_inner toks i room) (inner_gaining room) (inner_within room) (roomy room) (λ all agrees. inner_sure all agrees room) (λ all. room_begins all room) (form n) (form_fits n) (inner_complete room) s is less in (
+        c.0,
+        λ all agrees stand ended.
+            goes_form all (suc (suc room)) n s.at (i + length c.0) (ap (passes (begins n)) (agrees s.at less) ∙ so) (c.1 all agrees stand (halts_form n (slice_get all (i + length c.0)) ended)),
+      )
 
   unit_complete : (room : ℕ) → Lacks room toks i
       → Completed (spelled_inner toks room) (lacks_inner toks i room) (inner_gaining room) (inner_within room) (roomy room) (λ all agrees. inner_sure all agrees room) (λ all. room_begins all room) unit start
   unit_complete room is = elim (below_or 0 i (omega arith)) [
     | inl less ↦ complete (spelled_inner toks room) (lacks_inner toks i room) (inner_gaining room) (inner_within room) (roomy room) (λ all agrees. inner_sure all agrees room) (λ all. room_begins all room) unit unit_fits (inner_complete room) start is less
-    | inr same ↦
-        (whole unit, λ all agrees stand ended.
-        begins_at all (roomy room all) unit i 0 (i + length (whole unit)) (sym same)
-        (short (spelled_inner toks room) (lacks_inner toks i room) (inner_gaining room) (inner_within room) (roomy room) (λ all agrees. inner_sure all agrees room) (λ all. room_begins all room) all unit unit_fits i (i + length (whole unit)) refl
-        stand ended))
+    | inr same ↦ (
+      whole unit,
+      λ all agrees stand ended.
+          begins_at all (roomy room all) unit i 0 (i + length (whole unit)) (sym same)
+          (short (spelled_inner toks room) (lacks_inner toks i room) (inner_gaining room) (inner_within room) (roomy room) (λ all agrees. inner_sure all agrees room) (λ all. room_begins all room) all unit unit_fits i (i + length (whole unit)) refl
+          stand ended),
+    )
   ]
 
 -- tokens behind others

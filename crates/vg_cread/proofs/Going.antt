@@ -1,5 +1,5 @@
 -- What is spelled of another text: forms along its tokens, and what the first tokens of a text spell in any text that begins so.
-use Rattle.std.proofs.Common.{◌≡◌, ◌∙◌, ◌<◌, ◌≤◌, ◌+◌, ◌⊎◌, inl, inr, ℕ, zero, suc, Bool, true, false, List, [], ◌∷◌, ◌++◌, length, slice_get, Option, Some, None, refl, sym, ap, subst, arith, length-append}
+use Rattle.std.proofs.Common.{◌≡◌, ◌∙◌, ◌≤◌, ◌+◌, ◌⊎◌, inl, inr, ℕ, zero, suc, Bool, true, false, List, [], ◌∷◌, ◌++◌, length, slice_get, Option, Some, None, refl, sym, ap, subst, arith, length-append}
 use Rattle.std.specs.Prelude.{◌&&◌, ◌||◌, not, cond, is_some}
 use Rattle.std.proofs.lemmas.Bool.{and_parts, not-true}
 use Rattle.vg_ctok.specs.declared.kinds.Token.{Token}
@@ -8,7 +8,7 @@ use Rattle.vg_cread.specs.Grammar.{begins, form}
 use Rattle.vg_cread.specs.Places.{State, place_at, passes}
 use Rattle.vg_cread.specs.Spelling.{Spelled, Turns, spelled_with, spelled_inner}
 use Rattle.vg_cread.proofs.Onward.{eats, further, further-both, further-first, further-second, further-more, further-least}
-use Rattle.vg_cread.proofs.Shortest.{sample, first_passing, samples, whole, whole_inner, closes, stops, leads, is_empty, fits, calls, flat, form_fits, form_stops, form_whole, form_calls, flat_calls, begun}
+use Rattle.vg_cread.proofs.Shortest.{first_passing, samples, whole, whole_inner, stops, leads, is_empty, fits, calls, flat, form_fits, form_stops, form_whole, form_calls, flat_calls, begun}
 
 pub bool_cases : (b : Bool) → (b ≡ true) ⊎ (b ≡ false)
 bool_cases true = inl refl

@@ -1,5 +1,5 @@
 -- The shortest spelling of a form, and the tokens that may stand behind a form and end it.
-use Rattle.std.proofs.Common.{◌≡◌, ◌∙◌, ℕ, zero, suc, Bool, true, false, cond, List, [], ◌∷◌, ◌++◌, Option, Some, None, refl, sym, ap, subst}
+use Rattle.std.proofs.Common.{◌≡◌, ℕ, zero, suc, Bool, true, false, cond, List, [], ◌∷◌, ◌++◌, Option, refl}
 use Rattle.std.specs.Prelude.{◌&&◌, ◌||◌, not, is_some}
 use Rattle.vg_core.specs.declared.tree.BinaryOp.{BinaryOp}
 use Rattle.vg_core.specs.declared.tree.Kind.TheVariants as nodes
