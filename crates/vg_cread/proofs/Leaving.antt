@@ -1,13 +1,12 @@
 -- Which nodes a form leaves waiting for the node that they are parts of: those that its value names.
-use Rattle.std.proofs.Common.{◌≡◌, ◌∙◌, ◌≤◌, ◌+◌, inl, inr, ℕ, zero, suc, Bool, true, false, List, [], ◌∷◌, ◌++◌, length, slice_get, Option, Some, None, refl, sym, ap, subst, arith, length-append}
-use Rattle.std.specs.Prelude.{option_to_list}
+use Rattle.std.proofs.Common.{◌≡◌, ◌∙◌, ◌≤◌, ◌+◌, inl, inr, ℕ, zero, suc, Bool, List, [], ◌∷◌, ◌++◌, length, Some, sym, ap, subst, arith, length-append}
 use Rattle.std.proofs.lemmas.List.{append-nil, append_assoc}
-use Rattle.vg_core.specs.Syntax.{Syntax, with_node, with_parts, list_of, named_by, listed, parts_of}
+use Rattle.vg_core.specs.Syntax.{Syntax, with_parts, list_of, named_by, listed, parts_of}
 use Rattle.vg_core.specs.declared.tree.Kind.{Kind}
 use Rattle.vg_core.specs.declared.tree.Parts.{Parts}
 use Rattle.vg_ctok.specs.declared.kinds.Token.{Token}
 use Rattle.vg_cread.specs.Forms.{Form, Plain, Place, One, Both, Either, Chain, Inner, Made, Nested, Growth, node, node_with}
-use Rattle.vg_cread.specs.Places.{State, place_at, passes}
+use Rattle.vg_cread.specs.Places.{State, place_at}
 use Rattle.vg_cread.specs.Spelling.{Spelled, Turns, spelled_with}
 use Rattle.vg_cread.proofs.Waiting.{Waiting, waiting_node, waiting_parts, listed_last}
 

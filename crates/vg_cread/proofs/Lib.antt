@@ -7,6 +7,9 @@ pub mod Units
 pub mod Waiting
 pub mod Leaving
 pub mod Rules
+pub mod Shortest
+pub mod Going
+pub mod Completing
 pub mod Bounds
 pub mod Stopping
 pub mod Prefixes

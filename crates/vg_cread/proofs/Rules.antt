@@ -1,28 +1,19 @@
 -- Rule by rule: a construct leaves the nodes that its value names, and its node takes them all, in the order of the text.
-use Rattle.std.proofs.Common.{◌≡◌, ◌≤◌, ◌+◌, ℕ, zero, suc, Bool, true, false, List, [], ◌∷◌, ◌++◌, length, slice_get, Option, Some, None, refl, sym, subst, arith}
+use Rattle.std.proofs.Common.{◌≡◌, ℕ, zero, suc, true, false, List, [], ◌∷◌, ◌++◌, length, Some, None, refl, sym, subst, arith}
 use Rattle.std.specs.Prelude.{option_to_list}
 use Rattle.std.proofs.lemmas.List.{append-nil}
 use Rattle.vg_core.specs.Syntax.{Syntax, IsOrdered, IsUsedOnce}
-use Rattle.vg_core.specs.declared.tree.Name.{Name}
-use Rattle.vg_core.specs.declared.tree.Base.{Base}
 use Rattle.vg_core.specs.declared.tree.Base.TheVariants as bases
-use Rattle.vg_core.specs.declared.tree.IntType.{IntType}
-use Rattle.vg_core.specs.declared.tree.BinaryOp.{BinaryOp}
-use Rattle.vg_core.specs.declared.tree.Kind.{Kind}
 use Rattle.vg_core.specs.declared.tree.Kind.TheVariants as nodes
 use Rattle.vg_ctok.specs.declared.kinds.Token.{Token}
 use Rattle.vg_ctok.specs.declared.kinds.Keyword.{Keyword}
 use Rattle.vg_ctok.specs.declared.kinds.Keyword.TheVariants as words
 use Rattle.vg_ctok.specs.declared.kinds.Sign.{Sign}
-use Rattle.vg_ctok.specs.declared.kinds.Sign.TheVariants as signs
-use Rattle.vg_cread.specs.declared.statements.Action.{Action}
-use Rattle.vg_cread.specs.declared.statements.Action.TheVariants as actions
-use Rattle.vg_cread.specs.Forms.{Form, Plain, Place, One, Both, Either, Chain, Inner, Made, Nested, Expression, Operand, Statement, Body, Growth, node, node_with, ◌⊛◌, ◌⊲◌, ◌⊳◌, optional, listed}
-use Rattle.vg_cread.specs.Grammar.{begins, form, sign, word, name, flagged, base, int_type, star, handle, array_length, initial, expression, operator, binary, link, unary, postfix, suffix, primary, arguments, opened, statement, block, pieces, piece, declaration, if_statement, otherwise, for_statement, step, return_statement, simple_statement, assignment, action, acted, field, fields, attribute, packing, struct_item, extern_item, param, params, answer, function, item, items, unit}
-use Rattle.vg_cread.specs.Places.{State, passes}
-use Rattle.vg_cread.specs.Spelling.{Spelled, spelled_with, spelled_inner, start, Spells}
+use Rattle.vg_cread.specs.Forms.{Nested, Expression, Operand, Statement, Body}
+use Rattle.vg_cread.specs.Grammar.{form, sign, word, name, flagged, base, int_type, star, handle, array_length, initial, expression, operator, binary, link, unary, postfix, suffix, primary, arguments, opened, statement, block, pieces, piece, declaration, if_statement, otherwise, for_statement, step, return_statement, simple_statement, assignment, action, field, fields, attribute, packing, struct_item, extern_item, param, params, answer, function, item, items, unit}
+use Rattle.vg_cread.specs.Spelling.{spelled_inner, start, Spells}
 use Rattle.vg_cread.proofs.Waiting.{Waiting, waiting_none, used_once}
-use Rattle.vg_cread.proofs.Leaving.{Leaves, Left, Keeps, leaves, Takes, Passes, Names, itself, takes_node, takes_list}
+use Rattle.vg_cread.proofs.Leaving.{Leaves, Keeps, leaves, Takes, Passes, Names, itself, takes_node, takes_list}
 
 sign_passes : (s : Sign) → Passes (sign s)
 unfolding sign
@@ -63,30 +54,39 @@ all_of parts = parts
 arguments_names : Names arguments all_of
 unfolding arguments sign
 arguments_names l P h = (
-    (all_of, (λ k. refl), (λ x a is k at parts tree row w. w), h),
-    subst (λ m. P [] m) (append-nil l) (h []))
+  (all_of, (λ k. refl), (λ x a is k at parts tree row w. w), h),
+  subst (λ m. P [] m) (append-nil l) (h []),
+)
 
 opened_names : Names opened itself
 unfolding opened sign
 opened_names l P h = λ at x a is. (
-    base_passes [] _ (λ b. star_passes [] _ (λ pointer y c so k. (itself, takes_node at (nodes.Cast b pointer k) (k ∷ []) (λ items. (omega arith, refl)), h))),
-    λ k y c so. (itself, takes_node at (nodes.Parens k) (k ∷ []) (λ items. (omega arith, refl)), h))
+  base_passes [] _ (λ b. star_passes [] _ (λ pointer y c so k. (itself, takes_node at (nodes.Cast b pointer k) (k ∷ []) (λ items. (omega arith, refl)), h))),
+  λ k y c so. (itself, takes_node at (nodes.Parens k) (k ∷ []) (λ items. (omega arith, refl)), h),
+)
 
 primary_names : Names primary itself
 unfolding primary name sign
 primary_names l P h = (
-    opened_names l P h,
-    ((λ at x n is. (itself, takes_node at _ [] (λ items. (omega arith, refl)), h)),
+  opened_names l P h,
+  (
+    (λ at x n is. (itself, takes_node at _ [] (λ items. (omega arith, refl)), h)),
     λ at x n is. (
-    (λ y b so. arguments_names [] _ (λ parts z c closed. (itself, takes_list at (nodes.Call n) parts [] parts (λ ps. (refl, refl)) (sym (append-nil parts)), h))),
-    (itself, takes_node at (nodes.Variable n) [] (λ items. (omega arith, refl)), h))))
+      (λ y b so. arguments_names [] _ (λ parts z c closed. (itself, takes_list at (nodes.Call n) parts [] parts (λ ps. (refl, refl)) (sym (append-nil parts)), h))),
+      (itself, takes_node at (nodes.Variable n) [] (λ items. (omega arith, refl)), h),
+    ),
+  ),
+)
 
 suffix_takes : Leaves suffix [] (λ g m. (at : ℕ) (a : ℕ) → Takes itself (g at a) (itself a ++ m))
 unfolding suffix name sign
 suffix_takes = (
-    (λ x u is index y v so at a. takes_node at (nodes.Index a index) (a ∷ index ∷ []) (λ items. (omega arith, refl))),
-    ((λ x u is y field so at a. takes_node at (nodes.Member a field) (a ∷ []) (λ items. (omega arith, refl))),
-    λ x u is y field so at a. takes_node at (nodes.Arrow a field) (a ∷ []) (λ items. (omega arith, refl))))
+  (λ x u is index y v so at a. takes_node at (nodes.Index a index) (a ∷ index ∷ []) (λ items. (omega arith, refl))),
+  (
+    (λ x u is y field so at a. takes_node at (nodes.Member a field) (a ∷ []) (λ items. (omega arith, refl))),
+    λ x u is y field so at a. takes_node at (nodes.Arrow a field) (a ∷ []) (λ items. (omega arith, refl)),
+  ),
+)
 
 postfix_names : Names postfix itself
 unfolding postfix
@@ -95,24 +95,29 @@ postfix_names l P h = (itself, primary_names [] _ (λ k. refl), suffix_takes, h)
 unary_names : Names unary itself
 unfolding unary word sign
 unary_names l P h = (
-    (λ at x op is k. (itself, takes_node at (nodes.Unary op k) (k ∷ []) (λ items. (omega arith, refl)), h)),
-    ((λ at x a is y b so. base_passes [] _ (λ t z c closed. (itself, takes_node at (nodes.Sizeof t) [] (λ items. (omega arith, refl)), h))),
-    postfix_names l P h))
+  (λ at x op is k. (itself, takes_node at (nodes.Unary op k) (k ∷ []) (λ items. (omega arith, refl)), h)),
+  (
+    (λ at x a is y b so. base_passes [] _ (λ t z c closed. (itself, takes_node at (nodes.Sizeof t) [] (λ items. (omega arith, refl)), h))),
+    postfix_names l P h,
+  ),
+)
 
 binary_names : (rank : ℕ) → Names (binary rank) itself
 unfolding binary link operator
 binary_names zero l P h = unary_names l P h
 binary_names (suc rank) l P h = (
-    itself,
-    binary_names rank [] _ (λ k. refl),
-    (λ x op is. binary_names rank [] _ (λ right at left. takes_node at (nodes.Binary op left right) (left ∷ right ∷ []) (λ items. (omega arith, refl)))),
-    h)
+  itself,
+  binary_names rank [] _ (λ k. refl),
+  (λ x op is. binary_names rank [] _ (λ right at left. takes_node at (nodes.Binary op left right) (left ∷ right ∷ []) (λ items. (omega arith, refl)))),
+  h,
+)
 
 expression_names : Names expression itself
 unfolding expression sign
 expression_names l P h = λ at. binary_names 10 [] _ (λ c. (
-    (λ x u is one y v so other. (itself, takes_node at (nodes.Choose c one other) (c ∷ one ∷ other ∷ []) (λ items. (omega arith, refl)), h)),
-    (itself, (λ tree row w. w), h)))
+  (λ x u is one y v so other. (itself, takes_node at (nodes.Choose c one other) (c ∷ one ∷ other ∷ []) (λ items. (omega arith, refl)), h)),
+  (itself, (λ tree row w. w), h),
+))
 
 -- statements
 declaration_names : Names declaration itself
@@ -135,8 +140,9 @@ block_names l P h = λ at x a is. pieces_names [] _ (λ parts y b so. (itself, t
 if_names : Names if_statement itself
 unfolding if_statement otherwise word sign
 if_names l P h = λ at x a is y b so condition z c closed body. (
-    (λ v d els other. (itself, takes_node at (nodes.If condition body (Some other)) (condition ∷ body ∷ other ∷ []) (λ items. (omega arith, refl)), h)),
-    (itself, takes_node at (nodes.If condition body None) (condition ∷ body ∷ []) (λ items. (omega arith, refl)), h))
+  (λ v d els other. (itself, takes_node at (nodes.If condition body (Some other)) (condition ∷ body ∷ other ∷ []) (λ items. (omega arith, refl)), h)),
+  (itself, takes_node at (nodes.If condition body None) (condition ∷ body ∷ []) (λ items. (omega arith, refl)), h),
+)
 
 step_names : Names step option_to_list
 unfolding step sign
@@ -151,23 +157,32 @@ for_names l P h = λ at x₁ a₁ i₁ x₂ a₂ i₂. int_type_passes [] _ (λ 
 return_names : Names return_statement itself
 unfolding return_statement word sign
 return_names l P h = λ at x a is. (
-    (λ k y b so. (itself, takes_node at (nodes.Return (Some k)) (k ∷ []) (λ items. (omega arith, refl)), h)),
-    λ y b so. (itself, takes_node at (nodes.Return None) [] (λ items. (omega arith, refl)), h))
+  (λ k y b so. (itself, takes_node at (nodes.Return (Some k)) (k ∷ []) (λ items. (omega arith, refl)), h)),
+  λ y b so. (itself, takes_node at (nodes.Return None) [] (λ items. (omega arith, refl)), h),
+)
 
 simple_names : Names simple_statement itself
 unfolding simple_statement action assignment sign
 simple_names l P h = λ at target. (
-    (λ x op is value y b so. (itself, takes_node at (nodes.Assign op target value) (target ∷ value ∷ []) (λ items. (omega arith, refl)), h)),
-    ((λ x a is y b so. (itself, takes_node at (nodes.Increment target) (target ∷ []) (λ items. (omega arith, refl)), h)),
-    ((λ x a is y b so. (itself, takes_node at (nodes.Decrement target) (target ∷ []) (λ items. (omega arith, refl)), h)),
-    λ y b so. (itself, takes_node at (nodes.Evaluate target) (target ∷ []) (λ items. (omega arith, refl)), h))))
+  (λ x op is value y b so. (itself, takes_node at (nodes.Assign op target value) (target ∷ value ∷ []) (λ items. (omega arith, refl)), h)),
+  (
+    (λ x a is y b so. (itself, takes_node at (nodes.Increment target) (target ∷ []) (λ items. (omega arith, refl)), h)),
+    (
+      (λ x a is y b so. (itself, takes_node at (nodes.Decrement target) (target ∷ []) (λ items. (omega arith, refl)), h)),
+      λ y b so. (itself, takes_node at (nodes.Evaluate target) (target ∷ []) (λ items. (omega arith, refl)), h),
+    ),
+  ),
+)
 
 statement_names : Names statement itself
 unfolding statement sign
 statement_names l P h = (
-    block_names l P h,
-    ((λ at x a is. (itself, takes_node at nodes.Empty [] (λ items. (omega arith, refl)), h)),
-    (if_names l P h, (for_names l P h, (return_names l P h, simple_names l P h)))))
+  block_names l P h,
+  (
+    (λ at x a is. (itself, takes_node at nodes.Empty [] (λ items. (omega arith, refl)), h)),
+    (if_names l P h, (for_names l P h, (return_names l P h, simple_names l P h))),
+  ),
+)
 
 form_names : (n : Nested) → Names (form n) itself
 form_names Expression = expression_names
@@ -196,8 +211,9 @@ struct_names l P h = λ at x₁ a₁ i₁ x₂ tag i₂ x₃ a₃ i₃. fields_n
 extern_names : Names extern_item itself
 unfolding extern_item handle word name sign
 extern_names l P h = λ at x₁ a₁ i₁. (
-    (λ x₂ a₂ i₂. int_type_passes [] _ (λ of x₃ n i₃ x₄ a₄ i₄. (itself, takes_node at (nodes.ExternNumber of n) [] (λ items. (omega arith, refl)), h))),
-    λ x₂ which i₂ x₃ n i₃ x₄ a₄ i₄. (itself, takes_node at (nodes.ExternHandle which n) [] (λ items. (omega arith, refl)), h))
+  (λ x₂ a₂ i₂. int_type_passes [] _ (λ of x₃ n i₃ x₄ a₄ i₄. (itself, takes_node at (nodes.ExternNumber of n) [] (λ items. (omega arith, refl)), h))),
+  λ x₂ which i₂ x₃ n i₃ x₄ a₄ i₄. (itself, takes_node at (nodes.ExternHandle which n) [] (λ items. (omega arith, refl)), h),
+)
 
 param_names : Names param itself
 unfolding param name
@@ -206,8 +222,9 @@ param_names l P h = λ at. base_passes [] _ (λ b. star_passes [] _ (λ pointer 
 params_names : Names params all_of
 unfolding params word sign
 params_names l P h = (
-    (λ x a is. subst (λ m. P [] m) (append-nil l) (h [])),
-    (all_of, param_names [] _ (λ k. refl), (λ x a is. param_names [] _ (λ k at parts tree row w. w)), h))
+  (λ x a is. subst (λ m. P [] m) (append-nil l) (h [])),
+  (all_of, param_names [] _ (λ k. refl), (λ x a is. param_names [] _ (λ k at parts tree row w. w)), h),
+)
 
 answer_passes : Passes answer
 unfolding answer word

@@ -1,10 +1,8 @@
 -- A tree that grows: its nodes stand behind their parts, and those that are no parts yet wait in a row.
-use Rattle.std.proofs.Common.{◌≡◌, ◌∙◌, ◌<◌, ◌≤◌, ◌+◌, ◌-◌, ◌⊎◌, inl, inr, ℕ, zero, suc, Bool, true, false, cond, List, [], ◌∷◌, ◌++◌, length, get_or, take, drop, slice_get, Option, Some, None, refl, sym, ap, subst, arith, length-append}
-use Rattle.std.specs.Prelude.{flat_map, count_by, All, AllPairs, ◌==◌, nat_lt, if◌then◌else◌}
-use Rattle.std.proofs.lemmas.Bool.{cases_eq}
+use Rattle.std.proofs.Common.{◌≡◌, ◌∙◌, ◌<◌, ◌≤◌, ◌+◌, ◌-◌, ◌⊎◌, inl, inr, ℕ, zero, suc, cond, List, [], ◌∷◌, ◌++◌, length, get_or, take, drop, slice_get, Some, refl, sym, ap, subst, arith, length-append}
+use Rattle.std.specs.Prelude.{flat_map, count_by, All, AllPairs, ◌==◌, nat_lt}
 use Rattle.std.proofs.lemmas.Grind.{common_steps}
-use Rattle.std.proofs.lemmas.Option.{slice_get_within, slice_get_cases}
-use Rattle.std.proofs.lemmas.List.{append-nil, append_assoc, get_or-append-add, take-append-le, drop-append-le, take_at, drop_at, take_all, length_push}
+use Rattle.std.proofs.lemmas.List.{append-nil, get_or-append-add, take-append-le, drop-append-le, drop_at, take_all, length_push}
 use Rattle.std.proofs.lemmas.List.Elements.{All-push}
 use Rattle.std.proofs.lemmas.List.Quantifiers.{all_pairs_push}
 use Rattle.std.proofs.lemmas.List.Concat.{flat_map-append}
@@ -147,7 +145,7 @@ module _ (tree : Syntax) (row : List ℕ) (at : ℕ) (kind : Kind) (within : (li
   waiting_node = record {
     ordered = behind;
     below = subst (λ m. All (λ part. part < m) (row ++ length tree.nodes ∷ [])) (sym longer)
-    (All-push (λ part. part < length tree.nodes + 1) row (length tree.nodes) (λ k d less. omega (arith, front_below k d less)) (omega arith));
+        (All-push (λ part. part < length tree.nodes + 1) row (length tree.nodes) (λ k d less. omega (arith, front_below k d less)) (omega arith));
     rising = all_pairs_push (λ one other. one < other) row (length tree.nodes) (pairs-front (λ one other. one < other) row (parts_of tree.items kind) w.rising) front_below;
     uses = λ n. ap (λ l. times n l + times n (row ++ length tree.nodes ∷ [])) whole ∙ counted n ∙ ap (λ m. cond (nat_lt n m) 1 0) (sym longer);
     top = last_waits;

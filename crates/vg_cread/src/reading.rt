@@ -32,9 +32,13 @@ pub enum ReadFault {
 
 /// The tree that the tokens of a text spell, by the grammar of the C profile (C11 6.5, 6.7, 6.8 and 6.9).
 ///
-/// `Syntax` is answered exactly where no tree is spelled: at the first token that the grammar can't go on with, or at the
-/// end of the last token where it needs another. `Deep` is answered exactly where a token opens a statement, block or
-/// expression that stands in 64 others, before any such token. `Memory` is answered where memory ran out.
+/// Each node stands behind its parts, and they in the order of the text; the root is the last, and each other node is a part
+/// of just one.
+///
+/// `Syntax` is answered exactly where no tree is spelled: at the first token that the grammar can't go on with, while those
+/// before it begin some text that spells a tree; or at the end of the last token where it needs another. `Deep` is answered
+/// exactly where a token opens a statement, block or expression that stands in 64 others, before any such token. `Memory` is
+/// answered where memory ran out.
 pub fn read_unit(alloc: Global, toks: &[Token]) -> Result<Tree, ReadFault>
     ensures tree { IfOk result (λ t. Spells MOST_NESTED toks.now t) }
     ensures ordered { IfOk result (λ t. IsOrdered t) }
