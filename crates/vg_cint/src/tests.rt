@@ -880,3 +880,27 @@ fn types_of_results(rt: HostRuntime) {
     assert_eq!(rt; type_of_unary(Complement, unsigned), unsigned);
     assert_eq!(rt; type_of_unary(Not, long), INT);
 }
+
+// Each operator on two words of `int`, and the words as integers.
+#[test]
+fn words_of_int(rt: HostRuntime) {
+    let minus_one = 0xffff_ffff;
+    assert_eq!(rt; add(INT, 2, 3), Ok(5));
+    assert_eq!(rt; subtract(INT, 2, 3), Ok(minus_one));
+    assert_eq!(rt; multiply(INT, 6, 7), Ok(42));
+    assert_eq!(rt; divide(INT, 7, 2), Ok(3));
+    assert_eq!(rt; remainder(INT, 7, 2), Ok(1));
+    assert_eq!(rt; negated(INT, 1), Ok(minus_one));
+    assert_eq!(rt; shift_left(INT, INT, 1, 4), Ok(16));
+    assert_eq!(rt; shift_right(INT, INT, 16, 4), Ok(1));
+    assert_eq!(rt;
+        [and(INT, 12, 10), or(INT, 12, 10), xor(INT, 12, 10)],
+        [8, 14, 6]
+    );
+    assert_eq!(rt; complement(INT, 0), minus_one);
+    assert!(rt; equal(INT, 5, 5) && less(INT, minus_one, 0) && less_equal(INT, 5, 5));
+    assert!(rt; truth(INT, 2) && !truth(INT, 0));
+    assert_eq!(rt; reading(INT, minus_one), -1);
+    assert!(rt; can_hold(INT, 2_147_483_647) && !can_hold(INT, 2_147_483_648));
+    assert_eq!(rt; width(INT), 32);
+}
