@@ -1,5 +1,5 @@
 -- Laws of words and the integers that they stand for, for the crates above.
-use Rattle.std.proofs.Common.{◌≡◌, ℕ, ◌+◌, ◌-◌, ◌%◌, ◌^◌, ◌<◌, ◌≤◌, Bool, true, false, ℤ, suc, zero, pos, negsuc, refl, sym, ap, ◌∙◌, arith}
+use Rattle.std.proofs.Common.{◌≡◌, ℕ, ◌+◌, ◌-◌, ◌%◌, ◌^◌, ◌<◌, Bool, true, false, ℤ, suc, zero, pos, negsuc, refl, ap, ◌∙◌, arith}
 use Rattle.std.specs.Prelude.{◌&&◌, if◌then◌else◌, neg_ℤ, int_le, IsTrue}
 use Rattle.std.proofs.Math.Nat.{mod-eq_of_lt}
 use Rattle.std.proofs.lemmas.Bool.{and_parts, leb-true}
@@ -9,7 +9,7 @@ use Rattle.vg_bits.proofs.Laws.{reduced-below}
 use Rattle.vg_bits.proofs.Machine.{halves, signed_pos, signed_neg}
 use Rattle.vg_core.specs.declared.types.Integer.{Integer}
 use Rattle.vg_cint.specs.Types.{width}
-use Rattle.vg_cint.specs.Values.{reading, word_of, can_hold, converted}
+use Rattle.vg_cint.specs.Values.{reading, word_of, can_hold}
 
 pub width_some : (t : Integer) → 0 < width t
 width_some t = grind arith

@@ -1,3 +1,4 @@
 pub mod Laws
-pub mod Products
 pub mod Powers
+pub mod Products
+pub mod Proper

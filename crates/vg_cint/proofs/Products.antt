@@ -1,5 +1,5 @@
 -- Products: at an unsigned type the words' formula is the whole numbers', and at a signed one an `i128` holds them.
-use Rattle.std.proofs.Common.{◌≡◌, ℕ, ◌*◌, ◌<◌, ◌≤◌, ◌^◌, refl, false, Ok, arith, ℤ, pos, negsuc, ◌*ℤ◌, FitsSigned, lit<}
+use Rattle.std.proofs.Common.{◌≡◌, ℕ, ◌≤◌, ◌^◌, refl, false, Ok, arith, ℤ, pos, negsuc, ◌*ℤ◌, FitsSigned, lit<}
 use Rattle.std.specs.Prelude.{unsigned_abs}
 use Rattle.std.specs.Int.{w64, w128}
 use Rattle.std.proofs.lemmas.Int.{fits_signed_mul}

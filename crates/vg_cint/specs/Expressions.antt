@@ -1,5 +1,5 @@
 -- What an operator gives of values of any integer types: the operands are converted (C11 6.3.1.1, 6.3.1.8), and the result has the operator's type.
-use Rattle.std.specs.Prelude.{ℕ, Bool, not, ◌&&◌, ◌||◌, Result, Ok, Err}
+use Rattle.std.specs.Prelude.{ℕ, not, ◌&&◌, ◌||◌, Result, Ok, Err}
 use Rattle.vg_bits.specs.Words.{bit}
 use Rattle.vg_core.specs.declared.types.Integer.{Integer}
 use Rattle.vg_core.specs.declared.reason.Reason.{Reason}

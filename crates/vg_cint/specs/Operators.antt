@@ -1,6 +1,6 @@
 -- The operators of C on words of integer types: what the whole-number result is, and where there is none (C11 6.5.3.3, 6.5.5 to 6.5.12).
 -- But for a shift, both operands are of the type t, which is the result's.
-use Rattle.std.specs.Prelude.{ℕ, ◌-◌, ◌^◌, Bool, not, ◌&&◌, ◌||◌, if◌then◌else◌, ℤ, pos, neg_ℤ, ◌+ℤ◌, ◌-ℤ◌, ◌*ℤ◌, int_lt, int_le, int_div, int_rem, unsigned_abs, bit_and, bit_or, bit_xor, Result, Ok, Err}
+use Rattle.std.specs.Prelude.{ℕ, ◌^◌, Bool, not, ◌&&◌, ◌||◌, if◌then◌else◌, ℤ, pos, neg_ℤ, ◌+ℤ◌, ◌-ℤ◌, ◌*ℤ◌, int_lt, int_le, int_div, int_rem, unsigned_abs, bit_and, bit_or, bit_xor, Result, Ok, Err}
 use Rattle.std.specs.Int.{int_div_euclid}
 use Rattle.std.specs.Ordering.{int_eq}
 use Rattle.vg_bits.specs.Words as bits
@@ -8,7 +8,7 @@ use Rattle.vg_core.specs.declared.types.Integer.{Integer}
 use Rattle.vg_core.specs.declared.reason.Reason.{Reason}
 use Rattle.vg_core.specs.declared.reason.Reason.TheVariants as reasons
 use Rattle.vg_cint.specs.Types.{width}
-use Rattle.vg_cint.specs.Values.{low, reading, word_of, can_hold, overflows, held, is_zero, truth}
+use Rattle.vg_cint.specs.Values.{low, reading, word_of, can_hold, overflows, held, is_zero}
 
 -- ---- sums and products (6.5.5, 6.5.6)
 

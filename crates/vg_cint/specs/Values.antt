@@ -1,5 +1,5 @@
 -- What a word of an integer type stands for, and the word of an integer (C11 6.2.6.2 in two's complement, 6.3.1.3).
-use Rattle.std.specs.Prelude.{ℕ, ◌-◌, ◌%◌, ◌^◌, Bool, true, false, not, ◌&&◌, if◌then◌else◌, ℤ, pos, neg_ℤ, int_le, nat_eq, unsigned_abs, Result, Ok, Err}
+use Rattle.std.specs.Prelude.{ℕ, ◌-◌, ◌%◌, ◌^◌, Bool, not, ◌&&◌, if◌then◌else◌, ℤ, pos, neg_ℤ, int_le, nat_eq, unsigned_abs, Result, Ok, Err}
 use Rattle.vg_bits.specs.Words as bits
 use Rattle.vg_core.specs.declared.types.Integer.{Integer}
 use Rattle.vg_core.specs.declared.reason.Reason.{Reason}

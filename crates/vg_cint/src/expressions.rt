@@ -1,6 +1,7 @@
 // Operators on values of any integer types, as C does them: the operands converted, the result of the operator's type.
 
-ghost use Rattle.std.specs.Prelude.{◌≡◌, ◌≢◌};
+ghost use Rattle.std.specs.Prelude.{◌≡◌, ◌≢◌, ◌<◌, ◌^◌, IfOk};
+ghost use Rattle.vg_cint.specs.Types as types;
 ghost use Rattle.vg_cint.specs.Expressions as expressions;
 
 use crate::arithmetic::{add, divide, multiply, negated, remainder, subtract};
@@ -20,7 +21,8 @@ use vg_core::{BinaryOp, Integer, Reason, UnaryOp};
 /// `Overflow`: a signed type can't hold the result of `+`, `-`, `*`, `/` or `%`. `DivZero`: a quotient or remainder by 0. `Shift`: a shift by a
 /// negative number or by the width or more, or a signed `<<` of a negative value or out of its type.
 pub fn binary(op: BinaryOp, a: Value, b: Value) -> Result<Value, Reason>
-    ensures { result ≡ expressions.binary_of op a b }
+    ensures value { result ≡ expressions.binary_of op a b }
+    ensures below { IfOk result (λ v. v.word < 2 ^ types.width v.of) }
 {
     let of = left_type(op, a.of, b.of);
     let by = right_type(op, a.of, b.of);
@@ -37,7 +39,8 @@ pub fn binary(op: BinaryOp, a: Value, b: Value) -> Result<Value, Reason>
 pub fn unary(op: UnaryOp, a: Value) -> Result<Value, Reason>
     requires no_load { op ≢ UnaryOp.Load }
     requires no_address { op ≢ UnaryOp.Address }
-    ensures { result ≡ expressions.unary_of op a }
+    ensures value { result ≡ expressions.unary_of op a }
+    ensures below { IfOk result (λ v. v.word < 2 ^ types.width v.of) }
 {
     let of = promoted(a.of);
     let word = on_word(op, of, word_at(of, a))?;

@@ -17,9 +17,9 @@ pub use bitwise::{and, complement, or, xor};
 pub use comparing::{equal, less, less_equal};
 pub use expressions::{binary, unary};
 pub use shifts::{shift_left, shift_right};
-pub use types::{INT, common, integer_of, promoted, type_of_binary, type_of_unary};
+pub use types::{INT, common, integer_of, promoted, type_of_binary, type_of_unary, width};
 pub use value::Value;
-pub use words::{converted, truth};
+pub use words::{can_hold, converted, reading, truth};
 
 #[cfg(test)]
 mod tests;

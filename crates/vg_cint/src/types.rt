@@ -11,8 +11,8 @@ pub const INT: Integer = Integer {
     signed: true,
 };
 
-/// How many bits the words of a type have: 8, 16, 32 or 64.
-pub(crate) fn width(of: Integer) -> u8
+/// How many bits the words of a type have: 8, 16, 32 or 64. A type of another width, which C has none of, counts as the next wider one.
+pub fn width(of: Integer) -> u8
     ensures { result ≡ types.width of }
 {
     match of.bits {

@@ -25,9 +25,9 @@ pub(crate) fn signed_reading(of: Integer, word: u64) -> i64
     low(of, word).signed()
 }
 
-/// The integer that a word stands for.
+/// The integer that a word of the type stands for (C11 6.2.6.2): in two's complement where the type is signed.
 #[tactic(auto, unfolding(crate::specs::Values::reading))]
-pub(crate) fn reading(of: Integer, word: u64) -> i128
+pub fn reading(of: Integer, word: u64) -> i128
     ensures value { result ≡ values.reading of word }
     ensures least { neg_ℤ (pos (2 ^ 63)) ≤ℤ result }
     ensures greatest { result <ℤ pos (2 ^ 64) }
@@ -70,9 +70,9 @@ fn greatest(of: Integer) -> i128
     }
 }
 
-/// Whether a type has this value.
+/// Whether a type can hold this value (C11 6.2.5).
 #[tactic(auto, unfolding(crate::specs::Values::can_hold))]
-pub(crate) fn can_hold(of: Integer, value: i128) -> bool
+pub fn can_hold(of: Integer, value: i128) -> bool
     ensures { result ≡ values.can_hold of value }
 {
     least(of) <= value && value <= greatest(of)
