@@ -1,10 +1,10 @@
 // The search for a model or a refutation.
 
-ghost use Rattle.std.specs.Prelude.{◌≡◌, [], IfOk, MatchOption, All};
+ghost use Rattle.std.specs.Prelude.{◌≡◌, ◌≤◌, ◌^◌, [], IfOk, MatchOption, All};
 ghost use Rattle.vg_cnf.specs.Clauses.{IsClauseOver};
 ghost use Rattle.vg_cnf.specs.Orders.{Reaches};
 ghost use Rattle.vg_sat.specs.Loading.{IsLoaded};
-ghost use Rattle.vg_sat.specs.Answers.{IsAnswer};
+ghost use Rattle.vg_sat.specs.Answers.{IsAnswer, IsDecided};
 
 use crate::answer::Answer;
 use crate::learning::shorten;
@@ -15,9 +15,10 @@ use vg_cnf::{Clauses, Refutation};
 use vg_units::Propagator;
 
 /// Searches for a model of the clauses, or for a refutation, in which each step is a clause that was learned. After `limit` clauses it gives up: these are
-/// different, follow in turn, and none of them could have been shorter.
+/// different, follow in turn, and none of them could have been shorter. With a limit of 3 to the number of variables or more it doesn't give up.
 pub fn solve(alloc: Global, clauses: &Clauses, limit: u32) -> Result<Answer, Memory>
-    ensures { IfOk result (IsAnswer clauses.now limit) }
+    ensures answer { IfOk result (IsAnswer clauses.now limit) }
+    ensures decided { 3 ^ clauses.now.variables ≤ limit → IfOk result IsDecided }
 {
     each_is_over(clauses);
     let mut learned = Refutation::new(alloc);

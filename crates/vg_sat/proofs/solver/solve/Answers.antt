@@ -1,20 +1,21 @@
-use Rattle.std.proofs.Common.{◌≡◌, ◌++◌, ◌∷◌, [], refl, subst, ap, ◌∙◌}
+use Rattle.std.proofs.Common.{◌≡◌, ◌++◌, ◌∷◌, [], refl, subst, ap, ◌∙◌, arith}
 use Rattle.std.specs.Prelude.{Bool, MatchBool, MatchOption, List, ℤ, Option}
 use Rattle.vg_cnf.specs.Orders.{Reaches}
 use Rattle.vg_units.specs.Searching.{IsAtRest}
 use Rattle.vg_units.specs.declared.propagator.Propagator.{Propagator}
 use Rattle.vg_sat.specs.Loading.{IsLoaded}
+use Rattle.vg_sat.proofs.Counting.{spending_few}
 use Rattle.vg_sat.proofs.Spending.{refuted_at_once, spending_step, spending_ended}
 use Rattle.vg_sat.proofs.solver.solve.Goals as goal
 
-pub returns-in_default : goal.returns-in_default
-returns-in_default c =
+pub returns-in_default-clause-answer : goal.returns-in_default-clause-answer
+returns-in_default-clause-answer c =
     let set = c.args.clauses.now in
     let reaches : Reaches set.clauses [] = subst (λ (o : Option Propagator). MatchOption o (Reaches set.clauses []) (IsLoaded set)) c.in_default.is c.in_ok-search.ensures in
     refuted_at_once set.variables set.clauses c.push.new.self (c.in_ok-push.ensures.ok ∙ ap (λ (xs : List (List ℤ)). xs ++ [] ∷ []) c.new-learned.ensures) c.each_is_over.ensures reaches
 
-pub returns-then-not-branch : goal.returns-then-not-branch
-returns-then-not-branch c =
+pub returns-then-not-branch-clause-answer : goal.returns-then-not-branch-clause-answer
+returns-then-not-branch-clause-answer c =
     let short = c.shorten.new.search in
     let e = c.deref-in-Conflict-2.result.now in
     let new = c.add.new.self in
@@ -35,3 +36,7 @@ loop-count-preserved c =
     c.in_ok-clause-in-Conflict.clause.items c.deref-in-Conflict.result.now e c.deref-in-Conflict.ensures.value c.deref-in-Conflict-2.ensures.value c.in_ok-clause-in-Conflict.ensures.learned
     (c.in_ok-values.ensures.same refl) (c.in_ok-clause-in-Conflict.ensures.same refl) c.add.ensures.variables added (c.in_ok-add-in-Conflict.ensures.open c.if-not-branch.false)
     c.in_ok-push-in-Conflict.ensures.ok c.loop-count.invariant
+
+pub returns-clause-decided : goal.returns-clause-decided
+returns-clause-decided c =
+    λ enough. spending_few c.args.clauses.now c.loop-count.search c.loop-count.learned c.loop-count._count c.args.limit enough (omega arith) c.loop-count.invariant
