@@ -4,12 +4,32 @@ ghost use Rattle.std.specs.Prelude.{◌≡◌, IfOk, IsOk};
 ghost use Rattle.vg_units.specs.Searching.{IsAtRest};
 ghost use Rattle.vg_sat.specs.Learned.{IsLearnable, IsLearned};
 
+use crate::walking::assume_in_turn;
 use std::alloc::{AllocError, Global};
 use vg_cnf::Lit;
 use vg_units::Propagator;
 
+/// A clause to be learned, of which no literal can be left out: what the conflict was traced back to, where that leads to a conflict indeed, and else the decisions.
+pub(crate) fn learn(
+    alloc: Global,
+    search: &mut Propagator,
+    decisions: &[Lit],
+    traced: &[Lit],
+) -> Result<Vec<Lit>, AllocError>
+    requires at_rest { IsAtRest search.old }
+    requires learnable { IsLearnable search.old.variables search.old.clauses decisions.now }
+    ensures same { IsOk result → (search.new.variables ≡ search.old.variables) × (search.new.clauses ≡ search.old.clauses) }
+    ensures at_rest { IsOk result → IsAtRest search.new }
+    ensures learned { IfOk result (λ c. IsLearned search.old.variables search.old.clauses c.items) }
+{
+    match assume_in_turn(alloc, search, traced)? {
+        Some(clause) => shorten(alloc, search, &clause),
+        None => shorten(alloc, search, decisions),
+    }
+}
+
 /// The clause without those literals, after the first, with whose others it still follows.
-pub(crate) fn shorten(
+fn shorten(
     alloc: Global,
     search: &mut Propagator,
     clause: &[Lit],

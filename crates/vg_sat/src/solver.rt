@@ -7,8 +7,10 @@ ghost use Rattle.vg_sat.specs.Loading.{IsLoaded};
 ghost use Rattle.vg_sat.specs.Answers.{IsAnswer, IsDecided};
 
 use crate::answer::Answer;
-use crate::learning::shorten;
+use crate::learning::learn;
 use crate::memory::Memory;
+use crate::order::Order;
+use crate::restarts::Restarts;
 use crate::walking::{Walk, decide_all};
 use std::alloc::{AllocError, Global};
 use vg_cnf::{Clauses, Refutation};
@@ -26,15 +28,21 @@ pub fn solve(alloc: Global, clauses: &Clauses, limit: u32) -> Result<Answer, Mem
         learned.push(&[])?;
         return Ok(Answer::Refuted(learned));
     };
+    let mut order = Order::new(alloc, clauses.variables())?;
+    let mut restarts = Restarts::new();
     for _count in 0..limit {
-        match decide_all(alloc, &mut search)? {
+        match decide_all(alloc, &mut search, &mut order)? {
             Walk::Model(values) => return Ok(Answer::Model(values)),
-            Walk::Conflict(conflict) => {
-                let clause = shorten(alloc, &mut search, &conflict)?;
+            Walk::Conflict(decisions, traced) => {
+                let clause = learn(alloc, &mut search, &decisions, &traced)?;
                 learned.push(&clause)?;
                 if !search.add(&clause)? {
                     learned.push(&[])?;
                     return Ok(Answer::Refuted(learned));
+                }
+                order.decay(clauses.variables())?;
+                if restarts.is_over() {
+                    order.restart(clauses.variables())?;
                 }
             }
         }
