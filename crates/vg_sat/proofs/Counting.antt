@@ -144,9 +144,11 @@ pairs_cons c cs first rest (suc i) (suc j) d before below = rest i j d (omega ar
 -- a spent list has fewer clauses than there are over the variables, the empty one among these
 pub spent_few : (set : ClauseSet) (steps : List (List ℤ)) → IsSpent set steps → length steps < 3 ^ set.variables
 spent_few set steps spent =
-    omega (arith,
-    different_few set.variables ([] ∷ steps) (All-cons (IsClauseOver set.variables) [] steps (record { clause = refl; over = λ k d below. absurd (omega arith) }) spent.clauses)
-    (pairs_cons [] steps (λ k d below. never_empty set steps k d spent below) spent.distinct))
+    omega (
+      arith,
+      different_few set.variables ([] ∷ steps) (All-cons (IsClauseOver set.variables) [] steps (record { clause = refl; over = λ k d below. absurd (omega arith) }) spent.clauses)
+          (pairs_cons [] steps (λ k d below. never_empty set steps k d spent below) spent.distinct),
+    )
 
 -- so a search never ends with as many
 pub spending_few : (set : ClauseSet) (s : Search) (learned : List (List ℤ)) (n limit : ℕ) → 3 ^ set.variables ≤ limit → limit ≤ n → Spending set s learned n → ⊥

@@ -1,6 +1,6 @@
 -- Decisions one after another.
 use Rattle.std.proofs.Common.{◌≡◌, ℕ, zero, suc, ◌+◌, ◌*◌, ◌<◌, ◌≤◌, List, [], ◌∷◌, ◌++◌, length, get_or, true, false, refl, sym, ap, ◌∙◌, inl, inr, ◌⊎◌, subst, arith, length-append}
-use Rattle.std.specs.Prelude.{ℤ, pos, negsuc, neg_ℤ, Bool, not, ◌||◌, All, Option, Some, None, is_some, MatchOption}
+use Rattle.std.specs.Prelude.{ℤ, pos, negsuc, neg_ℤ, Bool, not, ◌||◌, All, Option, Some, None, is_some, MatchOption, Result, Ok, Err, IfOk}
 use Rattle.std.specs.List.{list_all}
 use Rattle.std.specs.Ordering.{int_eq}
 use Rattle.std.proofs.Math.IntN.{neg_ℤ-neg_ℤ}
@@ -69,10 +69,10 @@ decided_from s next new l clause step decided =
     (or_left (int_eq l (neg_ℤ (neg_ℤ l))) (holds (negations clause) l) (same_test l (neg_ℤ (neg_ℤ l)) (sym (neg_ℤ-neg_ℤ l)))) (grown_from s next new l step)
     (more_decided s.trail (negations clause) s.starts (neg_ℤ (neg_ℤ l)) decided))
 
-same_variables : (s next new : Search) (l : ℤ) → Decided s next new l → new.variables ≡ s.variables
+pub same_variables : (s next new : Search) (l : ℤ) → Decided s next new l → new.variables ≡ s.variables
 same_variables s next new l step = step.stay.0 ∙ ap (λ x. x.variables) step.decision
 
-same_clauses : (s next new : Search) (l : ℤ) → Decided s next new l → new.clauses ≡ s.clauses
+pub same_clauses : (s next new : Search) (l : ℤ) → Decided s next new l → new.clauses ≡ s.clauses
 same_clauses s next new l step = step.stay.1 ∙ ap (λ x. x.clauses) step.decision
 
 pub walk_on : (s next new : Search) (clause : List ℤ) (l : ℤ) → IsOver s.variables l → Decided s next new l → new.head ≡ length new.trail → All (Settled new.trail) new.clauses →
@@ -153,6 +153,55 @@ pub walk_step : (s next new : Search) (clause : List ℤ) (l : ℤ) (end : Optio
     Walked s clause → MatchOption end (Walked new (neg_ℤ l ∷ clause)) (λ at. IsLearnable s.variables s.clauses (neg_ℤ l ∷ clause))
 walk_step s next new clause l None all undecided step ended h = walk_on s next new clause l undecided.over step ended.0 ended.1 h
 walk_step s next new clause l (Some at) all undecided step ended h = walk_conflict s next new clause l (Some at) all undecided refl step ended h
+
+pub walk_led : {E : Type 0} (result : Result (Option ℕ) E) (s next new : Search) (clause items : List ℤ) (l : ℤ) → All (IsClauseOver s.variables) s.clauses → IsUndecided s l →
+    items ≡ neg_ℤ l ∷ clause → Decided s next new l → IfOk result (IsEnd next new) → Walked s clause →
+    IfOk result (λ end. MatchOption end (Walked new items) (λ at. IsLearnable s.variables s.clauses items))
+walk_led (Ok end) s next new clause items l all undecided is step ended h =
+    subst (λ xs. MatchOption end (Walked new xs) (λ at. IsLearnable s.variables s.clauses xs)) (sym is) (walk_step s next new clause l end all undecided step ended h)
+walk_led (Err e) s next new clause items l all undecided is step ended h = tt
+
+pub led_on : (end : Option ℕ) (P : Type 0) (Q : ℕ → Type 0) → is_some end ≡ false → MatchOption end P Q → P
+led_on None P Q none h = h
+led_on (Some at) P Q none h = absurd (true≢false none)
+
+pub led_here : (end : Option ℕ) (P : Type 0) (Q : Type 0) → is_some end ≡ true → MatchOption end P (λ at. Q) → Q
+led_here None P Q some h = absurd (false≢true some)
+led_here (Some at) P Q some h = h
+
+pub led_so : (end : Option ℕ) (P more : Type 0) (Q other : Type 0) → is_some end ≡ true → (Q → other) → MatchOption end P (λ at. Q) → MatchOption end more (λ at. other)
+led_so None P more Q other some so h = absurd (false≢true some)
+led_so (Some at) P more Q other some so h = so h
+
+-- a walk that goes on
+pub record Going (start s : Search) (items : List ℤ) : Type 0 where
+  pub variables : s.variables ≡ start.variables
+  pub clauses : s.clauses ≡ start.clauses
+  pub walked : Walked s items
+
+pub going_starts : (s : Search) (items : List ℤ) → Walked s items → Going s s items
+going_starts s items walked = record { variables = refl; clauses = refl; walked = walked }
+
+pub going_at : (start s t : Search) (items more : List ℤ) → s ≡ t → items ≡ more → Going start t more → Going start s items
+going_at start s t items more is_t is_more h = subst (λ x. Going start x items) (sym is_t) (subst (Going start t) (sym is_more) h)
+
+pub going_on : (start s new : Search) (items more : List ℤ) (end : Option ℕ) (Q : ℕ → Type 0) → is_some end ≡ false → (new.variables ≡ s.variables) × (new.clauses ≡ s.clauses) →
+    MatchOption end (Walked new more) Q → Going start s items → Going start new more
+going_on start s new items more end Q none alike led h =
+    record { variables = alike.0 ∙ h.variables; clauses = alike.1 ∙ h.clauses; walked = led_on end (Walked new more) Q none led }
+
+pub going_learnable : (start s : Search) (items clause : List ℤ) → Going start s items → IsLearnable s.variables s.clauses clause → IsLearnable start.variables start.clauses clause
+going_learnable start s items clause h learnable = subst (λ n. IsLearnable n start.clauses clause) h.variables (subst (λ cs. IsLearnable s.variables cs clause) h.clauses learnable)
+
+pub learnable_there : (s new : Search) (clause : List ℤ) → (new.variables ≡ s.variables) × (new.clauses ≡ s.clauses) → IsLearnable s.variables s.clauses clause → IsLearnable new.variables new.clauses clause
+learnable_there s new clause alike learnable =
+    subst (λ n. IsLearnable n new.clauses clause) (sym alike.0) (subst (λ cs. IsLearnable s.variables cs clause) (sym alike.1) learnable)
+
+pub going_ends : (start s new : Search) (items more : List ℤ) (end : Option ℕ) (P rest : Type 0) → is_some end ≡ true → MatchOption end P (λ at. IsLearnable s.variables s.clauses more) →
+    0 < length new.starts → Going start s items → MatchOption end rest (λ at. IsLearnable start.variables start.clauses more × (0 < length new.starts))
+going_ends start s new items more end P rest some led level h =
+    led_so end P rest (IsLearnable s.variables s.clauses more) (IsLearnable start.variables start.clauses more × (0 < length new.starts)) some
+    (λ learnable. (going_learnable start s items more h learnable, level)) led
 
 -- what was true stays true, and the decision is
 pub step_keeps : (s next new : Search) (l : ℤ) → Decided s next new l → AreWithin s.trail new.trail

@@ -5,14 +5,21 @@ use Rattle.vg_cnf.specs.Orders.{Settled, negations}
 use Rattle.vg_units.specs.Lists.{IsListedFrom}
 use Rattle.vg_units.specs.Propagating.{AreWithin}
 use Rattle.vg_units.specs.Searching.{Search, IsSound}
-use Rattle.vg_sat.specs.Learned.{IsLearnable}
+use Rattle.vg_sat.specs.Learned.{IsLearnable, IsLearned}
 use Rattle.vg_sat.specs.declared.walking.Walk.{Walk}
-use Rattle.vg_sat.specs.declared.walking.Walk.TheVariants.{Model, Conflict}
+use Rattle.vg_sat.specs.declared.walking.Walk.TheVariants as walks
+use Rattle.vg_sat.specs.declared.learning.Step.{Step}
+use Rattle.vg_sat.specs.declared.learning.Step.TheVariants.{Model, Learned}
 
 -- a model, or a clause that can be learned; of what the conflict was traced back to nothing is said
 abbrev pub IsWalk : Search → Walk → Type 0
-IsWalk s (Model values) = IsModel values (record { variables = s.variables; clauses = s.clauses })
-IsWalk s (Conflict decisions traced) = IsLearnable s.variables s.clauses decisions.items
+IsWalk s (walks.Model values) = IsModel values (record { variables = s.variables; clauses = s.clauses })
+IsWalk s (walks.Conflict decisions traced) = IsLearnable s.variables s.clauses decisions.items
+
+-- a model, or a clause to be learned
+abbrev pub IsStep : Search → Step → Type 0
+IsStep s (Model values) = IsModel values (record { variables = s.variables; clauses = s.clauses })
+IsStep s (Learned clause) = IsLearned s.variables s.clauses clause.items
 
 -- the value of each variable says whether it is true
 pub record AreValues (s : Search) (values : List Bool) : Type 0 where

@@ -3,7 +3,8 @@
 ghost use Rattle.std.specs.Prelude.{◌<◌, IfSome, length};
 ghost use Rattle.vg_sat.specs.Choices.{IsUndecided};
 
-use crate::walking::is_undecided;
+use crate::restarts::Restarts;
+use crate::walking::is_open;
 use std::alloc::{AllocError, Global};
 use std::collections::BinaryHeap;
 use vg_cnf::Lit;
@@ -28,6 +29,7 @@ pub(crate) struct Order {
     queued: Vec<bool>,
     /// The value that each variable had last.
     phases: Vec<bool>,
+    restarts: Restarts,
 }
 
 impl Order {
@@ -40,15 +42,10 @@ impl Order {
             queue: BinaryHeap::new(alloc),
             queued: vec![in alloc; false; places]?,
             phases: vec![in alloc; false; places]?,
+            restarts: Restarts::new(),
         };
-        order.refill(variables)?;
+        order.refill()?;
         Ok(order)
-    }
-
-    /// Queues all variables anew, and forgets their last values.
-    pub fn restart(&mut self, variables: u32) -> Result<(), AllocError> {
-        self.phases.fill(false);
-        self.refill(variables)
     }
 
     /// The variable has come up in a conflict.
@@ -59,15 +56,19 @@ impl Order {
         self.mark(variable, false);
     }
 
-    /// Later conflicts count for more.
-    pub fn decay(&mut self, variables: u32) -> Result<(), AllocError> {
+    /// A conflict is over: later ones count for more, and at a restart the last values are forgotten.
+    pub fn end_conflict(&mut self) -> Result<(), AllocError> {
         self.increment = self.increment.saturating_add(self.increment / 16);
         if self.increment > GREATEST_INCREMENT {
             for activity in self.activities.iter_mut() {
                 *activity >>= 36;
             }
             self.increment >>= 36;
-            self.refill(variables)?;
+            self.refill()?;
+        }
+        if self.restarts.is_over() {
+            self.phases.fill(false);
+            self.refill()?;
         }
         Ok(())
     }
@@ -81,9 +82,8 @@ impl Order {
                 return None;
             };
             self.mark(variable, false);
-            if variable > 0 && variable <= search.variables() {
-                let literal = self.with_last_value(variable);
-                if is_undecided(search, literal) {
+            if let Some(literal) = self.with_last_value(variable) {
+                if is_open(search, literal) {
                     return Some(literal);
                 }
             }
@@ -106,11 +106,14 @@ impl Order {
         Ok(())
     }
 
-    fn refill(&mut self, variables: u32) -> Result<(), AllocError> {
+    /// Queues all variables anew.
+    fn refill(&mut self) -> Result<(), AllocError> {
         self.queue.clear();
         self.queued.fill(false);
-        for before in 0..variables {
-            self.enqueue(before + 1)?;
+        for variable in 1..self.activities.len() {
+            if variable <= 2_147_483_647 {
+                self.enqueue(variable as u32)?;
+            }
         }
         Ok(())
     }
@@ -131,12 +134,15 @@ impl Order {
         }
     }
 
-    fn with_last_value(&self, variable: u32) -> Lit {
+    fn with_last_value(&self, variable: u32) -> Option<Lit> {
+        if variable == 0 || variable > 2_147_483_647 {
+            return None;
+        }
         let literal = Lit::of_variable(variable);
         if self.phases.get(variable as usize) == Some(&true) {
-            literal
+            Some(literal)
         } else {
-            literal.negated()
+            Some(literal.negated())
         }
     }
 }

@@ -7,11 +7,9 @@ ghost use Rattle.vg_sat.specs.Loading.{IsLoaded};
 ghost use Rattle.vg_sat.specs.Answers.{IsAnswer, IsDecided};
 
 use crate::answer::Answer;
-use crate::learning::learn;
+use crate::learning::{Step, next_step};
 use crate::memory::Memory;
 use crate::order::Order;
-use crate::restarts::Restarts;
-use crate::walking::{Walk, decide_all};
 use std::alloc::{AllocError, Global};
 use vg_cnf::{Clauses, Refutation};
 use vg_units::Propagator;
@@ -23,26 +21,37 @@ pub fn solve(alloc: Global, clauses: &Clauses, limit: u32) -> Result<Answer, Mem
     ensures decided { 3 ^ clauses.now.variables ≤ limit → IfOk result IsDecided }
 {
     each_is_over(clauses);
-    let mut learned = Refutation::new(alloc);
     let Some(mut search) = load(alloc, clauses)? else {
+        let mut learned = Refutation::new(alloc);
         learned.push(&[])?;
         return Ok(Answer::Refuted(learned));
     };
     let mut order = Order::new(alloc, clauses.variables())?;
-    let mut restarts = Restarts::new();
+    search_on(alloc, clauses, &mut search, &mut order, limit)
+}
+
+/// Learns clause after clause from the loaded clauses, until there is a model, a refutation or as many as allowed.
+fn search_on(
+    alloc: Global,
+    clauses: &Clauses,
+    search: &mut Propagator,
+    order: &mut Order,
+    limit: u32,
+) -> Result<Answer, Memory>
+    requires loaded { IsLoaded clauses.now search.old }
+    requires over { All (IsClauseOver clauses.now.variables) clauses.now.clauses }
+    ensures answer { IfOk result (IsAnswer clauses.now limit) }
+    ensures decided { 3 ^ clauses.now.variables ≤ limit → IfOk result IsDecided }
+{
+    let mut learned = Refutation::new(alloc);
     for _count in 0..limit {
-        match decide_all(alloc, &mut search, &mut order)? {
-            Walk::Model(values) => return Ok(Answer::Model(values)),
-            Walk::Conflict(decisions, traced) => {
-                let clause = learn(alloc, &mut search, &decisions, &traced)?;
+        match next_step(alloc, search, order)? {
+            Step::Model(values) => return Ok(Answer::Model(values)),
+            Step::Learned(clause) => {
                 learned.push(&clause)?;
                 if !search.add(&clause)? {
                     learned.push(&[])?;
                     return Ok(Answer::Refuted(learned));
-                }
-                order.decay(clauses.variables())?;
-                if restarts.is_over() {
-                    order.restart(clauses.variables())?;
                 }
             }
         }

@@ -36,11 +36,7 @@ pub(crate) fn decide_all(
 {
     let mut clause = Vec::new(alloc);
     search.facts();
-    let mut conflict = decide_in_order(search, order, &mut clause)?;
-    if conflict.is_none() {
-        conflict = decide_rest(search, &mut clause)?;
-    }
-    let Some(conflict) = conflict else {
+    let Some(conflict) = decide_each(search, order, &mut clause)? else {
         let values = values_of(alloc, search)?;
         search.release();
         return Ok(Walk::Model(values));
@@ -49,6 +45,23 @@ pub(crate) fn decide_all(
     order.leave(search)?;
     search.release();
     Ok(Walk::Conflict(clause, traced))
+}
+
+/// Decides until a clause is false or all variables are true or false.
+fn decide_each(
+    search: &mut Propagator,
+    order: &mut Order,
+    clause: &mut Vec<Lit>,
+) -> Result<Option<usize>, AllocError>
+    requires { Walked search.old clause.old.items }
+    ensures same { IsOk result → (search.new.variables ≡ search.old.variables) × (search.new.clauses ≡ search.old.clauses) }
+    ensures led { IfOk result (λ end. MatchOption end (Walked search.new clause.new.items × AreAssigned search.new) (λ at. IsLearnable search.old.variables search.old.clauses clause.new.items × (0 < length search.new.starts))) }
+{
+    let conflict = decide_in_order(search, order, clause)?;
+    if conflict.is_some() {
+        return Ok(conflict);
+    }
+    decide_rest(search, clause)
 }
 
 /// Decides as the order says, as long as it names a variable.
@@ -74,10 +87,7 @@ fn decide_in_order(
 }
 
 /// Decides that each variable is false that is neither true nor false.
-fn decide_rest(
-    search: &mut Propagator,
-    clause: &mut Vec<Lit>,
-) -> Result<Option<usize>, AllocError>
+fn decide_rest(search: &mut Propagator, clause: &mut Vec<Lit>) -> Result<Option<usize>, AllocError>
     requires { Walked search.old clause.old.items }
     ensures same { IsOk result → (search.new.variables ≡ search.old.variables) × (search.new.clauses ≡ search.old.clauses) }
     ensures led { IfOk result (λ end. MatchOption end (Walked search.new clause.new.items × AreAssigned search.new) (λ at. IsLearnable search.old.variables search.old.clauses clause.new.items × (0 < length search.new.starts))) }
@@ -109,8 +119,9 @@ pub(crate) fn assume_in_turn(
     search.facts();
     for literal in literals {
         let decision = literal.negated();
-        if literal.variable() <= search.variables() && is_undecided(search, decision) {
-            if decide(search, &mut clause, decision)?.is_some() {
+        if is_open(search, decision) {
+            let conflict = decide(search, &mut clause, decision)?;
+            if conflict.is_some() {
                 search.release();
                 return Ok(Some(clause));
             }
@@ -154,10 +165,17 @@ fn values_of(alloc: Global, search: &Propagator) -> Result<Values, AllocError>
 }
 
 /// Whether a literal is neither true nor false.
-pub(crate) fn is_undecided(search: &Propagator, literal: Lit) -> bool
+fn is_undecided(search: &Propagator, literal: Lit) -> bool
     requires { IsOver search.now.variables literal }
     ensures undecided { result ≡ true → IsUndecided search.now literal }
     ensures decided { result ≡ false → (holds search.now.trail literal ≡ true) ⊎ (holds search.now.trail (neg_ℤ literal) ≡ true) }
 {
     !search.is_true(literal) && !search.is_false(literal)
+}
+
+/// Whether a literal is of one of the variables, and neither true nor false.
+pub(crate) fn is_open(search: &Propagator, literal: Lit) -> bool
+    ensures { result ≡ true → IsUndecided search.now literal }
+{
+    literal.variable() <= search.variables() && is_undecided(search, literal)
 }
