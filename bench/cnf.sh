@@ -30,12 +30,12 @@ pigeons() {
 multiplier() {
     awk -v w="$1" '
         function clause(text) { body = body text " 0\n"; clauses++ }
-        function gate_and(x, y) { top++; clause(-top " " x); clause(-top " " y); clause(top " " -x " " -y); return top }
-        function gate_xor(x, y) { top++; clause(-top " " x " " y); clause(-top " " -x " " -y); clause(top " " -x " " y); clause(top " " x " " -y); return top }
+        function gate_and(x, y) { top++; clause(-top " " x); clause(-top " " y); clause(top " -" x " -" y); return top }
+        function gate_xor(x, y) { top++; clause(-top " " x " " y); clause(-top " -" x " -" y); clause(top " -" x " " y); clause(top " " x " -" y); return top }
         function gate_maj(x, y, z) {
             top++
             clause(-top " " x " " y); clause(-top " " x " " z); clause(-top " " y " " z)
-            clause(top " " -x " " -y); clause(top " " -x " " -z); clause(top " " -y " " -z)
+            clause(top " -" x " -" y); clause(top " -" x " -" z); clause(top " -" y " -" z)
             return top
         }
         function product(first, second, out,    i, j, carry, bit, old) {

@@ -47,7 +47,7 @@ for file in "$work"/*.cnf; do
     other=-
     command -v minisat >/dev/null && other=$(seconds minisat "$file")
     ratio=$(awk -v a="$solving" -v b="$other" -v answer="$answer" 'BEGIN {
-        if (b == "-") print "-"; else if (answer == "UNKNOWN") print 999999; else printf "%.1f", a / (b > 0.0005 ? b : 0.0005)
+        if (b == "-") print "-"; else if (answer !~ /SATISFIABLE$/) print 999999; else printf "%.1f", a / (b > 0.0005 ? b : 0.0005)
     }')
     echo "$ratio" >>"$work/ratios"
     echo "$(basename "$file" .cnf) $answer solve $solving check $checking minisat $other ratio $ratio"

@@ -1,6 +1,6 @@
 //! The solver and the checker on made clauses, whose answers are known.
 
-ghost use Rattle.std.specs.Prelude.{◌<◌, ◌^◌, ◌≡◌, IfOk, IsTrue, All};
+ghost use Rattle.std.specs.Prelude.{IsTrue, All};
 ghost use Rattle.vg_cnf.specs.Clauses.{IsOver};
 
 use std::alloc::{AllocError, Global};
@@ -38,20 +38,23 @@ fn add(alloc: Global, clauses: &mut Clauses, numbers: &[i32]) -> Result<(), Allo
 
 // Whether the clauses are satisfiable (s) or not (u); what is answered is checked.
 fn answer(alloc: Global, clauses: &Clauses) -> Result<char, AllocError> {
-    match solve(alloc, clauses, 10_000) {
-        Ok(Answer::Model(values)) if values.len() == clauses.variables() as usize => {
-            Ok(if clauses.is_satisfied_by(&values) {
-                's'
-            } else {
-                'x'
-            })
+    let Ok(answer) = solve(alloc, clauses, 10_000) else {
+        return Err(AllocError);
+    };
+    match answer {
+        Answer::Model(values) => {
+            if values.len() == clauses.variables() as usize {
+                if clauses.is_satisfied_by(&values) {
+                    return Ok('s');
+                }
+            }
+            Ok('x')
         }
-        Ok(Answer::Refuted(steps)) => {
-            let checked = check_refutation(alloc, clauses, &steps);
-            Ok(if checked.is_ok() { 'u' } else { 'x' })
-        }
-        Ok(_) => Ok('x'),
-        Err(_) => Err(AllocError),
+        Answer::Refuted(steps) => match check_refutation(alloc, clauses, &steps) {
+            Ok(()) => Ok('u'),
+            Err(_) => Ok('x'),
+        },
+        Answer::Spent(_) => Ok('x'),
     }
 }
 
@@ -128,9 +131,7 @@ fn even(alloc: Global, clauses: &mut Clauses, a: i32, b: i32, c: i32) -> Result<
 }
 
 // The parity of the variables 1 to 8, taken from the first on as 20 and from the last on as 40.
-fn parities(alloc: Global) -> Result<Clauses, AllocError>
-    ensures { IfOk result (λ clauses. clauses.variables ≡ 40) }
-{
+fn parities(alloc: Global) -> Result<Clauses, AllocError> {
     let mut clauses = Clauses::new(alloc, 40);
     even(alloc, &mut clauses, 1, 2, 12)?;
     even(alloc, &mut clauses, 8, 7, 32)?;
