@@ -100,3 +100,6 @@ folds_to_itself old new op parts (Ok id) made stand fits needs =
     record { grows = grows; means = stands_for old new op parts id made grows stand fits needs.term; kept = tt }
 folds_to_itself old new op parts (Err stop) made stand fits needs =
     record { grows = needs_grows old new (operation old op parts) (Err stop) needs; means = tt; kept = needs.kept }
+
+pub folds_to_standing : (old : List Term) (op : Op) (parts : List TermId) (id : TermId) → StandsFor old id op parts → Folds old old op parts (Ok id)
+folds_to_standing old op parts id is = record { grows = ([], sym (append-nil old)); means = is; kept = tt }

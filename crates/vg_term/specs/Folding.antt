@@ -4,6 +4,8 @@ use Rattle.vg_bits.specs.declared.word.Word.{Word}
 use Rattle.vg_term.specs.Operations.{answer, width_of, bits_of}
 use Rattle.vg_term.specs.Terms.{Term, Stands, width_at}
 use Rattle.vg_term.specs.Value.{value_of, bits_at, Assigns}
+use Rattle.vg_term.specs.declared.known.Known.{Known}
+use Rattle.vg_term.specs.declared.known.Known.TheVariants.{Standing, Constant}
 use Rattle.vg_term.specs.declared.node.TermId.{TermId}
 use Rattle.vg_term.specs.declared.node.Op.{Op}
 use Rattle.vg_term.specs.declared.stops.TermStop.{TermStop}
@@ -32,3 +34,8 @@ IsWord terms id w = (words : List Word) → bits_at terms words id ≡ bits_of w
 pub record IsAnswer (terms : List Term) (op : Op) (parts : List TermId) (w : Word) : Type 0 where
   pub width : w.width ≡ width_of op (map (width_at terms) parts)
   pub value : (words : List Word) → Assigns words terms → w.value ≡ answer op (map (bits_at terms words) parts)
+
+-- a simpler form stands for the operation on these parts
+abbrev pub IsKnown : List Term → Op → List TermId → Known → Type 0
+IsKnown terms op parts (Standing id) = StandsFor terms id op parts
+IsKnown terms op parts (Constant w) = IsAnswer terms op parts w

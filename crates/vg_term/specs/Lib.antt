@@ -1,4 +1,5 @@
 pub mod Operations
 pub mod Terms
 pub mod Value
+pub mod Rules
 pub mod Folding

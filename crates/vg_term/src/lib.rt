@@ -3,7 +3,9 @@
 
 mod applying;
 mod folding;
+mod known;
 mod node;
+mod rules;
 mod stops;
 mod terms;
 #[cfg(test)]

@@ -54,9 +54,13 @@ impl Terms {
     }
 
     /// The width of a term, in bits.
+    #[tactic(auto, using(crate::proofs::Ranges::width_some, crate::proofs::Ranges::width_most))]
     pub fn width(&self, term: TermId) -> u8
         requires { Stands self.now term }
-        ensures { result ≡ width_at self.now term }
+        ensures width { result ≡ width_at self.now term }
+        ensures some { 0 < result }
+        ensures most { result ≤ 64 }
+        ensures made { AreTerms self.now }
     {
         self.entry(term).1
     }

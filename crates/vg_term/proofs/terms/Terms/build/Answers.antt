@@ -1,9 +1,24 @@
-use Rattle.vg_term.proofs.Meanings.{folds_to_word, folds_to_itself}
+use Rattle.std.proofs.Common.{[], Ok, subst, sym}
+use Rattle.vg_bits.specs.declared.word.Word.{Word}
+use Rattle.vg_term.specs.Terms.{Needs, operation}
+use Rattle.vg_term.specs.declared.node.TermId.{TermId}
+use Rattle.vg_term.specs.declared.node.Op.TheVariants.{Const}
+use Rattle.vg_term.specs.Folding.{Folds, IsKnown}
+use Rattle.vg_term.specs.declared.known.Known.{Known}
+use Rattle.vg_term.proofs.Meanings.{folds_to_word, folds_to_itself, folds_to_standing}
 use Rattle.vg_term.proofs.terms.Terms.build.Goals as goal
 
-pub returns-in-Some : goal.returns-in-Some
-returns-in-Some c =
-    folds_to_word c.args.self.now c.make.new.self c.args.op c.args.parts.now c.in-Some.word c.make.result c.make.ensures.stood c.make.ensures.made c.requires.parts_stand c.in-Some.ensures c.make.ensures.term
+pub returns-in-Some-Standing : goal.returns-in-Some-Standing
+returns-in-Some-Standing c =
+    subst (λ (t : TermId). Folds c.args.self.now c.args.self.now c.args.op c.args.parts.now (Ok t)) (sym c.in-Some-Standing.term-is)
+    (folds_to_standing c.args.self.now c.args.op c.args.parts.now c.in-Some-Standing.term
+    (subst (λ (k : Known). IsKnown c.args.self.now c.args.op c.args.parts.now k) c.in-Some-Standing.field-0-is c.in-Some-Standing.ensures))
+
+pub returns-in-Some-Constant : goal.returns-in-Some-Constant
+returns-in-Some-Constant c =
+    folds_to_word c.args.self.now c.make.new.self c.args.op c.args.parts.now c.in-Some-Constant.word c.make.result c.make.ensures.stood c.make.ensures.made c.requires.parts_stand
+    (subst (λ (k : Known). IsKnown c.args.self.now c.args.op c.args.parts.now k) c.in-Some-Constant.field-0-is c.in-Some-Constant.ensures)
+    (subst (λ (w : Word). Needs c.args.self.now c.make.new.self (operation c.args.self.now (Const w) []) c.make.result) c.in-Some-Constant.word-is c.make.ensures.term)
 
 pub returns-in-None : goal.returns-in-None
 returns-in-None c =

@@ -1,0 +1,1 @@
+use Rattle.vg_term.proofs.terms.Terms.known.Goals as goal
