@@ -6,3 +6,6 @@ pub mod Ranges
 pub mod RuleLaws
 pub mod Meanings
 pub mod KnownLaws
+pub mod Wires
+pub mod Following
+pub mod Building

@@ -45,7 +45,7 @@ stands_for old new op parts id made grows stand fits here =
       value = λ words _. value_follows made words id ∙ ap (entry_value words (bits_at new words)) here ∙ ap (λ ps. answer op (map (bits_at new words) ps)) list;
     }
 
-old_assigns : (old later : List Term) (words : List Word) → Assigns words (old ++ later) → Assigns words old
+pub old_assigns : (old later : List Term) (words : List Word) → Assigns words (old ++ later) → Assigns words old
 old_assigns old later words h at t e = h at t (stays old later at (slice_get_within old at t e) ∙ e)
 
 -- a constant for an operation that answers it

@@ -156,3 +156,11 @@ module _ {terms : List Term} (made : AreTerms terms) where
   pub width_most : (id : TermId) → Stands terms id → width_at terms id ≤ 64
   unfolding zeros
   width_most id stands = (width_range id stands).most
+
+  -- the width of what an operation answers on terms
+  pub op_width_range : (op : Op) (parts : List TermId) → All (Stands terms) parts → Fits op (map (width_at terms) parts) → (0 < width_of op (map (width_at terms) parts)) × (width_of op (map (width_at terms) parts) ≤ 64)
+  op_width_range op parts stand fits =
+      let wide : widths (map (zeros terms) parts) ≡ map (width_at terms) parts = zeros_widths terms parts in
+      let ranges : All IsRange (map (zeros terms) parts) = All-map IsRange (zeros terms) parts (All-weaker (Stands terms) (λ (part : TermId). IsRange (zeros terms part)) (λ part there. width_range part there) parts stand) in
+      let whole = answer_range op (map (zeros terms) parts) (subst (Fits op) (sym wide) fits) ranges in
+      (subst (λ ws. 0 < width_of op ws) wide whole.some, subst (λ ws. width_of op ws ≤ 64) wide whole.most)

@@ -3,3 +3,4 @@ pub mod Terms
 pub mod Value
 pub mod Rules
 pub mod Folding
+pub mod Wiring

@@ -2,8 +2,8 @@
 
 ghost use Rattle.std.specs.Prelude.{map, All, IfSome};
 ghost use Rattle.vg_term.specs.Operations.{Fits};
-ghost use Rattle.vg_term.specs.Terms.{Stands, width_at};
-ghost use Rattle.vg_term.specs.Folding.{Folds, IsWord, IsAnswer, IsKnown};
+ghost use Rattle.vg_term.specs.Terms.{AreTerms, Stands, width_at};
+ghost use Rattle.vg_term.specs.Folding.{Builds, Folds, IsWord, IsAnswer, IsKnown};
 
 use crate::applying::apply;
 use crate::known::Known;
@@ -33,9 +33,42 @@ impl Terms {
         requires fits { Fits op (map (width_at self.old) parts.now) }
         ensures { Folds self.old self.new op parts.now result }
     {
+        let mark = self.mark();
+        match self.folded(op, parts) {
+            Ok(term) => Ok(term),
+            Err(stop) => {
+                self.forget(mark);
+                Err(stop)
+            }
+        }
+    }
+
+    // The same, but a refusal may leave terms that were needed on the way.
+    fn folded(&mut self, op: Op, parts: &[TermId]) -> Result<TermId, TermStop>
+        requires made { AreTerms self.old }
+        requires parts_stand { All (Stands self.old) parts.now }
+        requires fits { Fits op (map (width_at self.old) parts.now) }
+        ensures { Builds self.old self.new op parts.now result }
+    {
         match self.known(op, parts) {
             Some(Known::Standing(term)) => Ok(term),
             Some(Known::Constant(word)) => self.make(Op::Const(word), &[]),
+            None => self.wired(op, parts),
+        }
+    }
+
+    // The operation rebuilt from its wires, where it is wiring, and else as it is.
+    fn wired(&mut self, op: Op, parts: &[TermId]) -> Result<TermId, TermStop>
+        requires made { AreTerms self.old }
+        requires parts_stand { All (Stands self.old) parts.now }
+        requires fits { Fits op (map (width_at self.old) parts.now) }
+        ensures { Builds self.old self.new op parts.now result }
+    {
+        let held = Parts::new(parts);
+        let same = self.without_carries(op, held);
+        let width = self.answer_width(same, held);
+        match self.wires(same, held, width) {
+            Some(wires) => self.rebuild(&wires, width),
             None => self.make(op, parts),
         }
     }

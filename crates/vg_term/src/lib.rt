@@ -11,6 +11,8 @@ mod terms;
 #[cfg(test)]
 mod tests;
 mod valuing;
+mod wire;
+mod wiring;
 
 pub use applying::apply;
 pub use node::{Node, Op, Parts, TermId};
