@@ -190,7 +190,13 @@ impl Terms {
     }
 
     /// A choice.
-    pub(crate) fn known_of_three(&self, op: Op, condition: TermId, a: TermId, b: TermId) -> Option<Known>
+    pub(crate) fn known_of_three(
+        &self,
+        op: Op,
+        condition: TermId,
+        a: TermId,
+        b: TermId,
+    ) -> Option<Known>
         requires condition { Stands self.now condition }
         requires first { Stands self.now a }
         requires second { Stands self.now b }

@@ -30,9 +30,13 @@ fn follows(first: Wire, wire: Wire, places: u8) -> bool
 {
     match (first, wire) {
         (Wire::Fixed(_), Wire::Fixed(_)) => true,
-        (Wire::Bit { term, at }, Wire::Bit { term: other, at: place }) => {
-            term.0 == other.0 && u16::from(place) == u16::from(at) + u16::from(places)
-        }
+        (
+            Wire::Bit { term, at },
+            Wire::Bit {
+                term: other,
+                at: place,
+            },
+        ) => { term.0 == other.0 && u16::from(place) == u16::from(at) + u16::from(places) }
         _ => false,
     }
 }

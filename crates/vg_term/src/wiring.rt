@@ -76,13 +76,7 @@ impl Terms {
         ensures { AnswersAs self.now op result (listed parts) }
     {
         match (op, parts) {
-            (Op::Add, Parts::Two(a, b)) => {
-                if self.are_apart(a, b) {
-                    Op::Or
-                } else {
-                    op
-                }
-            }
+            (Op::Add, Parts::Two(a, b)) => { if self.are_apart(a, b) { Op::Or } else { op } }
             _ => op,
         }
     }
@@ -115,7 +109,10 @@ impl Terms {
     {
         match (op, parts) {
             (Op::Const(word), Parts::Zero) => Some(Wire::Fixed(bit_of(word, at))),
-            (Op::Extract { from, .. }, Parts::One(term)) => Some(Wire::Bit { term, at: from + at }),
+            (Op::Extract { from, .. }, Parts::One(term)) => Some(Wire::Bit {
+                term,
+                at: from + at,
+            }),
             (Op::Zext(_), Parts::One(term)) => {
                 if at < self.width(term) {
                     return Some(Wire::Bit { term, at });
@@ -127,7 +124,10 @@ impl Terms {
                 if at < width {
                     return Some(Wire::Bit { term: low, at });
                 }
-                Some(Wire::Bit { term: high, at: at - width })
+                Some(Wire::Bit {
+                    term: high,
+                    at: at - width,
+                })
             }
             _ => None,
         }
@@ -198,14 +198,20 @@ impl Terms {
                 if u64::from(at) < by.value {
                     return Some(Wire::Fixed(false));
                 }
-                Some(self.followed(Wire::Bit { term: a, at: at - by.value as u8 }))
+                Some(self.followed(Wire::Bit {
+                    term: a,
+                    at: at - by.value as u8,
+                }))
             }
             Op::Lshr => {
                 let by = self.constant(b)?;
                 if by.value >= u64::from(width - at) {
                     return Some(Wire::Fixed(false));
                 }
-                Some(self.followed(Wire::Bit { term: a, at: at + by.value as u8 }))
+                Some(self.followed(Wire::Bit {
+                    term: a,
+                    at: at + by.value as u8,
+                }))
             }
             _ => None,
         }

@@ -8,8 +8,7 @@ loop-at-preserved c =
     let i = c.loop-at.invariant in
     let below = c.loop-at-test.true in
     let long : c.loop-at.at + 1 ≤ c.args.to = omega (arith, below) in
-    let wide : c.args.from + c.concat-word.result.width ≡ c.loop-at.at + 1 = omega (arith, i.3, c.concat-word.ensures.width, c.from_bool.ensures.width) in
-    (
+    let wide : c.args.from + c.concat-word.result.width ≡ c.loop-at.at + 1 = omega (arith, i.3, c.concat-word.ensures.width, c.from_bool.ensures.width) in (
       long,
       i.1,
       i.2,
