@@ -1,5 +1,5 @@
 -- Terms that are built on the way, and forgotten where a later one is refused.
-use Rattle.std.proofs.Common.{◌≡◌, ℕ, suc, zero, ◌+◌, ◌-◌, ◌*◌, ◌/◌, ◌%◌, ◌^◌, ◌<◌, ◌≤◌, min, Bool, true, false, List, [], ◌∷◌, ◌++◌, map, take, length, get_or, Some, Result, Ok, Err, All, refl, sym, ap, subst, ◌∙◌, inl, inr, arith, length-append}
+use Rattle.std.proofs.Common.{◌≡◌, ℕ, suc, zero, ◌+◌, ◌%◌, ◌^◌, ◌<◌, ◌≤◌, min, false, List, [], ◌∷◌, ◌++◌, map, take, length, get_or, Result, Ok, Err, All, refl, sym, ap, subst, ◌∙◌, inl, inr, arith, length-append}
 use Rattle.std.specs.Prelude.{bit_and, bit_or}
 use Rattle.std.specs.Int.{bit_at}
 use Rattle.std.proofs.Math.Nat.{mod-eq_of_lt}
@@ -11,13 +11,13 @@ use Rattle.std.proofs.lemmas.Nat.{or_disjoint, or_lt}
 use Rattle.std.proofs.lemmas.Nat.Bits.{same_from_bits_below, same_from_bits, bit_at-zero, bit_at_and, bit_at_above}
 use Rattle.vg_bits.specs.Words as formulas
 use Rattle.vg_bits.specs.declared.word.Word.{Word}
-use Rattle.vg_term.specs.Operations.{Bits, bits_of, widths, answer, width_of, Fits}
-use Rattle.vg_term.specs.Terms.{Term, AreTerms, nothing, extended, Stands, Needs, width_at, variable_count, listed, held, operation}
+use Rattle.vg_term.specs.Operations.{widths, answer, width_of, Fits}
+use Rattle.vg_term.specs.Terms.{Term, AreTerms, nothing, extended, Stands, width_at, variable_count, listed, held}
 use Rattle.vg_term.specs.Value.{value_of, bits_at, Assigns}
-use Rattle.vg_term.specs.Folding.{Grows, StandsFor, Folds, Builds, IsAnswer}
+use Rattle.vg_term.specs.Folding.{Grows, StandsFor, Folds, Builds}
 use Rattle.vg_term.specs.Wiring.{wire_value, AllCarry, AllStand, AreApart, AnswersAs, IsWired, BuildsWires}
 use Rattle.vg_term.specs.declared.wire.Wire.{Wire}
-use Rattle.vg_term.specs.declared.wire.Wire.TheVariants.{Fixed, Bit}
+use Rattle.vg_term.specs.declared.wire.Wire.TheVariants.{Fixed}
 use Rattle.vg_term.specs.declared.node.TermId.{TermId}
 use Rattle.vg_term.specs.declared.node.Op.{Op}
 use Rattle.vg_term.specs.declared.node.Op.TheVariants as ops
@@ -27,7 +27,6 @@ use Rattle.vg_term.specs.declared.stops.TermStop.{TermStop}
 use Rattle.vg_term.proofs.Made.{same_widths, listed_held}
 use Rattle.vg_term.proofs.Values.{bits_stay, widths_bits}
 use Rattle.vg_term.proofs.Ranges.{IsRange, term_range, answer_range}
-use Rattle.vg_term.proofs.Meanings.{folds_to_itself, folds_to_word}
 use Rattle.vg_term.proofs.Wires.{assigns_later, wire_value_later}
 
 -- ---- what stood is taken back

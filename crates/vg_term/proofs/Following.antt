@@ -1,5 +1,5 @@
 -- Where the bits of what an operation answers come from.
-use Rattle.std.proofs.Common.{◌≡◌, ℕ, suc, zero, ◌+◌, ◌-◌, ◌*◌, ◌/◌, ◌%◌, ◌^◌, ◌<◌, ◌≤◌, min, max, Bool, true, false, List, [], ◌∷◌, map, length, slice_get, Option, Some, None, All, refl, sym, ap, subst, ◌∙◌, inl, inr, arith}
+use Rattle.std.proofs.Common.{◌≡◌, ℕ, suc, ◌+◌, ◌-◌, ◌*◌, ◌/◌, ◌%◌, ◌^◌, ◌<◌, ◌≤◌, Bool, false, List, [], ◌∷◌, map, slice_get, Option, Some, None, All, refl, sym, ap, subst, ◌∙◌, inl, inr, arith}
 use Rattle.std.specs.Prelude.{IfSome, nat_eq}
 use Rattle.std.specs.Int.{bit_at}
 use Rattle.std.proofs.lemmas.Bool.Decides.{eqb_tells}
@@ -9,11 +9,11 @@ use Rattle.std.proofs.lemmas.Nat.Bits.{bit_at-zero, bit_at_and, bit_at_or, bit_a
 use Rattle.std.proofs.lemmas.Option.{slice_get_within}
 use Rattle.vg_bits.specs.Words as formulas
 use Rattle.vg_bits.specs.declared.word.Word.{Word}
-use Rattle.vg_term.specs.Operations.{Bits, bits_of, answer, width_of, Fits}
+use Rattle.vg_term.specs.Operations.{Bits, answer, width_of, Fits}
 use Rattle.vg_term.specs.Terms.{Term, AreTerms, Stands, width_at, width_in, listed}
-use Rattle.vg_term.specs.Value.{value_of, bits_at, entry_value, Assigns}
+use Rattle.vg_term.specs.Value.{value_of, bits_at, entry_value}
 use Rattle.vg_term.specs.Folding.{IsWord}
-use Rattle.vg_term.specs.Wiring.{wire_value, WireStands, IsWire, SameWire, Carries, IsCut, IsBitOp, IsBitwise, bit_op, wire_depth}
+use Rattle.vg_term.specs.Wiring.{wire_value, WireStands, SameWire, Carries, IsCut, IsBitOp, IsBitwise, bit_op, wire_depth}
 use Rattle.vg_term.specs.declared.wire.Wire.{Wire}
 use Rattle.vg_term.specs.declared.wire.Wire.TheVariants.{Fixed, Bit}
 use Rattle.vg_term.specs.declared.node.TermId.{TermId}

@@ -1,17 +1,17 @@
 -- Simple answers for terms.
-use Rattle.std.proofs.Common.{◌≡◌, ℕ, ◌+◌, ◌-◌, ◌^◌, ◌<◌, ◌≤◌, Bool, true, false, List, [], ◌∷◌, map, slice_get, Option, Some, All, refl, sym, ap, subst, ◌∙◌, arith, cond, inl, inr}
+use Rattle.std.proofs.Common.{◌≡◌, ℕ, ◌+◌, ◌^◌, ◌<◌, List, [], ◌∷◌, slice_get, Option, Some, All, refl, sym, ap, subst, ◌∙◌, arith, cond, inl, inr}
 use Rattle.std.specs.Prelude.{IfSome, nat_eq}
 use Rattle.std.proofs.lemmas.List.Elements.{All-head}
 use Rattle.std.proofs.lemmas.Bool.Decides.{eqb_tells}
 use Rattle.std.proofs.lemmas.Nat.{pow_pos}
 use Rattle.vg_bits.specs.Words as formulas
 use Rattle.vg_bits.specs.declared.word.Word.{Word}
-use Rattle.vg_term.specs.Operations.{Bits, bits_of, answer, width_of, Fits, FitsThree, width_two, value_two, value_three}
+use Rattle.vg_term.specs.Operations.{Bits, FitsThree, width_two}
 use Rattle.vg_term.specs.Terms.{Term, Stands, AreTerms, width_at, width_in, listed}
 use Rattle.vg_term.specs.Value.{value_of, bits_at, entry_value, Assigns}
 use Rattle.vg_term.specs.Rules as rules
 use Rattle.vg_term.specs.Rules.{simple_bits, simple_value, width_alike, Places, AreOpposite}
-use Rattle.vg_term.specs.Folding.{StandsFor, IsWord, IsAnswer, IsKnown}
+use Rattle.vg_term.specs.Folding.{StandsFor, IsWord, IsKnown}
 use Rattle.vg_term.specs.declared.rules.Simple.{Simple}
 use Rattle.vg_term.specs.declared.rules.Simple.TheVariants.{Part, Zero, One, Ones}
 use Rattle.vg_term.specs.declared.known.Known.{Known}

@@ -1,6 +1,6 @@
 -- Each term has a width from 1 to 64, and a value in the range of its width.
-use Rattle.std.proofs.Common.{◌≡◌, ℕ, suc, zero, ◌+◌, ◌-◌, ◌^◌, ◌<◌, ◌≤◌, Bool, true, false, List, [], ◌∷◌, map, length, get_or, slice_get, Some, All, refl, sym, ap, subst, ◌∙◌, arith}
-use Rattle.std.specs.Prelude.{bit_and, nat_eq, nat_lt, int_lt, if◌then◌else◌}
+use Rattle.std.proofs.Common.{◌≡◌, ℕ, suc, zero, ◌+◌, ◌^◌, ◌<◌, ◌≤◌, Bool, true, false, List, [], ◌∷◌, map, length, get_or, slice_get, Some, All, refl, sym, ap, subst, ◌∙◌, arith}
+use Rattle.std.specs.Prelude.{nat_eq, nat_lt, int_lt, if◌then◌else◌}
 use Rattle.std.proofs.lemmas.List.Elements.{All-head, All-tail, All-map, All-weaker}
 use Rattle.std.proofs.lemmas.Nat.{pow_pos, and_le_l, or_lt, xor_lt}
 use Rattle.std.proofs.lemmas.Option.{slice_get-get_or, slice_get_within}
@@ -14,7 +14,6 @@ use Rattle.vg_term.specs.Value.{value_of, bits_at, entry_value, assigned, Assign
 use Rattle.vg_term.specs.declared.node.TermId.{TermId}
 use Rattle.vg_term.specs.declared.node.Op.{Op}
 use Rattle.vg_term.specs.declared.node.Op.TheVariants.{Const, Not, Extract, Zext, Sext, Add, Sub, Mul, Udiv, Urem, And, Or, Xor, Shl, Lshr, Ashr, Eq, Ult, Slt, Concat, Ite}
-use Rattle.vg_term.specs.declared.node.Parts.{Parts}
 use Rattle.vg_term.specs.declared.node.Node.TheVariants as nodes
 use Rattle.vg_term.proofs.Made.{is_made, comes_next}
 use Rattle.vg_term.proofs.Values.{value_follows, widths_bits}

@@ -1,21 +1,19 @@
 -- The tables of rules are right: each simple answer has the width and the value of its operation.
-use Rattle.std.proofs.Common.{◌≡◌, ℕ, suc, zero, ◌+◌, ◌-◌, ◌*◌, ◌/◌, ◌%◌, ◌^◌, ◌<◌, ◌≤◌, Bool, true, false, cond, refl, sym, ap, subst, ◌∙◌, inl, inr, arith, lt-ltb, le-ltb, eq-eqb}
-use Rattle.std.specs.Prelude.{IfSome, Option, Some, None, ℤ, pos, negsuc, nat_eq, nat_lt, int_lt, bit_and, bit_or, bit_xor, if◌then◌else◌}
+use Rattle.std.proofs.Common.{◌≡◌, ℕ, suc, zero, ◌+◌, ◌-◌, ◌*◌, ◌%◌, ◌^◌, ◌<◌, cond, refl, sym, ap, subst, ◌∙◌, inl, inr, arith, le-ltb, eq-eqb}
+use Rattle.std.specs.Prelude.{IfSome, Option, ℤ, pos, negsuc, nat_lt, int_lt, bit_and, bit_or}
 use Rattle.std.specs.Int.{int_div_euclid}
 use Rattle.std.specs.Int.Bits.{and_self, or_self, xor_self, and_zero_l, and_zero_r, or_zero_l, or_zero_r, xor_zero_l, xor_zero_r, xor_disjoint}
 use Rattle.std.proofs.Math.Nat.{mod_self, mod-eq_of_lt, div-one, mod-one, zero-mod, zero-div}
-use Rattle.std.proofs.lemmas.Bool.{cases_lt, ne_eqb}
 use Rattle.std.proofs.lemmas.Bool.Decides.{eqb_tells}
 use Rattle.std.proofs.lemmas.Nat.{pow_pos, mod_low, and_comm, or_comm, or_lt, le_or_r, and_mask, or_disjoint, and-not}
 use Rattle.vg_bits.specs.Words as words
 use Rattle.vg_bits.proofs.Laws.{reduced-signed}
 use Rattle.vg_bits.proofs.Machine.{sub-is, signed_pos, halves}
-use Rattle.vg_bits.proofs.Masks.{one_below}
 use Rattle.vg_term.specs.Operations.{Bits, width_two, value_two}
 use Rattle.vg_term.specs.Rules.{simple_bits, on_equal, on_opposite, before_zero, before_one, before_ones, after_zero, after_one, after_ones}
 use Rattle.vg_term.specs.declared.rules.Simple.{Simple}
 use Rattle.vg_term.specs.declared.node.Op.{Op}
-use Rattle.vg_term.specs.declared.node.Op.TheVariants.{Const, Not, Extract, Zext, Sext, Add, Sub, Mul, Udiv, Urem, And, Or, Xor, Shl, Lshr, Ashr, Eq, Ult, Slt, Concat, Ite}
+use Rattle.vg_term.specs.declared.node.Op.TheVariants.{Add, Sub, Mul, Udiv, Urem, And, Or, Xor, Shl, Lshr, Ashr, Eq, Ult, Slt}
 use Rattle.vg_term.proofs.Ranges.{IsRange}
 
 -- a word of this width and value

@@ -1,5 +1,5 @@
 -- Wires: bits of cut and joined words, and what stays of them where terms are added.
-use Rattle.std.proofs.Common.{◌≡◌, ℕ, suc, zero, ◌+◌, ◌-◌, ◌*◌, ◌/◌, ◌%◌, ◌^◌, ◌<◌, ◌≤◌, Bool, true, false, List, [], ◌∷◌, ◌++◌, map, length, get_or, slice_get, Some, Result, Ok, Err, All, refl, sym, ap, subst, ◌∙◌, inl, inr, arith, append_assoc, length-append, append-nil}
+use Rattle.std.proofs.Common.{◌≡◌, ℕ, ◌+◌, ◌-◌, ◌*◌, ◌/◌, ◌%◌, ◌^◌, ◌<◌, ◌≤◌, Bool, true, false, List, [], ◌∷◌, ◌++◌, length, get_or, Result, Ok, Err, All, refl, sym, ap, subst, ◌∙◌, inl, inr, arith, append_assoc, length-append, append-nil}
 use Rattle.std.specs.Int.{bit_at}
 use Rattle.std.proofs.lemmas.Bool.{cases_lt}
 use Rattle.std.proofs.lemmas.List.{get_or_default}
@@ -8,9 +8,9 @@ use Rattle.std.proofs.lemmas.Nat.{shr_split, shr-shr}
 use Rattle.std.proofs.lemmas.Nat.Bits.{bit_at_cat_low, bit_at_cat_high}
 use Rattle.vg_bits.specs.Words as formulas
 use Rattle.vg_bits.specs.declared.word.Word.{Word}
-use Rattle.vg_term.specs.Operations.{Bits, bits_of, answer, Fits}
+use Rattle.vg_term.specs.Operations.{Bits}
 use Rattle.vg_term.specs.Terms.{Term, AreTerms, Stands, Needs, width_at, operation}
-use Rattle.vg_term.specs.Value.{value_of, bits_at, Assigns}
+use Rattle.vg_term.specs.Value.{value_of, Assigns}
 use Rattle.vg_term.specs.Folding.{Grows, StandsFor, Folds, IsWord}
 use Rattle.vg_term.specs.Wiring.{wire_value, WireStands, AllStand, Follows, IsRun, IsWired, Grown, BuildsWires}
 use Rattle.vg_term.specs.declared.wire.Wire.{Wire}

@@ -1,4 +1,4 @@
-use Rattle.std.proofs.Common.{◌≡◌, ◌+◌, ◌-◌, ◌<◌, ◌≤◌, length}
+use Rattle.std.proofs.Common.{◌-◌, ◌≤◌, length}
 use Rattle.vg_term.specs.Wiring.{IsRun}
 use Rattle.vg_term.proofs.wire.run_end.Given as goal
 

@@ -1,6 +1,4 @@
-use Rattle.std.proofs.Common.{◌≡◌, ◌<◌, ◌≤◌, sym, ◌∙◌, subst, arith}
-use Rattle.vg_term.specs.Terms.{width_at, listed}
-use Rattle.vg_term.specs.Operations.{Fits, width_of}
+use Rattle.std.proofs.Common.{arith}
 use Rattle.vg_term.proofs.Following.{cut_fits, cut_extract, cut_above, cut_low, cut_high}
 use Rattle.vg_term.proofs.terms.Terms.cut.Goals as goal
 

@@ -1,4 +1,4 @@
-use Rattle.std.proofs.Common.{[], Ok, subst, sym}
+use Rattle.std.proofs.Common.{[], subst}
 use Rattle.vg_bits.specs.declared.word.Word.{Word}
 use Rattle.vg_term.specs.Terms.{Needs, operation}
 use Rattle.vg_term.specs.Folding.{IsKnown}

@@ -1,4 +1,4 @@
-use Rattle.std.proofs.Common.{◌+◌, ◌≡◌, ◌≤◌, sym, ◌∙◌, subst, arith}
+use Rattle.std.proofs.Common.{◌+◌, arith}
 use Rattle.vg_term.proofs.Wires.{extended_joins, concat_joins}
 use Rattle.vg_term.proofs.terms.Terms.joined.Goals as goal
 

@@ -1,1 +1,0 @@
-use Rattle.vg_term.proofs.terms.Terms.known.Goals as goal

@@ -1,4 +1,4 @@
-use Rattle.std.proofs.Common.{◌∙◌, sym, refl}
+use Rattle.std.proofs.Common.{◌∙◌, sym}
 use Rattle.vg_term.specs.Rules.{after_zero, after_one}
 use Rattle.vg_term.proofs.RuleLaws.{after_zero_right, after_one_right}
 use Rattle.vg_term.proofs.KnownLaws.{known_after, known_after_ones}

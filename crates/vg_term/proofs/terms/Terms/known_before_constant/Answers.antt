@@ -1,4 +1,4 @@
-use Rattle.std.proofs.Common.{◌∙◌, sym, refl}
+use Rattle.std.proofs.Common.{◌∙◌, sym}
 use Rattle.vg_term.specs.Rules.{before_zero, before_one}
 use Rattle.vg_term.proofs.RuleLaws.{before_zero_right, before_one_right}
 use Rattle.vg_term.proofs.KnownLaws.{known_before, known_before_ones}

@@ -1,4 +1,4 @@
-use Rattle.std.proofs.Common.{◌∙◌, refl, sym}
+use Rattle.std.proofs.Common.{◌∙◌, sym}
 use Rattle.vg_term.proofs.KnownLaws.{known_equal}
 use Rattle.vg_term.proofs.terms.Terms.known_of_equal.Goals as goal
 

@@ -1,4 +1,4 @@
-use Rattle.std.proofs.Common.{◌≡◌, ◌+◌, ◌-◌, ◌<◌, ◌≤◌, length}
+use Rattle.std.proofs.Common.{◌-◌, ◌≤◌, length}
 use Rattle.vg_term.specs.Wiring.{Grown, AllStand, IsWired}
 use Rattle.vg_term.proofs.terms.Terms.rebuild.Given as goal
 

@@ -1,8 +1,4 @@
-use Rattle.std.proofs.Common.{ap, ◌∙◌, ◌+◌, arith, Some, sym, subst}
-use Rattle.std.proofs.lemmas.List.Elements.{All-head}
 use Rattle.vg_term.specs.Terms.{width_at}
-use Rattle.vg_term.specs.declared.node.Op.TheVariants as ops
-use Rattle.vg_term.specs.declared.node.Parts.TheVariants as parts
 use Rattle.vg_term.proofs.KnownLaws.{turned_of}
 use Rattle.vg_term.proofs.terms.Terms.turned.Goals as goal
 

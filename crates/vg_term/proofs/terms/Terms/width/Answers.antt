@@ -1,5 +1,5 @@
-use Rattle.std.proofs.Common.{sym, subst, ◌<◌, ◌≤◌, ap, ◌∙◌, ◌≡◌}
-use Rattle.vg_term.specs.Terms.{width_in, width_at}
+use Rattle.std.proofs.Common.{subst, ◌<◌, ◌≤◌, ap}
+use Rattle.vg_term.specs.Terms.{width_in}
 use Rattle.vg_term.proofs.Ranges.{width_some, width_most}
 use Rattle.vg_term.proofs.terms.Terms.width.Goals as goal
 

@@ -1,5 +1,4 @@
-use Rattle.std.proofs.Common.{◌≡◌, ◌<◌, ◌≤◌, ◌+◌, sym, refl, ◌∙◌, subst, arith, ◌∷◌, []}
-use Rattle.vg_term.specs.Terms.{width_at}
+use Rattle.std.proofs.Common.{refl, arith, ◌∷◌, []}
 use Rattle.vg_term.specs.Wiring.{Carries, IsBitwise}
 use Rattle.vg_term.specs.declared.wire.Wire.{Wire}
 use Rattle.vg_term.proofs.Following.{if_some, carries_bits, carries_left_none, carries_left, carries_right_none, carries_right}

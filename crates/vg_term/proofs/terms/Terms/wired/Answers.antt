@@ -1,4 +1,4 @@
-use Rattle.std.proofs.Common.{◌≡◌, ◌<◌, ◌≤◌, sym, subst, arith, length}
+use Rattle.std.proofs.Common.{◌<◌, ◌≤◌, sym, subst, arith}
 use Rattle.vg_term.specs.Terms.{listed}
 use Rattle.vg_term.proofs.Ranges.{op_width_range}
 use Rattle.vg_term.proofs.Building.{parts_stand, rebuilt, folds_builds}
