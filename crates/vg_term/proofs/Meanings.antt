@@ -45,7 +45,7 @@ stands_for old new op parts id made grows stand fits here =
       value = λ words _. value_follows made words id ∙ ap (entry_value words (bits_at new words)) here ∙ ap (λ ps. answer op (map (bits_at new words) ps)) list;
     }
 
-old_assigns : (old later : List Term) (words : List Word) → Assigns words (old ++ later) → Assigns words old
+pub old_assigns : (old later : List Term) (words : List Word) → Assigns words (old ++ later) → Assigns words old
 old_assigns old later words h at t e = h at t (stays old later at (slice_get_within old at t e) ∙ e)
 
 -- a constant for an operation that answers it
@@ -100,3 +100,6 @@ folds_to_itself old new op parts (Ok id) made stand fits needs =
     record { grows = grows; means = stands_for old new op parts id made grows stand fits needs.term; kept = tt }
 folds_to_itself old new op parts (Err stop) made stand fits needs =
     record { grows = needs_grows old new (operation old op parts) (Err stop) needs; means = tt; kept = needs.kept }
+
+pub folds_to_standing : (old : List Term) (op : Op) (parts : List TermId) (id : TermId) → StandsFor old id op parts → Folds old old op parts (Ok id)
+folds_to_standing old op parts id is = record { grows = ([], sym (append-nil old)); means = is; kept = tt }

@@ -1,11 +1,14 @@
 -- What the constructors that fold promise: another term may stand for the operation, and its value is the operation's under every assignment.
-use Rattle.std.specs.Prelude.{◌≡◌, List, ◌++◌, map, Result, IfOk, OnErr}
+use Rattle.std.specs.Prelude.{◌≡◌, List, ◌++◌, map, length, Result, IfOk, OnErr}
 use Rattle.vg_bits.specs.declared.word.Word.{Word}
 use Rattle.vg_term.specs.Operations.{answer, width_of, bits_of}
-use Rattle.vg_term.specs.Terms.{Term, Stands, width_at}
+use Rattle.vg_term.specs.Terms.{Term, AreTerms, Stands, width_at, variable_count}
 use Rattle.vg_term.specs.Value.{value_of, bits_at, Assigns}
+use Rattle.vg_term.specs.declared.known.Known.{Known}
+use Rattle.vg_term.specs.declared.known.Known.TheVariants.{Standing, Constant}
 use Rattle.vg_term.specs.declared.node.TermId.{TermId}
 use Rattle.vg_term.specs.declared.node.Op.{Op}
+use Rattle.vg_term.specs.declared.terms.Mark.{Mark}
 use Rattle.vg_term.specs.declared.stops.TermStop.{TermStop}
 
 -- the old terms stay, and others may come after them
@@ -32,3 +35,18 @@ IsWord terms id w = (words : List Word) → bits_at terms words id ≡ bits_of w
 pub record IsAnswer (terms : List Term) (op : Op) (parts : List TermId) (w : Word) : Type 0 where
   pub width : w.width ≡ width_of op (map (width_at terms) parts)
   pub value : (words : List Word) → Assigns words terms → w.value ≡ answer op (map (bits_at terms words) parts)
+
+-- a simpler form stands for the operation on these parts
+abbrev pub IsKnown : List Term → Op → List TermId → Known → Type 0
+IsKnown terms op parts (Standing id) = StandsFor terms id op parts
+IsKnown terms op parts (Constant w) = IsAnswer terms op parts w
+
+-- terms were added, and one that stands for the operation is answered
+pub record Builds (old new : List Term) (op : Op) (parts : List TermId) (result : Result TermId TermStop) : Type 0 where
+  pub made : AreTerms new
+  pub grows : Grows old new
+  pub means : IfOk result (λ id. StandsFor new id op parts)
+
+-- how many terms stand, and how many of them are variables
+abbrev pub IsMark : List Term → Mark → Type 0
+IsMark terms mark = (mark.terms ≡ length terms) × (mark.variables ≡ variable_count terms)

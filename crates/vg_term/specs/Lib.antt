@@ -1,4 +1,6 @@
 pub mod Operations
 pub mod Terms
 pub mod Value
+pub mod Rules
 pub mod Folding
+pub mod Wiring

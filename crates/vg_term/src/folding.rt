@@ -2,10 +2,11 @@
 
 ghost use Rattle.std.specs.Prelude.{map, All, IfSome};
 ghost use Rattle.vg_term.specs.Operations.{Fits};
-ghost use Rattle.vg_term.specs.Terms.{Stands, width_at};
-ghost use Rattle.vg_term.specs.Folding.{Folds, IsWord, IsAnswer};
+ghost use Rattle.vg_term.specs.Terms.{AreTerms, Stands, width_at};
+ghost use Rattle.vg_term.specs.Folding.{Builds, Folds, IsWord, IsAnswer, IsKnown};
 
 use crate::applying::apply;
+use crate::known::Known;
 use crate::node::{Node, Op, Parts, TermId};
 use crate::stops::TermStop;
 use crate::terms::Terms;
@@ -26,15 +27,66 @@ impl Terms {
         }
     }
 
-    /// A term for an operation on parts that fit it, folded where all of them are constants.
+    /// A term for an operation on parts that fit it, of the same value under every assignment. It is a simpler one where the parts are constants, equal, opposite, or neutral.
     pub fn build(&mut self, op: Op, parts: &[TermId]) -> Result<TermId, TermStop>
         requires parts_stand { All (Stands self.old) parts.now }
         requires fits { Fits op (map (width_at self.old) parts.now) }
         ensures { Folds self.old self.new op parts.now result }
     {
-        match self.answer_on_constants(op, parts) {
-            Some(word) => self.make(Op::Const(word), &[]),
+        let mark = self.mark();
+        match self.folded(op, parts) {
+            Ok(term) => Ok(term),
+            Err(stop) => {
+                self.forget(mark);
+                Err(stop)
+            }
+        }
+    }
+
+    // The same, but a refusal may leave terms that were needed on the way.
+    fn folded(&mut self, op: Op, parts: &[TermId]) -> Result<TermId, TermStop>
+        requires made { AreTerms self.old }
+        requires parts_stand { All (Stands self.old) parts.now }
+        requires fits { Fits op (map (width_at self.old) parts.now) }
+        ensures { Builds self.old self.new op parts.now result }
+    {
+        match self.known(op, parts) {
+            Some(Known::Standing(term)) => Ok(term),
+            Some(Known::Constant(word)) => self.make(Op::Const(word), &[]),
+            None => self.wired(op, parts),
+        }
+    }
+
+    // The operation rebuilt from its wires, where it is wiring, and else as it is.
+    fn wired(&mut self, op: Op, parts: &[TermId]) -> Result<TermId, TermStop>
+        requires made { AreTerms self.old }
+        requires parts_stand { All (Stands self.old) parts.now }
+        requires fits { Fits op (map (width_at self.old) parts.now) }
+        ensures { Builds self.old self.new op parts.now result }
+    {
+        let held = Parts::new(parts);
+        let same = self.without_carries(op, held);
+        let width = self.answer_width(same, held);
+        match self.wires(same, held, width) {
+            Some(wires) => self.rebuild(&wires, width),
             None => self.make(op, parts),
+        }
+    }
+
+    // The operation as a term that stands or a word, where a rule says so.
+    fn known(&self, op: Op, parts: &[TermId]) -> Option<Known>
+        requires parts_stand { All (Stands self.now) parts.now }
+        requires fits { Fits op (map (width_at self.now) parts.now) }
+        ensures { IfSome result (IsKnown self.now op parts.now) }
+    {
+        if let Some(word) = self.answer_on_constants(op, parts) {
+            return Some(Known::Constant(word));
+        }
+        match Parts::new(parts) {
+            Parts::Zero => None,
+            Parts::One(a) => self.known_of_one(op, a),
+            Parts::Two(a, b) => self.known_of_two(op, a, b),
+            Parts::Three(c, a, b) => self.known_of_three(op, c, a, b),
         }
     }
 

@@ -3,12 +3,16 @@
 
 mod applying;
 mod folding;
+mod known;
 mod node;
+mod rules;
 mod stops;
 mod terms;
 #[cfg(test)]
 mod tests;
 mod valuing;
+mod wire;
+mod wiring;
 
 pub use applying::apply;
 pub use node::{Node, Op, Parts, TermId};

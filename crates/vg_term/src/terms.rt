@@ -1,8 +1,9 @@
 //! The store of terms.
 
-ghost use Rattle.std.specs.Prelude.{◌≡◌, ◌<◌, ◌≤◌, [], ◌∷◌, map, length, All, IfOk, Some, slice_get};
+ghost use Rattle.std.specs.Prelude.{◌≡◌, ◌<◌, ◌≤◌, [], ◌∷◌, map, take, length, All, IfOk, Some, slice_get};
 ghost use Rattle.vg_term.specs.Operations.{Fits, FitsNone, FitsOne, FitsTwo, width_of, width_none, width_one, width_two};
 ghost use Rattle.vg_term.specs.Terms.{AreTerms, ComesNext, HasWidth, Stands, Needs, width_at, variable_count, held, listed, operation};
+ghost use Rattle.vg_term.specs.Folding.{IsMark};
 ghost use Rattle.vg_term.specs.declared.node.Node.TheVariants as nodes;
 
 use crate::node::{Node, Op, Parts, TermId};
@@ -13,6 +14,13 @@ use std::marker::Model;
 
 /// How many terms may stand.
 pub const MOST_TERMS: u32 = 4_194_304;
+
+/// How many terms and variables stood.
+#[derive(Clone, Copy, PartialEq, Eq, Debug)]
+pub(crate) struct Mark {
+    pub(crate) terms: u32,
+    pub(crate) variables: u32,
+}
 
 /// Terms, each numbered by its place. Equal operations on equal parts are one term. Contracts see the list of what they are made of, with their widths.
 #[derive(Drop)]
@@ -54,9 +62,13 @@ impl Terms {
     }
 
     /// The width of a term, in bits.
+    #[tactic(auto, using(crate::proofs::Ranges::width_some, crate::proofs::Ranges::width_most))]
     pub fn width(&self, term: TermId) -> u8
         requires { Stands self.now term }
-        ensures { result ≡ width_at self.now term }
+        ensures width { result ≡ width_at self.now term }
+        ensures some { 0 < result }
+        ensures most { result ≤ 64 }
+        ensures made { AreTerms self.now }
     {
         self.entry(term).1
     }
@@ -110,8 +122,29 @@ impl Terms {
         need(&mut self.nodes, Node::Op(op, held), width)
     }
 
+    /// How many terms and variables stand.
+    pub(crate) fn mark(&self) -> Mark
+        ensures mark { IsMark self.now result }
+        ensures made { AreTerms self.now }
+    {
+        Mark {
+            terms: self.nodes.len() as u32,
+            variables: self.variables,
+        }
+    }
+
+    /// Forgets the terms after those that stood at a mark.
+    pub(crate) fn forget(&mut self, mark: Mark)
+        requires stood { mark.terms ≤ length self.old }
+        requires variables { mark.variables ≡ variable_count (take mark.terms self.old) }
+        ensures { self.new ≡ take mark.terms self.old }
+    {
+        self.nodes.truncate(mark.terms as usize);
+        self.variables = mark.variables;
+    }
+
     // The width of an operation's answer.
-    fn answer_width(&self, op: Op, parts: Parts) -> u8
+    pub(crate) fn answer_width(&self, op: Op, parts: Parts) -> u8
         requires parts_stand { All (Stands self.now) (listed parts) }
         requires fits { Fits op (map (width_at self.now) (listed parts)) }
         ensures { result ≡ width_of op (map (width_at self.now) (listed parts)) }
