@@ -1,0 +1,13 @@
+pub mod DeclarationRules
+pub mod Demands
+pub mod ExpressionRules
+pub mod Faults
+pub mod Fields
+pub mod Names
+pub mod Notes
+pub mod Rules
+pub mod Scopes
+pub mod StatementRules
+pub mod Types
+pub mod Views
+pub mod WellTyped

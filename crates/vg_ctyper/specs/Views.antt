@@ -1,0 +1,11 @@
+-- What clauses see of what the code passes around.
+use Rattle.vg_ctyper.specs.Names.{Known}
+use Rattle.vg_ctyper.specs.declared.given.Given.{Given}
+use Rattle.vg_ctyper.specs.declared.typing.Progress.{Progress}
+use Rattle.vg_ctyper.specs.Notes as notes
+
+abbrev pub known : Given → Known
+known given = record { text = given.text.now; tree = given.tree.now; standings = given.standings.now; notes = given.notes.now }
+
+abbrev pub seen : Progress → notes.Progress
+seen p = record { notes = p.notes.items; locals = p.locals; first = p.first }

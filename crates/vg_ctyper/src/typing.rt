@@ -1,0 +1,179 @@
+//! Typing a whole text.
+ghost use Rattle.std.specs.Prelude.{◌≡◌, ◌⊎◌, ℕ, List, length, IfOk, IfErr, Ok, Err, OnOk};
+ghost use Rattle.vg_core.specs.Syntax.{Syntax};
+ghost use Rattle.vg_core.specs.Units.{Typed};
+ghost use Rattle.vg_ctyper.specs.Notes as notes;
+ghost use Rattle.vg_ctyper.specs.WellTyped.{IsWellTyped, IsFirstFault};
+ghost use Rattle.vg_ctyper.specs.declared.fault.TypeFault.{TypeFault};
+ghost use Rattle.vg_ctyper.specs.Views.{known, seen};
+ghost use Rattle.vg_ctyper.specs.declared.fault.TypeFault.TheVariants as type_faults;
+
+use crate::declaration_rules::last_of;
+use crate::fault::{TypeFault, sooner};
+use crate::given::Given;
+use crate::notes::BLANK;
+use crate::standing::{Standing, kind_at, standings_of};
+use std::alloc::{AllocError, Global};
+use vg_core::{Kind, Note, Tree, Unit};
+
+/// What is known behind some nodes: notes on them, the bytes of the variables that blocks declare, up to 65,537, and the first fault.
+#[derive(Drop)]
+struct Progress {
+    notes: Vec<Note>,
+    locals: u32,
+    first: Option<TypeFault>,
+}
+
+/// The typed text of a tree that the bytes' tokens spell.
+///
+/// `Typing` is answered where a typing rule of the profile is broken, `Padded` where a struct that isn't packed would get bytes between or behind its
+/// fields, `Recursive` where a function calls itself, and `Turns` where a loop has more than 4,096 turns, each the first by its place, at one place
+/// the lowest rule, and behind all rules the others in this order; `Turns` at the name of `nf_process` where it may take more than 1,000,000 steps and
+/// there is no other fault. `Memory` is answered where memory ran out.
+pub fn type_unit(alloc: Global, text: &[u8], tree: Tree) -> Result<Unit, TypeFault>
+    ensures typed { IfOk result (λ u. notes.typed text.now tree ≡ Ok u) }
+    ensures fault { IfErr result (λ e. (e ≡ type_faults.Memory) ⊎ (notes.typed text.now tree ≡ Err e)) }
+{
+    let standings = standings_of(alloc, &tree)?;
+    let progress = type_nodes(alloc, text, &tree, &standings)?;
+    match or_whole(&tree, &progress) {
+        Some(fault) => Err(fault),
+        None => {
+            let mut bytes = Vec::new(alloc);
+            bytes.extend_from_slice(text)?;
+            Ok(Unit::new(bytes, tree, progress.notes))
+        }
+    }
+}
+
+/// What `type_unit` answers is a typed text, and what it refuses a text for is its first fault: conditions on the notes as they stand in the end, node by
+/// node, which don't speak of the order of work.
+pub fn typed_texts()
+    ensures well_typed { (text : List ℕ) (tree : Syntax) (u : Typed) → notes.typed text tree ≡ Ok u → IsWellTyped u }
+    ensures first_fault { (text : List ℕ) (tree : Syntax) (e : TypeFault) → notes.typed text tree ≡ Err e → IsFirstFault text tree e }
+{}
+
+/// Notes on all nodes, and the first fault.
+fn type_nodes(
+    alloc: Global,
+    text: &[u8],
+    tree: &Tree,
+    standings: &[Standing],
+) -> Result<Progress, AllocError>
+    ensures { IfOk result (λ p. seen p ≡ notes.typed_below text.now tree.now standings.now (length tree.now.nodes)) }
+{
+    let mut progress = Progress {
+        notes: Vec::new(alloc),
+        locals: 0,
+        first: None,
+    };
+    for n in 0..tree.nodes().len() as u32 {
+        type_node(text, tree, standings, &mut progress, n)?;
+    }
+    Ok(progress)
+}
+
+/// One node further.
+fn type_node(
+    text: &[u8],
+    tree: &Tree,
+    standings: &[Standing],
+    progress: &mut Progress,
+    n: u32,
+) -> Result<(), AllocError>
+    ensures { OnOk result (seen progress.new ≡ notes.node_typed (notes.known_behind text.now tree.now standings.now progress.old.notes.items) n (seen progress.old)) }
+{
+    let given = Given {
+        text,
+        tree,
+        standings,
+        notes: &progress.notes,
+    };
+    let kind = given.kind(n);
+    let fault = given.broken(progress.locals, n);
+    let note = note_unless(fault, given.note_of(n, kind));
+    let locals = given.locals_behind(progress.locals, kind, note);
+    progress.notes.push(note)?;
+    progress.locals = locals;
+    progress.first = sooner(progress.first, fault);
+    Ok(())
+}
+
+/// Nothing is said of a node that breaks a rule.
+fn note_unless(fault: Option<TypeFault>, note: Note) -> Note
+    ensures { result ≡ notes.note_unless fault note }
+{
+    match fault {
+        Some(_) => BLANK,
+        None => note,
+    }
+}
+
+impl Given<'_> {
+    /// The bytes of the variables that blocks declare, up to and with a node.
+    fn locals_behind(&self, locals: u32, kind: Kind, note: Note) -> u32
+        ensures { result ≡ notes.locals_behind (known self.now) locals kind note }
+    {
+        match kind {
+            Kind::Declare { .. } => {
+                let size = match note.of {
+                    Some(of) => self.size_of(of),
+                    None => 0,
+                };
+                capped_bytes(u128::from(locals) + u128::from(size))
+            }
+            _ => locals,
+        }
+    }
+}
+
+fn capped_bytes(bytes: u128) -> u32
+    ensures { result ≡ notes.capped_bytes bytes }
+{
+    if bytes < 65537 { bytes as u32 } else { 65537 }
+}
+
+/// The first fault of all nodes, or where there is none, that of the whole.
+fn or_whole(tree: &Tree, progress: &Progress) -> Option<TypeFault>
+    ensures { result ≡ notes.or_whole tree.now (seen progress.now) }
+{
+    match progress.first {
+        Some(fault) => Some(fault),
+        None => whole_fault(tree, &progress.notes),
+    }
+}
+
+/// Whether `nf_process`, the last item, takes at most 1,000,000 steps.
+fn whole_fault(tree: &Tree, list: &[Note]) -> Option<TypeFault>
+    ensures { result ≡ notes.whole_fault tree.now list.now }
+{
+    let whole = tree.nodes().len().saturating_sub(1);
+    let Kind::Unit { items } = kind_at(tree, whole as u32) else {
+        return None;
+    };
+    let item = last_of(tree.listed(items))?;
+    let steps = match list.get(item as usize) {
+        Some(note) => note.steps,
+        None => 0,
+    };
+    process_fault(steps, kind_at(tree, item))
+}
+
+fn process_fault(steps: u32, kind: Kind) -> Option<TypeFault>
+    ensures { result ≡ notes.process_fault steps kind }
+{
+    match kind {
+        Kind::Function { name, .. } if steps > 1_000_000 => {
+            Some(TypeFault::Turns { at: name.from })
+        }
+        _ => None,
+    }
+}
+
+impl From<AllocError> for TypeFault {
+    ghost from_gives = { λ _ e. e ≡ type_faults.Memory };
+
+    fn from(_e: AllocError) -> TypeFault {
+        TypeFault::Memory
+    }
+}
