@@ -50,10 +50,23 @@ impl Terms {
         requires fits { Fits op (map (width_at self.old) parts.now) }
         ensures { Builds self.old self.new op parts.now result }
     {
+        match (op, parts) {
+            (Op::Eq, [a, b]) => self.equal(*a, *b),
+            _ => self.wired(op, parts),
+        }
+    }
+
+    /// The operation by the rules of one operation alone. A refusal may leave terms that were needed on the way.
+    pub(crate) fn simple(&mut self, op: Op, parts: &[TermId]) -> Result<TermId, TermStop>
+        requires made { AreTerms self.old }
+        requires parts_stand { All (Stands self.old) parts.now }
+        requires fits { Fits op (map (width_at self.old) parts.now) }
+        ensures { Builds self.old self.new op parts.now result }
+    {
         match self.known(op, parts) {
             Some(Known::Standing(term)) => Ok(term),
             Some(Known::Constant(word)) => self.make(Op::Const(word), &[]),
-            None => self.wired(op, parts),
+            None => self.make(op, parts),
         }
     }
 
@@ -69,7 +82,7 @@ impl Terms {
         let width = self.answer_width(same, held);
         match self.wires(same, held, width) {
             Some(wires) => self.rebuild(&wires, width),
-            None => self.make(op, parts),
+            None => self.simple(op, parts),
         }
     }
 
