@@ -95,8 +95,7 @@ low_more first mid one two new a b x y all id left right w at end made there_a t
     let from_mid = grown_on mid one new g1 from_one in
     let n = end - at in
     let whole : n + at ≡ end = omega (arith, le) in
-    let fits : at + n ≤ w = omega (arith, le, most) in
-    (
+    let fits : at + n ≤ w = omega (arith, le, most) in (
       g_new,
       record {
         stands = both.stands;
