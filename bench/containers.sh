@@ -3,28 +3,7 @@
 # standard library with its default hasher, where rustc is installed; and 1,000,000 packets of an address translator.
 # Each program runs seventy times with COUNT at 1,000,000 and at 0. The least user time of each counts, and their difference
 # is printed. The goal is a ratio below 3. The kit's command rt is needed where the program is missing or not current.
-top=$(CDPATH='' cd -- "$(dirname -- "$0")/.." && pwd) || exit 1
-crate=$top/crates/vg_bench
-program=$crate/out/vg_bench
-work=$(mktemp -d) || exit 1
-trap 'rm -rf "$work"' EXIT
-trap 'exit 1' HUP INT TERM
-
-is_current() {
-    [ -x "$program" ] || return 1
-    newer=$(find "$top/crates.txt" "$top"/crates/*/src "$top"/crates/*/specs -newer "$program" | head -n 1)
-    [ -z "$newer" ]
-}
-
-if ! is_current; then
-    echo "containers.sh: proving and building vg_bench first" >&2
-    rm -f "$program"
-    (cd "$crate" && rt run -- containers lookups 0) >/dev/null 2>&1
-    if ! [ -x "$program" ]; then
-        echo "containers.sh: vg_bench could not be built; 'rt run' in crates/vg_bench says why" >&2
-        exit 1
-    fi
-fi
+. "$(dirname -- "$0")/vg_bench.sh"
 
 # The least user time of a run of the command, in milliseconds, by seven measurements of ten runs each.
 least() {

@@ -3,28 +3,7 @@
 # structs and defined names. Each text is read five times, and the least user time counts, less that of a text of one line.
 # Printed are the size, the milliseconds and the microseconds for each KiB, which are to stay about the same as texts grow.
 # The kit's command rt is needed where the program is missing or not current.
-top=$(CDPATH='' cd -- "$(dirname -- "$0")/.." && pwd) || exit 1
-crate=$top/crates/vg_bench
-program=$crate/out/vg_bench
-work=$(mktemp -d) || exit 1
-trap 'rm -rf "$work"' EXIT
-trap 'exit 1' HUP INT TERM
-
-is_current() {
-    [ -x "$program" ] || return 1
-    newer=$(find "$top/crates.txt" "$top"/crates/*/src "$top"/crates/*/specs -newer "$program" | head -n 1)
-    [ -z "$newer" ]
-}
-
-if ! is_current; then
-    echo "read_c.sh: proving and building vg_bench first" >&2
-    rm -f "$program"
-    (cd "$crate" && rt run -- containers lookups 0) >/dev/null 2>&1
-    if ! [ -x "$program" ]; then
-        echo "read_c.sh: vg_bench could not be built; 'rt run' in crates/vg_bench says why" >&2
-        exit 1
-    fi
-fi
+. "$(dirname -- "$0")/vg_bench.sh"
 
 # A text of as many whole pieces as fit into so many bytes.
 text() {

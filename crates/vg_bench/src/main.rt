@@ -9,6 +9,8 @@ mod keys;
 mod read;
 mod solving;
 mod stop;
+#[cfg(test)]
+mod tests;
 
 use crate::stop::Stop;
 use std::env::Env;

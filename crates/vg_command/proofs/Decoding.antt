@@ -5,7 +5,7 @@ use Rattle.std.specs.Str.Parse.{digits_value}
 use Rattle.std.proofs.lemmas.Fmt.{decimal_is_IsNumeral}
 use Rattle.std.proofs.lemmas.List.{length-append}
 use Rattle.std.proofs.Math.Seq.{take-append_seam, drop-append_seam}
-use Rattle.vg_command.specs.Commands.{Files, file_words, Command, Run, Verify, Check, Replay, Try, Rerun, Show, Bench, words_of, IsAllowed, Spells, SpellsNone}
+use Rattle.vg_command.specs.Commands.{Files, words_after_texts, Command, Run, Verify, Check, Replay, Try, Rerun, Show, Bench, words_of, IsAllowed, Spells, SpellsNone}
 use Rattle.vg_command.specs.Reading.{Splits}
 
 -- files by their words, where those of captures that come in are one half of the rest
@@ -76,7 +76,7 @@ found (Bench name seed count) allowed =
 pub found-replay : (words : List (List ℕ)) (c spec certificate : List ℕ) (rest : List (List ℕ)) (n : Files) → words ≡ c ∷ spec ∷ certificate ∷ rest → Splits c spec rest n →
     decoded (codes "replay" ∷ words) ≡ Some (Replay certificate n)
 found-replay words c spec certificate rest n words_are splits =
-    let named : c ∷ spec ∷ certificate ∷ rest ≡ n.c ∷ n.spec ∷ certificate ∷ file_words n = (λ i. sym splits.c_is i ∷ sym splits.spec_is i ∷ certificate ∷ splits.words_are i) in
+    let named : c ∷ spec ∷ certificate ∷ rest ≡ n.c ∷ n.spec ∷ certificate ∷ words_after_texts n = (λ i. sym splits.c_is i ∷ sym splits.spec_is i ∷ certificate ∷ splits.words_are i) in
     ap (λ (l : List (List ℕ)). decoded (codes "replay" ∷ l)) (words_are ∙ named) ∙ ap (λ (m : Files). Some (Replay certificate m)) (files_found n splits.files.ports)
 
 some_is : {A : Type 0} {x y : A} → Some x ≡ Some y → x ≡ y

@@ -3,7 +3,7 @@ use Rattle.std.proofs.Common.{◌≡◌, ◌∙◌, ◌≤◌, ◌-◌, ℕ, Lis
 use Rattle.std.specs.Prelude.{String, string_bytes}
 use Rattle.std.specs.declared.alloc.Global.{Global}
 use Rattle.std.proofs.lemmas.List.{length-append, length-drop, take-append-drop, take_all, map-append}
-use Rattle.vg_command.specs.Commands.{words_in, Files, file_words, AreFiles}
+use Rattle.vg_command.specs.Commands.{words_in, Files, words_after_texts, AreFiles}
 
 -- two lists joined are parted at one place only
 pub parted : {A : Type 0} (xs ys xs' ys' : List A) → length xs ≡ length xs' → xs ++ ys ≡ xs' ++ ys' → (xs ≡ xs') × (ys ≡ ys')
@@ -27,7 +27,7 @@ same_allowed n m c spec conf log ins outs files =
     subst AreFiles same files
 
 -- what words split into
-pub split_once : (n m : Files) → length n.ins ≡ length n.outs → n.c ≡ m.c → n.spec ≡ m.spec → file_words n ≡ file_words m → AreFiles m → AreFiles n
+pub split_once : (n m : Files) → length n.ins ≡ length n.outs → n.c ≡ m.c → n.spec ≡ m.spec → words_after_texts n ≡ words_after_texts m → AreFiles m → AreFiles n
 split_once n m even c spec same files =
     let two = halves n.ins n.outs m.ins m.outs even files.ports (ap (drop 2) same) in
     let conf : n.conf ≡ m.conf = cc in

@@ -18,9 +18,9 @@ pub record Files : Type 0 where
   pub ins : List (List ℕ)
   pub outs : List (List ℕ)
 
--- the words that name them
-abbrev pub file_words : Files → List (List ℕ)
-file_words n = n.conf ∷ n.log ∷ n.ins ++ n.outs
+-- the words behind the texts and the certificate: the configuration, the log and the captures
+abbrev pub words_after_texts : Files → List (List ℕ)
+words_after_texts n = n.conf ∷ n.log ∷ n.ins ++ n.outs
 
 -- those that are read
 abbrev pub inputs : Files → List (List ℕ)
@@ -70,11 +70,11 @@ pub data Command : Type 0 where
 
 -- the words of a command; a number is decimal, without leading zeros
 abbrev pub words_of : Command → List (List ℕ)
-words_of (Run n) = codes "run" ∷ n.c ∷ n.spec ∷ file_words n
+words_of (Run n) = codes "run" ∷ n.c ∷ n.spec ∷ words_after_texts n
 words_of (Verify c spec certificate limit) = codes "verify" ∷ c ∷ spec ∷ certificate ∷ decimal limit ∷ []
 words_of (Check c spec certificate) = codes "check" ∷ c ∷ spec ∷ certificate ∷ []
-words_of (Replay certificate n) = codes "replay" ∷ n.c ∷ n.spec ∷ certificate ∷ file_words n
-words_of (Try n) = codes "try" ∷ n.c ∷ n.spec ∷ file_words n
+words_of (Replay certificate n) = codes "replay" ∷ n.c ∷ n.spec ∷ certificate ∷ words_after_texts n
+words_of (Try n) = codes "try" ∷ n.c ∷ n.spec ∷ words_after_texts n
 words_of (Rerun c spec file) = codes "rerun" ∷ c ∷ spec ∷ file ∷ []
 words_of (Show name part) = codes "show" ∷ name ∷ part ∷ []
 words_of (Bench name seed count) = codes "bench" ∷ name ∷ decimal seed ∷ decimal count ∷ []

@@ -1,6 +1,6 @@
 -- What the functions answer that read parts of a command's words. No public clause rests on this file.
 use Rattle.std.specs.Prelude.{ℕ, ◌≡◌, ◌<◌, ◌⊎◌, List, All, length, slice_index}
-use Rattle.vg_command.specs.Commands.{Files, file_words, inputs, IsName, IsNoneOf, AreFiles}
+use Rattle.vg_command.specs.Commands.{Files, words_after_texts, inputs, IsName, IsNoneOf, AreFiles}
 
 -- a word begins with a plus sign, or with a zero and goes on
 abbrev pub BeginsAmiss : List ℕ → Type 0
@@ -14,7 +14,7 @@ AreOutputs n = All IsName n.outs × All (IsNoneOf (inputs n)) n.outs
 pub record Splits (c spec : List ℕ) (words : List (List ℕ)) (n : Files) : Type 0 where
   pub c_is : n.c ≡ c
   pub spec_is : n.spec ≡ spec
-  pub words_are : words ≡ file_words n
+  pub words_are : words ≡ words_after_texts n
   pub files : AreFiles n
 
 -- the words name no files that a command may have

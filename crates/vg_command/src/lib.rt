@@ -8,6 +8,7 @@ mod numbers;
 mod shipped;
 
 pub use command::{Command, FileNames, command_in};
+pub use names::MOST_PORTS;
 
 #[cfg(test)]
 mod tests;

@@ -6,8 +6,8 @@ ghost use Rattle.vg_command.specs.Reading.{AreOutputs, Splits, SplitsNone};
 
 use crate::command::FileNames;
 
-// The most ports that there can be.
-const MOST_PORTS: usize = 16;
+/// The most ports that a command can name captures for.
+pub const MOST_PORTS: usize = 16;
 
 /// Whether a word names a file.
 pub fn is_name(word: &str) -> bool

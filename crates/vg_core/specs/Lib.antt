@@ -1,6 +1,9 @@
-pub mod Words
-pub mod Spelling
-pub mod Meaning
 pub mod Joining
+pub mod Layouts
+pub mod Library
+pub mod Meaning
 pub mod Reader
+pub mod Spelling
 pub mod Syntax
+pub mod Units
+pub mod Words

@@ -1,6 +1,7 @@
 -- What a small function does with a frame from a port (C11 6.8.4.1 for `if`, 6.8.6.4 for `return`), and what that costs:
 -- what counts as a step is this program's own rule.
-use Rattle.std.specs.Prelude.{ℕ, ◌+◌, List, [], ◌∷◌, ◌==◌, if◌then◌else◌, Bool, true, false}
+use Rattle.std.specs.Prelude.{ℕ, ◌+◌, ◌<◌, List, [], ◌∷◌, ◌==◌, if◌then◌else◌, Bool, true, false, All}
+use Rattle.vg_core.specs.declared.small.Small.{Small}
 use Rattle.vg_core.specs.declared.small.Test.{Test}
 use Rattle.vg_core.specs.declared.verdict.Verdict.{Verdict}
 use Rattle.vg_core.specs.declared.verdict.Verdict.TheVariants as verdicts
@@ -13,6 +14,11 @@ value_at (t ∷ ts) last port = if port == t.port then t.value else value_at ts 
 -- a small function sends each frame to the port that is its value
 abbrev pub verdict_at : List Test → ℕ → ℕ → Verdict
 verdict_at ts last port = verdicts.Send (value_at ts last port)
+
+-- each value is the number of one of so many ports
+pub record SendsBelow (ports : ℕ) (f : Small) : Type 0 where
+  pub tests : All (λ (t : Test). t.value < ports) f.tests
+  pub last : f.last < ports
 
 -- the steps of a run: an `if` executed and its condition tested for each test up to the one that holds, then the
 -- `return` executed

@@ -1,6 +1,7 @@
 //! Reading a small function from its words.
-ghost use Rattle.std.specs.Prelude.{◌≡◌, ◌<◌, ◌^◌, length, map, option_map, IfOk, IsErrOf};
-ghost use Rattle.vg_core.specs.Spelling.{Spells, SpellsNone, name_at};
+ghost use Rattle.std.specs.Prelude.{◌≡◌, ◌<◌, ◌≤◌, ◌^◌, ℕ, List, length, map, option_map, IfOk, IsErrOf};
+ghost use Rattle.vg_core.specs.Meaning.{value_at, steps_at};
+ghost use Rattle.vg_core.specs.Spelling.{Spells, SpellsNone, name_at, value_bound};
 ghost use Rattle.vg_core.specs.Reader.{after, number_after, ports_after, head_of, value_after, test_of, last_of, begins_if, body_of, small_of, texts, placed, Gives};
 ghost use Rattle.vg_core.specs.declared.small.SmallFault.TheVariants as faults;
 
@@ -21,6 +22,16 @@ pub fn read_small(alloc: Global, text: &[u8], lang: Lang) -> Result<Small, Small
     let words = cut(alloc, text)?;
     read(alloc, &words, lang)
 }
+
+/// The function that a text spells sends each frame to a port below the number that is declared, or below 16 in C.
+pub fn sends_to_ports()
+    ensures { (lang : Lang) (text : List ℕ) (f : Small) (port : ℕ) → Spells lang text f → value_at f.tests f.last port < value_bound lang f.ports }
+{}
+
+/// A run of the function that a text spells takes no more steps than the text has bytes.
+pub fn takes_few_steps()
+    ensures { (lang : Lang) (text : List ℕ) (f : Small) (port : ℕ) → Spells lang text f → steps_at f.tests port ≤ length text }
+{}
 
 // Reads a small function, word after word.
 #[tactic(auto, unfolding(crate::specs::Reader::small_of))]

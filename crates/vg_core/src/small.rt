@@ -1,7 +1,7 @@
 //! A small function, and why a text is none.
 ghost use Rattle.std.specs.Prelude.{◌≡◌, ◌↔◌, ◌==◌, ◌||◌, IsTrue};
 ghost use Rattle.std.specs.List.{list_any};
-ghost use Rattle.vg_core.specs.Meaning.{value_at, verdict_at, steps_at, sides_at};
+ghost use Rattle.vg_core.specs.Meaning.{value_at, verdict_at, steps_at, sides_at, SendsBelow};
 ghost use Rattle.vg_core.specs.declared.small.SmallFault.TheVariants.{Memory};
 
 use crate::verdict::Verdict;
@@ -137,6 +137,13 @@ impl Small {
         ensures { IsTrue result ↔ (sides_at self.now.tests p ≡ sides_at self.now.tests q) }
     {
         p == q || !self.names_either(p, q)
+    }
+
+    /// Whether each value is below `ports`, so that no frame is sent to another port.
+    pub fn sends_below(&self, ports: u16) -> bool
+        ensures { IsTrue result ↔ SendsBelow ports self.now }
+    {
+        self.last < ports && self.tests.as_slice().iter().all(|t| t.value < ports)
     }
 
     // Whether some test names one of two ports.

@@ -22,23 +22,26 @@ fn is_small(alloc: Global, text: &str, lang: Lang) -> Result<bool, SmallFault> {
 #[test]
 fn swaps_two_ports(rt: HostRuntime) -> Result<(), Fail> {
     for (text, lang, ports, at) in [(SWAP_C, Lang::C, 0, 4), (SWAP_SPEC, Lang::Spec, 2, 0)] {
-        if text.len() < 4096 {
-            let swap = read_small(rt.alloc(), text.as_bytes(), lang)?;
-            assert_eq!(rt; swap.ports, ports);
-            assert_eq!(rt; swap.at, at);
-            assert_eq!(rt;
-                swap.tests.as_slice(),
-                [Test { port: 0, value: 1 }].as_slice()
-            );
-            assert_eq!(rt; swap.last, 0);
-            assert_eq!(rt; swap.verdict(0), Verdict::Send(1));
-            assert_eq!(rt; swap.verdict(1), Verdict::Send(0));
-            // The `if`, its condition and a `return` either way.
-            assert_eq!(rt; swap.steps(0), 3);
-            assert_eq!(rt; swap.steps(1), 3);
-            assert!(rt; !swap.same_sides(0, 1));
-            assert!(rt; swap.same_sides(1, 2));
+        if text.len() >= 4096 {
+            return Err("a long text".into());
         }
+        let swap = read_small(rt.alloc(), text.as_bytes(), lang)?;
+        assert_eq!(rt; swap.ports, ports);
+        assert_eq!(rt; swap.at, at);
+        assert_eq!(rt;
+            swap.tests.as_slice(),
+            [Test { port: 0, value: 1 }].as_slice()
+        );
+        assert_eq!(rt; swap.last, 0);
+        assert_eq!(rt; swap.verdict(0), Verdict::Send(1));
+        assert_eq!(rt; swap.verdict(1), Verdict::Send(0));
+        // The `if`, its condition and a `return` either way.
+        assert_eq!(rt; swap.steps(0), 3);
+        assert_eq!(rt; swap.steps(1), 3);
+        assert!(rt; !swap.same_sides(0, 1));
+        assert!(rt; swap.same_sides(1, 2));
+        assert!(rt; swap.sends_below(2));
+        assert!(rt; !swap.sends_below(1));
     }
     Ok(())
 }

@@ -1,6 +1,6 @@
 //! The tree of a C text: its nodes in one list, each part before the node that it is a part of.
-ghost use Rattle.std.specs.Prelude.{◌≡◌, ◌+◌, ◌++◌, [], ◌∷◌, length, IfOk, OnOk, OnErr};
-ghost use Rattle.vg_core.specs.Syntax.{Syntax, with_node, with_parts};
+ghost use Rattle.std.specs.Prelude.{◌≡◌, ◌+◌, ◌<◌, ◌^◌, ◌++◌, [], ◌∷◌, length, IfOk, OnOk, OnErr};
+ghost use Rattle.vg_core.specs.Syntax.{Syntax, with_node, with_parts, listed};
 
 use std::alloc::{AllocError, AllocFailed, Global};
 use std::marker::Model;
@@ -282,6 +282,10 @@ impl Model for Tree {
     ghost Value = { Syntax };
 
     ghost view = { λ t. record { nodes = t.node_list.items; items = t.item_list.items } };
+
+    ghost use Rattle.std.specs.Prelude.{◌<◌, ◌^◌, length};
+
+    ghost invariant = { λ t. length t.node_list.items < 2 ^ 32 };
 }
 
 impl Tree {
@@ -297,7 +301,8 @@ impl Tree {
 
     /// The nodes, in the order of their numbers.
     pub fn nodes(&self) -> &[Node]
-        ensures { result.now ≡ self.now.nodes }
+        ensures nodes { result.now ≡ self.now.nodes }
+        ensures numbered { length self.now.nodes < 2 ^ 32 }
     {
         &self.node_list
     }
@@ -307,6 +312,17 @@ impl Tree {
         ensures { result.now ≡ self.now.items }
     {
         &self.item_list
+    }
+
+    /// The numbers of the parts in a list.
+    pub fn listed(&self, parts: Parts) -> &[u32]
+        ensures { result.now ≡ listed self.now.items parts }
+    {
+        let from = usize::min(parts.from as usize, self.item_list.len());
+        let (_, behind) = self.item_list.split_at(from);
+        let count = usize::min(parts.count as usize, behind.len());
+        let (list, _) = behind.split_at(count);
+        list
     }
 
     /// Adds a node, and answers its number.

@@ -7,8 +7,8 @@ use Rattle.vg_ctok.specs.declared.kinds.Token.{Token}
 use Rattle.vg_cread.specs.Grammar.{unit}
 use Rattle.vg_cread.specs.Places.{State, place_at}
 use Rattle.vg_cread.specs.Spelling.{start, Spells}
-use Rattle.vg_cread.specs.Refusals.{RulesOut, Refuses}
-use Rattle.vg_cread.specs.Reading.{Refusal, Wrong, Deep, read, Gives}
+use Rattle.vg_cread.specs.Refusals.{RulesOut, Begins, Refuses}
+use Rattle.vg_cread.specs.Reading.{Refusal, Wrong, Deep, read_inner, read, Gives}
 use Rattle.vg_cread.specs.declared.reader.Stop.{Stop}
 use Rattle.vg_cread.specs.declared.reader.Stop.TheVariants as stops
 use Rattle.vg_cread.specs.declared.reading.ReadFault.{ReadFault}
@@ -16,6 +16,8 @@ use Rattle.vg_cread.specs.declared.reading.ReadFault.TheVariants as faults
 use Rattle.vg_cread.proofs.Onward.{same_state}
 use Rattle.vg_cread.proofs.Units.{unit_read, unit_tidy, spells_roomier}
 use Rattle.vg_cread.proofs.Stopping.{unit_lacks, unit_opens, unit_lacked, unit_opened}
+use Rattle.vg_cread.proofs.Bounds.{Within, within, within_inner}
+use Rattle.vg_cread.proofs.Completing.{begins_tree}
 use Rattle.vg_cread.proofs.Roomier.{still_wrong}
 use Rattle.vg_cread.proofs.Prefixes.{all_cut, AtEnd, Past}
 
@@ -65,8 +67,15 @@ module _ (toks : List Token) where
   ruled_out room i (Some t) is e = λ left more tree spells. none_spelled (take (i + 1) toks ++ more) room left i tree (wrong_before room i more t is e) spells
 
   -- what the answers say
+  -- a reading of a whole text stops within it
+  stops_within : (r : Result (ℕ × State) Refusal) (i : ℕ) → Within toks 0 r → r ≡ Err (Wrong i) → i ≤ length toks
+  stops_within r i h e = (subst (λ r. Within toks 0 r) e h).1
+
+  wrong_begins : (i : ℕ) → read toks 64 unit start ≡ Err (Wrong i) → Begins (take i toks)
+  wrong_begins i e = begins_tree toks 64 i (stops_within (read toks 64 unit start) i (within toks (read_inner toks 64) (within_inner toks 64) unit start (omega arith)) e) (unit_lacks toks 64 i e)
+
   pub wrong_fault : (i : ℕ) → read toks 64 unit start ≡ Err (Wrong i) → Refuses toks (faults.Syntax (place_at toks i))
-  wrong_fault i e = (i, refl, unit_lacks toks 64 i e, ruled_out 64 i (slice_get toks i) refl e)
+  wrong_fault i e = (i, refl, unit_lacks toks 64 i e, wrong_begins i e, ruled_out 64 i (slice_get toks i) refl e)
 
   pub deep_fault : (i : ℕ) → read toks 64 unit start ≡ Err (Deep i) → Refuses toks (faults.Deep (place_at toks i))
   deep_fault i e = (i, refl, unit_opens toks 64 i e)
@@ -81,21 +90,21 @@ module _ (toks : List Token) where
   not_both e = cc
 
   pub wrong_only : (i : ℕ) (f : ReadFault) → read toks 64 unit start ≡ Err (Wrong i) → Refuses toks f → faults.Syntax (place_at toks i) ≡ f
-  wrong_only i (faults.Syntax at) e (j, place, lacks, out) =
+  wrong_only i (faults.Syntax at) e (j, place, lacks, begun, out) =
       let same : i ≡ j = wrong_is (same_err (read toks 64 unit start) (Wrong i) (Wrong j) e (unit_lacked toks 64 j lacks)) in
       ap (λ (k : ℕ). faults.Syntax (place_at toks k)) same ∙ ap faults.Syntax (sym place)
   wrong_only i (faults.Deep at) e (j, place, opens) = absurd (not_both (same_err (read toks 64 unit start) (Wrong i) (Deep j) e (unit_opened toks 64 j opens)))
   wrong_only i faults.Memory e none = absurd none
 
   pub deep_only : (i : ℕ) (f : ReadFault) → read toks 64 unit start ≡ Err (Deep i) → Refuses toks f → faults.Deep (place_at toks i) ≡ f
-  deep_only i (faults.Syntax at) e (j, place, lacks, out) = absurd (not_both (same_err (read toks 64 unit start) (Wrong j) (Deep i) (unit_lacked toks 64 j lacks) e))
+  deep_only i (faults.Syntax at) e (j, place, lacks, begun, out) = absurd (not_both (same_err (read toks 64 unit start) (Wrong j) (Deep i) (unit_lacked toks 64 j lacks) e))
   deep_only i (faults.Deep at) e (j, place, opens) =
       let same : i ≡ j = deep_is (same_err (read toks 64 unit start) (Deep i) (Deep j) e (unit_opened toks 64 j opens)) in
       ap (λ (k : ℕ). faults.Deep (place_at toks k)) same ∙ ap faults.Deep (sym place)
   deep_only i faults.Memory e none = absurd none
 
   pub no_fault : (root : ℕ) (t : State) (f : ReadFault) → read toks 64 unit start ≡ Ok (root, t) → Refuses toks f → ⊥
-  no_fault root t (faults.Syntax at) e (j, place, lacks, out) = never_both (read toks 64 unit start) (root, t) (Wrong j) e (unit_lacked toks 64 j lacks)
+  no_fault root t (faults.Syntax at) e (j, place, lacks, begun, out) = never_both (read toks 64 unit start) (root, t) (Wrong j) e (unit_lacked toks 64 j lacks)
   no_fault root t (faults.Deep at) e (j, place, opens) = never_both (read toks 64 unit start) (root, t) (Deep j) e (unit_opened toks 64 j opens)
   no_fault root t faults.Memory e none = none
 

@@ -4,6 +4,12 @@ pub mod Rooms
 pub mod Loops
 pub mod Agreement
 pub mod Units
+pub mod Waiting
+pub mod Leaving
+pub mod Rules
+pub mod Shortest
+pub mod Going
+pub mod Completing
 pub mod Bounds
 pub mod Stopping
 pub mod Prefixes

@@ -49,27 +49,27 @@ abbrev pub further : Bool → ℕ → ℕ
 further true n = n + 1
 further false n = n
 
-further-both : (b c : Bool) (k m n : ℕ) → further b k ≤ m → further c m ≤ n → further (b || c) k ≤ n
+pub further-both : (b c : Bool) (k m n : ℕ) → further b k ≤ m → further c m ≤ n → further (b || c) k ≤ n
 further-both true true k m n h i = omega (arith, h, i)
 further-both true false k m n h i = omega (arith, h, i)
 further-both false true k m n h i = omega (arith, h, i)
 further-both false false k m n h i = omega (arith, h, i)
 
-further-first : (b c : Bool) (k n : ℕ) → further b k ≤ n → further (b && c) k ≤ n
+pub further-first : (b c : Bool) (k n : ℕ) → further b k ≤ n → further (b && c) k ≤ n
 further-first true true k n h = h
 further-first true false k n h = omega (arith, h)
 further-first false c k n h = h
 
-further-second : (b c : Bool) (k n : ℕ) → further c k ≤ n → further (b && c) k ≤ n
+pub further-second : (b c : Bool) (k n : ℕ) → further c k ≤ n → further (b && c) k ≤ n
 further-second true c k n h = h
 further-second false true k n h = omega (arith, h)
 further-second false false k n h = h
 
-further-more : (b : Bool) (k m n : ℕ) → further b k ≤ m → m ≤ n → further b k ≤ n
+pub further-more : (b : Bool) (k m n : ℕ) → further b k ≤ m → m ≤ n → further b k ≤ n
 further-more true k m n h i = omega (arith, h, i)
 further-more false k m n h i = omega (arith, h, i)
 
-further-least : (b : Bool) (k n : ℕ) → further b k ≤ n → k ≤ n
+pub further-least : (b : Bool) (k n : ℕ) → further b k ≤ n → k ≤ n
 further-least true k n h = omega (arith, h)
 further-least false k n h = h
 

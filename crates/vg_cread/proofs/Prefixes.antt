@@ -14,7 +14,7 @@ use Rattle.vg_cread.proofs.Agreement.{tidy}
 use Rattle.vg_cread.proofs.Bounds.{Within, within_bind, within_turns, within, within_inner}
 use Rattle.vg_cread.proofs.Units.{form_tidy}
 
-get_front : (xs ys : List Token) (i : ℕ) → i < length xs → slice_get (xs ++ ys) i ≡ slice_get xs i
+pub get_front : (xs ys : List Token) (i : ℕ) → i < length xs → slice_get (xs ++ ys) i ≡ slice_get xs i
 get_front [] ys i h = absurd (omega (arith, h))
 get_front (x ∷ xs) ys zero h = refl
 get_front (x ∷ xs) ys (suc i) h = get_front xs ys i (omega (arith, h))

@@ -20,12 +20,12 @@ module _ (toks : List Token) where
   inner_read zero left n s so one = absurd (omega (arith, one))
   inner_read (suc room) left n s so one = let same : left ≡ room = omega (arith, one) in rw (so, same) refl
 
-binary_eats : (rank : ℕ) → eats (binary rank) ≡ true
+pub binary_eats : (rank : ℕ) → eats (binary rank) ≡ true
 unfolding binary unary postfix primary opened sign word name
 binary_eats zero = refl
 binary_eats (suc rank) = binary_eats rank
 
-form_eats : (n : Nested) → eats (form n) ≡ true
+pub form_eats : (n : Nested) → eats (form n) ≡ true
 unfolding expression unary postfix primary opened statement block if_statement for_statement return_statement simple_statement sign word name
 form_eats Expression = rw (binary_eats 10) refl
 form_eats Operand = refl

@@ -60,9 +60,14 @@ abbrev pub RulesOut : List Token → ℕ → Option Token → Type 0
 RulesOut toks i (Some t) = (room : ℕ) (more : List Token) (tree : Syntax) → Spells room (take (i + 1) toks ++ more) tree → ⊥
 RulesOut toks i None = (room : ℕ) (tree : Syntax) → Spells room toks tree → ⊥
 
--- at a place stands a token where the grammar needs another, and no tree begins so; or there the last token ends, and one is needed
+-- these tokens begin a text that spells a tree, with room enough
+abbrev pub Begins : List Token → Type 0
+Begins front = (room : ℕ) × (more : List Token) × (tree : Syntax) × Spells room (front ++ more) tree
+
+-- at a place stands a token where the grammar needs another: those before it begin a tree, and with it none begins; or there the
+-- last token ends, and one more is needed
 abbrev pub IsSyntax : ℕ → List Token → ℕ → Type 0
-IsSyntax room toks at = (i : ℕ) × (at ≡ place_at toks i) × Lacks room toks i × RulesOut toks i (slice_get toks i)
+IsSyntax room toks at = (i : ℕ) × (at ≡ place_at toks i) × Lacks room toks i × Begins (take i toks) × RulesOut toks i (slice_get toks i)
 
 -- at a place stands a token that opens a construct for which there is no room
 abbrev pub IsDeep : ℕ → List Token → ℕ → Type 0

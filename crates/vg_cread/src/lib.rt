@@ -11,7 +11,7 @@ mod shown;
 mod statements;
 mod types;
 
-pub use reading::{MOST_NESTED, ReadFault, one_tree, read_unit};
+pub use reading::{MOST_NESTED, ReadFault, one_tree, read_unit, tree_in_order};
 
 #[cfg(test)]
 mod tests;

@@ -1,6 +1,6 @@
 //! Reading a whole text.
 ghost use Rattle.std.specs.Prelude.{◌≡◌, ◌⊎◌, ℕ, List, IfOk, IfErr, MatchResult};
-ghost use Rattle.vg_core.specs.Syntax.{Syntax};
+ghost use Rattle.vg_core.specs.Syntax.{Syntax, IsOrdered, IsUsedOnce};
 ghost use Rattle.vg_ctok.specs.declared.kinds.Token.{Token};
 ghost use Rattle.vg_cread.specs.Spelling.{Spells};
 ghost use Rattle.vg_cread.specs.Refusals.{Refuses};
@@ -32,11 +32,17 @@ pub enum ReadFault {
 
 /// The tree that the tokens of a text spell, by the grammar of the C profile (C11 6.5, 6.7, 6.8 and 6.9).
 ///
-/// `Syntax` is answered exactly where no tree is spelled: at the first token that the grammar can't go on with, or at the
-/// end of the last token where it needs another. `Deep` is answered exactly where a token opens a statement, block or
-/// expression that stands in 64 others, before any such token. `Memory` is answered where memory ran out.
+/// Each node stands behind its parts, and they in the order of the text; the root is the last, and each other node is a part
+/// of just one.
+///
+/// `Syntax` is answered exactly where no tree is spelled: at the first token that the grammar can't go on with, while those
+/// before it begin some text that spells a tree; or at the end of the last token where it needs another. `Deep` is answered
+/// exactly where a token opens a statement, block or expression that stands in 64 others, before any such token. `Memory` is
+/// answered where memory ran out.
 pub fn read_unit(alloc: Global, toks: &[Token]) -> Result<Tree, ReadFault>
     ensures tree { IfOk result (λ t. Spells MOST_NESTED toks.now t) }
+    ensures ordered { IfOk result (λ t. IsOrdered t) }
+    ensures used_once { IfOk result (λ t. IsUsedOnce t) }
     ensures fault { IfErr result (λ e. (e ≡ faults.Memory) ⊎ Refuses toks.now e) }
     ensures only_tree { (tree : Syntax) → Spells MOST_NESTED toks.now tree → MatchResult result (λ t. t ≡ tree) (λ e. e ≡ faults.Memory) }
     ensures only_fault { (e : ReadFault) → Refuses toks.now e → MatchResult result (λ _. ⊥) (λ f. (f ≡ faults.Memory) ⊎ (f ≡ e)) }
@@ -59,4 +65,11 @@ pub fn read_unit(alloc: Global, toks: &[Token]) -> Result<Tree, ReadFault>
 #[tactic(auto, using(crate::proofs::Units::one_tree))]
 pub fn one_tree()
     ensures { (toks : List Token) (room left : ℕ) (a b : Syntax) → Spells room toks a → Spells left toks b → a ≡ b }
+{}
+
+/// In a tree that tokens spell each node stands behind its parts, and they in the order of the text; the root is the last
+/// node, and each other is a part of just one.
+pub fn tree_in_order()
+    ensures ordered { (toks : List Token) (room : ℕ) (tree : Syntax) → Spells room toks tree → IsOrdered tree }
+    ensures used_once { (toks : List Token) (room : ℕ) (tree : Syntax) → Spells room toks tree → IsUsedOnce tree }
 {}

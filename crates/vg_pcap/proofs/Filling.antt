@@ -10,7 +10,8 @@ use Rattle.vg_pcap.specs.declared.faults.CaptureFault.TheVariants as faults
 use Rattle.vg_pcap.specs.Captures.{Damage, Refused}
 use Rattle.vg_pcap.specs.Frames.{Stream}
 use Rattle.vg_pcap.specs.Arrivals.{stream_at, Precedes, ComeFirst, ComeUpTo}
-use Rattle.vg_pcap.specs.Reader.{StillComes, number_after, fault_of}
+use Rattle.vg_pcap.specs.Incoming.{fault_of}
+use Rattle.vg_pcap.specs.Reader.{StillComes, number_after}
 use Rattle.vg_pcap.specs.Merge.{Input, InputComes, AreToCome, AreReadable, ReadsInputs, Fills, waiting_count}
 use Rattle.vg_pcap.specs.Inputs.{RefillsAt}
 use Rattle.vg_pcap.proofs.Arriving.{All-at_place}
@@ -113,6 +114,7 @@ filling-all {s} {t} {old} {new} {port} all filling = record {
       };
   refused = λ streams come. tt;
   fault = tt;
+  port = tt;
 }
   where
     none_before : (n : ℕ) → n ≡ 0 + n
@@ -151,4 +153,5 @@ filling-refused {s} {t} {u} {old} {mid} {new} {port} {fault} before r = record {
       inr (refused.1, refused.3 ∙ ap (λ n. fault_of refused.1 (number_after n)) (fresh ∙ none), upto))
       (r.refills.refused (stream_at streams port) still);
   fault = ⊎_elim (λ read. inl read) (λ (d : (damage : Damage) × (fault ≡ fault_of damage (number_after r.was.reader.count))). inr (d.0, number_after r.was.reader.count, d.1)) r.refills.fault;
+  port = omega (arith, slice_get_within mid port r.was r.was_at, before.reads.ports);
 }

@@ -1,5 +1,5 @@
 -- What a reader of the definitions may rely on: any file has a bad header or is one stream, and what is written is read again as the same frames.
-use Rattle.std.proofs.Common.{◌≡◌, ◌≢◌, ◌≤◌, ◌<◌, ◌*◌, ◌^◌, ◌⊎◌, inl, inr, max, ℕ, zero, suc, List, [], ◌∷◌, ◌++◌, length, take, drop, get_or, slice_index, append-nil, refl, sym, ap, ◌∙◌, All, arith}
+use Rattle.std.proofs.Common.{◌≡◌, ◌≢◌, ◌≤◌, ◌⊎◌, inl, inr, max, ℕ, suc, List, [], ◌∷◌, ◌++◌, length, take, drop, slice_index, append-nil, refl, sym, ap, ◌∙◌, All, arith}
 use Rattle.std.specs.List.{flat_map}
 use Rattle.std.specs.List.Sorted.{IsNonDecreasingBy}
 use Rattle.std.specs.Prelude.{map}
@@ -12,12 +12,11 @@ use Rattle.std.proofs.Math.Nat.{max-eq_right}
 use Rattle.vg_base.specs.Files.{AreBytes}
 use Rattle.vg_pcap.specs.declared.faults.HeaderField.{HeaderField}
 use Rattle.vg_pcap.specs.declared.faults.HeaderField.TheVariants.{Length, Magic, Version, Link}
-use Rattle.vg_pcap.specs.Captures.{Encoding, Order, Little, Big, Resolution, Microseconds, Nanoseconds, magic_bytes, version_bytes, link_bytes, number_bytes, longest, HasHeader, IsBadHeader, header_bytes, Record, IsGood, record_bytes, CaptureEnd, Whole, AreRecords}
-use Rattle.vg_pcap.specs.Frames.{Framed, Stream, Fits, frame_of, frames_after, time_of, HoldsStream, written_encoding, written_record, record_of, capture_of}
+use Rattle.vg_pcap.specs.Captures.{Encoding, Order, Little, Big, Resolution, Microseconds, Nanoseconds, magic_bytes, version_bytes, link_bytes, number_bytes, longest, HasHeader, IsBadHeader, header_bytes, IsGood, record_bytes, CaptureEnd, Whole, AreRecords}
+use Rattle.vg_pcap.specs.Frames.{Framed, Stream, Fits, frames_after, time_of, HoldsStream, written_encoding, written_record, record_of, capture_of}
 use Rattle.vg_pcap.proofs.FileHeaders.{HasParts, HasHeader-of_parts, HasHeader-parts, length-header_bytes}
 use Rattle.vg_pcap.proofs.RecordLists.{AreRecords-same}
 use Rattle.vg_pcap.proofs.Starting.{stream_behind}
-use Rattle.vg_pcap.proofs.Streams.{time_early}
 
 -- ---- headers
 
@@ -161,47 +160,6 @@ header_or_bad file = elim (cases_lt (length file) 24) [
 pub stream_or_bad : (file : List ℕ) → AreBytes file → ((field : HeaderField) × IsBadHeader file field) ⊎ ((stream : Stream) × HoldsStream file stream)
 stream_or_bad file small = elim (header_or_bad file) [ inl bad ↦ inl bad | inr has ↦ inr (stream_behind has.0 (drop 24 file) has.1 small) ]
 
--- ---- the frames of a stream
-
--- the frames of good records fit
-frames_after-fit : (encoding : Encoding) (latest : ℕ) (rs : List Record) → All (IsGood encoding) rs → latest < 2 ^ 32 * 1000000000 → All Fits (frames_after encoding latest rs)
-frames_after-fit encoding latest [] good early = All-nil Fits
-frames_after-fit encoding latest (r ∷ rs) good early =
-    let first : IsGood encoding r = good 0 r (omega arith) in
-    let time : max latest (time_of encoding r) < 2 ^ 32 * 1000000000 = omega (arith, time_early encoding r.seconds r.fraction first.seconds first.fraction) in
-    All-cons Fits (frame_of encoding latest r) (frames_after encoding (max latest (time_of encoding r)) rs)
-    (record { early = time; original = first.original; short = first.captured }) (frames_after-fit encoding (max latest (time_of encoding r)) rs (λ k d h. good (suc k) d (omega arith)) time)
-
--- no frame comes before the latest time
-frames_after-later : (encoding : Encoding) (latest : ℕ) (rs : List Record) → All (λ f. latest ≤ f.time) (frames_after encoding latest rs)
-frames_after-later encoding latest [] = All-nil (λ (f : Framed). latest ≤ f.time)
-frames_after-later encoding latest (r ∷ rs) =
-    let others = frames_after-later encoding (max latest (time_of encoding r)) rs in
-    All-cons (λ (f : Framed). latest ≤ f.time) (frame_of encoding latest r) (frames_after encoding (max latest (time_of encoding r)) rs) (omega arith)
-    (λ k d h. omega (arith, others k d h))
-
--- a frame before frames that don't come before it
-rises-more : (f : Framed) (fs : List Framed) → All (λ g. f.time ≤ g.time) fs → IsNonDecreasingBy (λ g. g.time) fs →
-    (i j : ℕ) (d : Framed) → i ≤ j → j < length (f ∷ fs) → (get_or (f ∷ fs) i d).time ≤ (get_or (f ∷ fs) j d).time
-rises-more f fs later rising zero zero d le h = omega arith
-rises-more f fs later rising zero (suc j) d le h = later j d (omega arith)
-rises-more f fs later rising (suc i) zero d le h = absurd (omega arith)
-rises-more f fs later rising (suc i) (suc j) d le h = rising i j d (omega arith) (omega arith)
-
--- times don't fall
-frames_after-rise : (encoding : Encoding) (latest : ℕ) (rs : List Record) → IsNonDecreasingBy (λ f. f.time) (frames_after encoding latest rs)
-frames_after-rise encoding latest [] = λ i j d le h. absurd (omega arith)
-frames_after-rise encoding latest (r ∷ rs) =
-    rises-more (frame_of encoding latest r) (frames_after encoding (max latest (time_of encoding r)) rs) (frames_after-later encoding (max latest (time_of encoding r)) rs)
-    (frames_after-rise encoding (max latest (time_of encoding r)) rs)
-
--- the frames of a stream can be written, and their times don't fall
-pub HoldsStream-fit : (file : List ℕ) (stream : Stream) → HoldsStream file stream → All Fits stream.frames
-HoldsStream-fit file stream (e, is) = rw is.are (frames_after-fit e 0 is.records is.held.records_are.good (omega arith))
-
-pub HoldsStream-rise : (file : List ℕ) (stream : Stream) → HoldsStream file stream → IsNonDecreasingBy (λ f. f.time) stream.frames
-HoldsStream-rise file stream (e, is) = rw is.are (frames_after-rise e 0 is.records)
-
 -- ---- what is written
 
 flat_map-written : (frames : List Framed) → flat_map record_of frames ≡ flat_map (record_bytes written_encoding) (map written_record frames)
@@ -257,7 +215,3 @@ HoldsStream-written frames fits rising = (
     are = sym (frames_after-written 0 frames (λ k d h. omega arith) rising);
   },
 )
-
--- what is written for the frames of a stream is a whole capture of the same frames
-pub HoldsStream-copied : (file : List ℕ) (stream : Stream) → HoldsStream file stream → HoldsStream (capture_of stream.frames) (record { frames = stream.frames; end = Whole })
-HoldsStream-copied file stream holds = HoldsStream-written stream.frames (HoldsStream-fit file stream holds) (HoldsStream-rise file stream holds)

@@ -11,7 +11,8 @@ use Rattle.vg_pcap.specs.declared.faults.CaptureFault.TheVariants as faults
 use Rattle.vg_pcap.specs.Captures.{Damage, Whole, Refused}
 use Rattle.vg_pcap.specs.Frames.{Framed, Stream, Fits}
 use Rattle.vg_pcap.specs.Arrivals.{Arrival, no_frames, stream_at, frames_from, Precedes, ComeFirst, AllCome, ComeUpTo}
-use Rattle.vg_pcap.specs.Reader.{StillComes, number_after, fault_of}
+use Rattle.vg_pcap.specs.Incoming.{fault_of}
+use Rattle.vg_pcap.specs.Reader.{StillComes, number_after}
 use Rattle.vg_pcap.specs.Merge.{Input, InputComes, IsNext, IsChanged, Comes, RefusesRecord, Advances, waiting_at, waiting_count}
 use Rattle.vg_pcap.specs.Inputs.{IsSound, IsLastFrame, RefillsAt, IsLeastBelow}
 use Rattle.vg_pcap.proofs.Arriving.{frames_from-push_same, frames_from-push_other, EndsAt-push, no_later, All-at_place, All-from_places}
@@ -342,6 +343,7 @@ advanced {s} {t} {old} {new} {b} next r = record {
   comes = λ came streams past a changed comes. Comes-more changed r.inputs.sound comes (subst (λ (k : ℕ). RefillsAt s t old new k (Ok tt)) (sym (same_next changed next)) r);
   refused = λ came streams past a changed comes. tt;
   fault = tt;
+  port = λ a is. tt;
 }
 
 -- it is refused
@@ -354,6 +356,7 @@ advance_refused {s} {t} {old} {new} {b} {fault} next r = record {
       subst (λ (k : ℕ). RefusesRecord streams (past ++ a ∷ []) (record { port = k; fault = fault })) same
       (refuses_more changed r.inputs.sound comes (subst (λ (k : ℕ). RefillsAt s t old new k (Err fault)) (sym same) r));
   fault = ⊎_elim (λ read. inl read) (λ (d : (damage : Damage) × (fault ≡ fault_of damage (number_after r.was.reader.count))). inr (d.0, number_after r.was.reader.count, d.1)) r.refills.fault;
+  port = λ a is. one_next next is;
 }
 
 -- no frame waits, and so all have come

@@ -1,5 +1,5 @@
 -- The capture of one port is opened after that of another.
-use Rattle.std.proofs.Common.{◌≡◌, ◌≢◌, ℕ, zero, suc, ◌+◌, ◌<◌, ◌≤◌, ◌⊎◌, inl, inr, ⊎_elim, refl, ◌∙◌, sym, ap, subst, List, [], ◌∷◌, ◌++◌, length, All, Contains, get_or, slice_get, codes, bytes_eq, Bool, true, false, IsTrue, Ok, Err, Some, None, Option, Result, arith, append-nil, take, drop, take_all, length-take-le, take-append-drop}
+use Rattle.std.proofs.Common.{◌≡◌, ◌≢◌, ℕ, zero, suc, ◌+◌, ◌<◌, ◌≤◌, ◌⊎◌, inl, inr, ⊎_elim, refl, ◌∙◌, sym, ap, subst, List, [], ◌∷◌, ◌++◌, length, All, Contains, get_or, slice_get, codes, bytes_eq, Bool, true, false, IsTrue, Ok, Err, Some, None, Option, Result, arith, append-nil, take, drop, take_all, length-append, length-take-le, take-append-drop}
 use Rattle.std.specs.List.{cons_option}
 use Rattle.std.proofs.Math.Path.{fun_ext}
 use Rattle.std.proofs.lemmas.Bool.{cases_eq}
@@ -16,8 +16,9 @@ use Rattle.vg_pcap.specs.declared.faults.CaptureFault.TheVariants as faults
 use Rattle.vg_pcap.specs.declared.faults.HeaderField.{HeaderField}
 use Rattle.vg_pcap.specs.Frames.{Stream, HoldsStream}
 use Rattle.vg_pcap.specs.Arrivals.{no_frames, stream_at}
-use Rattle.vg_pcap.specs.Reader.{Reader, ComesIn, HasBadHeader, StillComes, IsReadable, Starts}
-use Rattle.vg_pcap.specs.Merge.{Input, AreReadable, ids_of, AreToCome, AllComeIn, StartsMerge, ClosesInputs}
+use Rattle.vg_pcap.specs.Incoming.{ComesIn, HasBadHeader, AllComeIn}
+use Rattle.vg_pcap.specs.Reader.{Reader, StillComes, IsReadable, Starts}
+use Rattle.vg_pcap.specs.Merge.{Input, AreReadable, ids_of, AreToCome, StartsMerge, ClosesInputs}
 use Rattle.vg_pcap.specs.Inputs.{AreApart, AreInputs, IsSound, OpensPort}
 use Rattle.vg_pcap.proofs.Arriving.{All-at_place}
 use Rattle.vg_pcap.proofs.Staying.{SameId, IsReadable-stays, StillComes-stays}
@@ -159,6 +160,7 @@ opening-none s = record {
     );
     closed = tt;
     refused = tt;
+    port = tt;
   };
   apart = record { places = λ p q a b id at-a at-b is-a is-b. absurd cc };
   idle = All-nil (λ i. i.waits ≡ false);
@@ -245,6 +247,7 @@ opening-more {s} {t} {u} {names} {inputs} {reader} name opening one =
             );
         closed = tt;
         refused = tt;
+        port = tt;
       };
       apart = apart-more reader opening.apart before.readable opens;
       idle = All-push (λ i. i.waits ≡ false) inputs (opened_input reader) opening.idle refl;
@@ -304,6 +307,7 @@ opening-refused {s} {t} {u} {v} {names} {inputs} {fault} {result} name more port
           )))
           other)
           one.refused;
+      port = omega (arith, is, length-append names (name ∷ more));
     }
 
 -- what a merge keeps true

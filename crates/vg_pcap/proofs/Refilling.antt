@@ -2,7 +2,7 @@
 use Rattle.std.proofs.Common.{◌≡◌, ℕ, ◌+◌, refl, sym, ap, Bool, true, false, Ok, Err, arith, true≢false}
 use Rattle.vg_base.specs.Files.{Disk}
 use Rattle.vg_pcap.specs.declared.faults.CaptureFault.{CaptureFault}
-use Rattle.vg_pcap.specs.Reader.{Reader, HasReadCause, ReadsNext, number_after}
+use Rattle.vg_pcap.specs.Reader.{Reader, HasReadCause, ReadsRecord, number_after}
 use Rattle.vg_pcap.specs.Merge.{HasMergeCause}
 use Rattle.vg_pcap.specs.Inputs.{Refills}
 
@@ -11,7 +11,7 @@ pub number_after-next : (count next : ℕ) → next ≡ number_after count → n
 number_after-next count next is = omega arith
 
 -- a record was read, or there is none
-pub refilled : {s t : Disk} {old now : Reader} (was waits : Bool) → ReadsNext s t old now (Ok waits) →
+pub refilled : {s t : Disk} {old now : Reader} (was waits : Bool) → ReadsRecord s t old now (Ok waits) →
     Refills s t (record { reader = old; waits = was }) (record { reader = now; waits = waits }) (Ok tt)
 refilled {s} {t} {old} {now} was true r = record {
   cause = record { fault = λ h. absurd cc; same = r.cause.same; same_else = tt; rises = r.cause.rises };
@@ -43,7 +43,7 @@ refilled {s} {t} {old} {now} was false r = record {
 }
 
 -- the record is refused
-pub refill_refused : {s t : Disk} {old now : Reader} {fault : CaptureFault} (was : Bool) → ReadsNext s t old now (Err fault) →
+pub refill_refused : {s t : Disk} {old now : Reader} {fault : CaptureFault} (was : Bool) → ReadsRecord s t old now (Err fault) →
     Refills s t (record { reader = old; waits = was }) (record { reader = now; waits = false }) (Err fault)
 refill_refused {s} {t} {old} {now} {fault} was r = record {
   cause = record { fault = λ h. r.cause.fault (ap Err cc); same = tt; same_else = r.cause.same_else; rises = r.cause.rises };

@@ -7,7 +7,8 @@ use Rattle.vg_pcap.specs.declared.faults.CaptureFault.{CaptureFault}
 use Rattle.vg_pcap.specs.declared.records.RecordHead as coded_head
 use Rattle.vg_pcap.specs.Captures.{Encoding, Microseconds, Nanoseconds, units_per_second, nanoseconds_per_unit, longest, Record, Damage, IsDamaged}
 use Rattle.vg_pcap.specs.Frames.{Framed, Stream, frames_after, frame_of, time_of}
-use Rattle.vg_pcap.specs.Reader.{Reader, ReadsNext, IsBefore, StillComes, IsNextOf, fault_of, number_after}
+use Rattle.vg_pcap.specs.Incoming.{fault_of}
+use Rattle.vg_pcap.specs.Reader.{Reader, ReadsRecord, IsBefore, StillComes, IsNextOf, number_after}
 use Rattle.vg_pcap.specs.Buffered.{Source}
 use Rattle.vg_pcap.specs.Reading.{HasRecord, TakesRecord, head_view, nanoseconds_of}
 use Rattle.vg_pcap.proofs.Taken.{cause_ok, cause_same}
@@ -62,7 +63,7 @@ time_early encoding seconds fraction early less =
 pub reads_record : {s t : Disk} {a b : Source} {encoding : Encoding} {frame : List ℕ} (latest count number now : ℕ) (last : Framed) (items : List ℕ) (h : coded_head.RecordHead) →
     TakesRecord s t a b encoding frame number (Ok (Some h)) → number ≡ number_after count → now ≡ max latest (nanoseconds_of encoding (head_view h)) → items ≡ frame → latest < 2 ^ 32 * 1000000000 →
     length frame ≡ longest →
-    ReadsNext s t (over a encoding latest count last) (over b encoding now number (record { time = now; original = h.original; bytes = take h.size items })) (Ok true)
+    ReadsRecord s t (over a encoding latest count last) (over b encoding now number (record { time = now; original = h.original; bytes = take h.size items })) (Ok true)
 reads_record {s} {t} {a} {b} {encoding} {frame} latest count number now last items h takes counted time same early room =
     let good = takes.good in
     record {
@@ -91,7 +92,7 @@ reads_record {s} {t} {a} {b} {encoding} {frame} latest count number now last ite
 
 -- there was none
 pub reads_none : {s t : Disk} {a b : Source} {encoding : Encoding} {frame : List ℕ} (latest count number : ℕ) (last next : Framed) → TakesRecord s t a b encoding frame number (Ok None) →
-    ReadsNext s t (over a encoding latest count last) (over b encoding latest count next) (Ok false)
+    ReadsRecord s t (over a encoding latest count last) (over b encoding latest count next) (Ok false)
 reads_none latest count number last next takes = record {
   cause = cause_ok false takes.cause.same;
   keeps = takes.stays.keeps;
@@ -110,7 +111,7 @@ reads_none latest count number last next takes = record {
 
 -- it is refused, or there was a fault at reading
 pub reads_refused : {s t : Disk} {a b : Source} {encoding : Encoding} {frame : List ℕ} (latest count number : ℕ) (last next : Framed) (fault : CaptureFault) →
-    TakesRecord s t a b encoding frame number (Err fault) → number ≡ number_after count → ReadsNext s t (over a encoding latest count last) (over b encoding latest count next) (Err fault)
+    TakesRecord s t a b encoding frame number (Err fault) → number ≡ number_after count → ReadsRecord s t (over a encoding latest count last) (over b encoding latest count next) (Err fault)
 reads_refused {s} {t} {a} {b} {encoding} {frame} latest count number last next fault takes counted = record {
   cause = cause_same fault takes.cause;
   keeps = takes.stays.keeps;

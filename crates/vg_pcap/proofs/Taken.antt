@@ -5,7 +5,8 @@ use Rattle.vg_base.specs.Files.{Disk}
 use Rattle.vg_pcap.specs.Captures.{Encoding, RecordHead, HasHead, head_bytes, Damage, Cut, Long, Fraction, IsDamaged, units_per_second, longest}
 use Rattle.vg_pcap.specs.declared.faults.CaptureFault.{CaptureFault}
 use Rattle.vg_pcap.specs.declared.faults.CaptureFault.TheVariants as faults
-use Rattle.vg_pcap.specs.Reader.{HasReadCause, fault_of}
+use Rattle.vg_pcap.specs.Incoming.{fault_of}
+use Rattle.vg_pcap.specs.Reader.{HasReadCause}
 use Rattle.vg_pcap.specs.Buffered.{Source, Gives}
 use Rattle.vg_pcap.specs.Reading.{HasGoodHead, HasRecord, record_of_head}
 use Rattle.vg_pcap.proofs.RecordBytes.{HasHead-more}

@@ -6,7 +6,8 @@ use Rattle.vg_pcap.specs.declared.faults.CaptureFault.TheVariants as faults
 use Rattle.vg_pcap.specs.Captures.{Damage, Refused}
 use Rattle.vg_pcap.specs.Frames.{Stream, Fits}
 use Rattle.vg_pcap.specs.Arrivals.{Precedes}
-use Rattle.vg_pcap.specs.Reader.{Reader, StillComes, IsReadable, HasReadCause, Starts, fault_of, number_after, IsReadOrRecord}
+use Rattle.vg_pcap.specs.Incoming.{fault_of}
+use Rattle.vg_pcap.specs.Reader.{Reader, StillComes, IsReadable, HasReadCause, Starts, number_after, IsReadOrRecord}
 use Rattle.vg_pcap.specs.Merge.{Input, InputComes, waiting_at, waiting_count}
 
 -- ---- what stays true

@@ -1,4 +1,4 @@
--- What is left where the bytes of a frame are changed in place.
+-- What is left where the bytes of a frame are changed in place. The lending form needs a function; `IsWritten` says what it means, and is what to believe.
 use Rattle.std.specs.Prelude.{ℕ, ◌+◌, nat_lt, if◌then◌else◌, List, [], ◌∷◌, ◌++◌, length, take, drop, slice_set, Option, Some, None}
 use Rattle.std.specs.Borrow.{Lends, MutBor, Fml, Array, u8}
 use Rattle.vg_pcap.specs.Arrivals.{Arrival}

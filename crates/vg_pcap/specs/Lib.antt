@@ -1,6 +1,7 @@
 pub mod Captures
 pub mod Frames
 pub mod Arrivals
+pub mod Incoming
 pub mod Reader
 pub mod Writer
 pub mod Merge

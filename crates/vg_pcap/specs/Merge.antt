@@ -10,7 +10,8 @@ use Rattle.vg_pcap.specs.declared.merge.MergeFault.{MergeFault}
 use Rattle.vg_pcap.specs.Captures.{Damage, Whole}
 use Rattle.vg_pcap.specs.Frames.{Framed, Stream}
 use Rattle.vg_pcap.specs.Arrivals.{Arrival, stream_at, frames_from, Precedes, ComeFirst, ComeUpTo}
-use Rattle.vg_pcap.specs.Reader.{Reader, ComesIn, HasBadHeader, StillComes, IsReadable, number_after, fault_of}
+use Rattle.vg_pcap.specs.Incoming.{AllComeIn, IsFirstBadHeader, fault_of}
+use Rattle.vg_pcap.specs.Reader.{Reader, StillComes, IsReadable, number_after}
 
 -- what is seen of a port's input: its reader, and whether the reader's frame waits to be handled
 pub record Input : Type 0 where
@@ -73,18 +74,6 @@ pub record HasMergeCause {A : Type 0} (s t : Disk) (result : Result A MergeFault
   pub same_else : IfErr result (λ e. (e.fault ≡ faults.Read → ⊥) → t.read_faults ≡ s.read_faults)
   pub rises : s.read_faults ≤ t.read_faults
 
--- under each name its port's stream comes in
-pub record AllComeIn (s : Disk) (names : List (List ℕ)) (streams : List Stream) : Type 0 where
-  pub ports : length names ≡ length streams
-  pub each : (port : ℕ) (name : List ℕ) → slice_get names port ≡ Some name → ComesIn s name (stream_at streams port)
-
--- the file of a port has no header that can be read, and it is the first such port
-pub record IsFirstBadHeader (s : Disk) (names : List (List ℕ)) (port : ℕ) (field : HeaderField) : Type 0 where
-  pub name : List ℕ
-  pub at : slice_get names port ≡ Some name
-  pub bad : HasBadHeader s name field
-  pub first : (before : ℕ) (other : List ℕ) → before < port → slice_get names before ≡ Some other → (stream : Stream) × ComesIn s other stream
-
 -- why no captures were opened
 abbrev pub RefusesStart : Disk → List (List ℕ) → MergeFault → Type 0
 RefusesStart s names e =
@@ -104,6 +93,7 @@ pub record StartsMerge (s t : Disk) (names : List (List ℕ)) (result : Result (
   -- a refusal leaves nothing open
   pub closed : OnErr result (SameIds s t)
   pub refused : IfErr result (RefusesStart s names)
+  pub port : IfErr result (λ e. e.port < length names)
 
 -- records of the inputs were read, or one is refused
 pub record ReadsInputs (s t : Disk) (old new : List Input) (result : Result (Unit {0}) MergeFault) : Type 0 where
@@ -123,15 +113,16 @@ RefusesRecord streams past e =
     ⊎ ((damage : Damage) × (e.fault ≡ fault_of damage (number_after (length (stream_at streams e.port).frames))) × ComeUpTo streams past e.port damage)
 
 -- a fault is one at reading, or of some record
-abbrev pub IsReadOrRecord : CaptureFault → Type 0
-IsReadOrRecord fault = (fault ≡ faults.Read) ⊎ ((damage : Damage) × (number : ℕ) × (fault ≡ fault_of damage number))
+abbrev pub IsReadOrSomeRecord : CaptureFault → Type 0
+IsReadOrSomeRecord fault = (fault ≡ faults.Read) ⊎ ((damage : Damage) × (number : ℕ) × (fault ≡ fault_of damage number))
 
 -- the first record of each input was read, or one is refused
 pub record Fills (s t : Disk) (old new : List Input) (result : Result (Unit {0}) MergeFault) : Type 0 where
   pub reads : ReadsInputs s t old new result
   pub comes : (streams : List Stream) → AreToCome s old streams → OnOk result (Comes t new streams [])
   pub refused : (streams : List Stream) → AreToCome s old streams → IfErr result (RefusesRecord streams [])
-  pub fault : IfErr result (λ e. IsReadOrRecord e.fault)
+  pub fault : IfErr result (λ e. IsReadOrSomeRecord e.fault)
+  pub port : IfErr result (λ e. e.port < length old)
 
 -- the inputs are as they were when the next frame came, but for the bytes of that frame
 pub record IsChanged (came now : List Input) (a : Arrival) : Type 0 where
@@ -148,7 +139,8 @@ pub record Advances (s t : Disk) (old new : List Input) (result : Result (Unit {
       OnOk result (Comes t new streams (past ++ a ∷ []))
   pub refused : (came : List Input) (streams : List Stream) (past : List Arrival) (a : Arrival) → IsChanged came old a → Comes s came streams past →
       IfErr result (RefusesRecord streams (past ++ a ∷ []))
-  pub fault : IfErr result (λ e. IsReadOrRecord e.fault)
+  pub fault : IfErr result (λ e. IsReadOrSomeRecord e.fault)
+  pub port : (a : Arrival) → IsNext old a → IfErr result (λ e. e.port ≡ a.port)
 
 -- every input was closed; a fault in that is counted, and the others are closed nevertheless
 pub record ClosesInputs (s t : Disk) (inputs : List Input) (result : Result (Unit {0}) Failed) : Type 0 where

@@ -5,9 +5,9 @@ use Rattle.vg_base.specs.declared.faults.Failed.{Failed}
 use Rattle.vg_pcap.specs.declared.faults.CaptureFault.{CaptureFault}
 use Rattle.vg_pcap.specs.declared.faults.CaptureFault.TheVariants as faults
 use Rattle.vg_pcap.specs.declared.faults.HeaderField.{HeaderField}
-use Rattle.vg_pcap.specs.Captures.{Encoding, Record, AreRecords, IsBadHeader, Damage, Cut, Long, Fraction, Whole, Refused}
-use Rattle.vg_pcap.specs.Frames.{Framed, Stream, frames_after, HoldsStream, Fits}
-use Rattle.vg_pcap.specs.Arrivals.{no_frames}
+use Rattle.vg_pcap.specs.Captures.{Encoding, Record, AreRecords, Damage, Whole, Refused}
+use Rattle.vg_pcap.specs.Frames.{Framed, Stream, frames_after, Fits}
+use Rattle.vg_pcap.specs.Incoming.{ComesIn, HasBadHeader, fault_of}
 
 -- what is seen of a reader: its open id, where it reads a file; the bytes that it has read ahead of what it has given; how the file's numbers
 -- are written; the latest time of a record so far, and how many records there were; and the last frame
@@ -18,17 +18,6 @@ pub record Reader : Type 0 where
   pub latest : ℕ
   pub count : ℕ
   pub frame : Framed
-
--- ---- what comes in under a name
-
--- what comes in under a name: no frames under `-`, and else the stream of the capture of that name
-abbrev pub ComesIn : Disk → List ℕ → Stream → Type 0
-ComesIn s name stream =
-    ((name ≡ codes "-") × (stream ≡ no_frames)) ⊎ ((name ≢ codes "-") × (file : List ℕ) × (s.held name ≡ Some file) × HoldsStream file stream)
-
--- a file is there, and has no header that can be read
-abbrev pub HasBadHeader : Disk → List ℕ → HeaderField → Type 0
-HasBadHeader s name field = (name ≢ codes "-") × (file : List ℕ) × (s.held name ≡ Some file) × IsBadHeader file field
 
 -- ---- what a reader has before it
 
@@ -66,12 +55,6 @@ pub record HasReadCause {A : Type 0} (s t : Disk) (result : Result A CaptureFaul
 abbrev pub number_after : ℕ → ℕ
 number_after count = min (count + 1) (2 ^ 64 - 1)
 
--- the fault of a damaged record of this number
-abbrev pub fault_of : Damage → ℕ → CaptureFault
-fault_of Cut number = faults.Cut number
-fault_of Long number = faults.Long number
-fault_of Fraction number = faults.Fraction number
-
 -- a fault is one at reading, or of the record of this number
 abbrev pub IsReadOrRecord : CaptureFault → ℕ → Type 0
 IsReadOrRecord fault number = (fault ≡ faults.Read) ⊎ ((damage : Damage) × (fault ≡ fault_of damage number))
@@ -105,7 +88,7 @@ IsNextOf t old new stream (Err fault) =
     (fault ≡ faults.Read) ⊎ ((stream.frames ≡ []) × (damage : Damage) × (stream.end ≡ Refused damage) × (fault ≡ fault_of damage (number_after old.count)))
 
 -- the next record was read, or there is none, or it is refused
-pub record ReadsNext (s t : Disk) (old new : Reader) (result : Result Bool CaptureFault) : Type 0 where
+pub record ReadsRecord (s t : Disk) (old new : Reader) (result : Result Bool CaptureFault) : Type 0 where
   pub cause : HasReadCause s t result
   pub keeps : ReadKeeps s t
   pub shut_faults : t.shut_faults ≡ s.shut_faults

@@ -14,7 +14,8 @@ use Rattle.vg_pcap.specs.declared.faults.CaptureFault.{CaptureFault}
 use Rattle.vg_pcap.specs.declared.faults.CaptureFault.TheVariants as faults
 use Rattle.vg_pcap.specs.declared.faults.HeaderField.{HeaderField}
 use Rattle.vg_pcap.specs.Captures.{Order, Little, Big, Resolution, Microseconds, Nanoseconds, Encoding, HasHeader, IsBadHeader, RecordHead, HasHead, Record, IsGood, record_bytes, Damage, Cut, Long, Fraction, IsDamaged, units_per_second, nanoseconds_per_unit, longest}
-use Rattle.vg_pcap.specs.Reader.{IsBefore, HasReadCause, fault_of}
+use Rattle.vg_pcap.specs.Incoming.{fault_of}
+use Rattle.vg_pcap.specs.Reader.{IsBefore, HasReadCause}
 use Rattle.vg_pcap.specs.Buffered.{Source, Stays}
 
 -- ---- what the code's types stand for

@@ -4,6 +4,7 @@
 #![tactic(auto)]
 
 mod buffered;
+mod captures;
 mod encoding;
 mod faults;
 mod format;
@@ -16,6 +17,7 @@ mod records;
 mod tests;
 mod writer;
 
+pub use captures::{stream_or_bad, written_is_read};
 pub use faults::{CaptureFault, HeaderField};
 pub use format::MAX_CAPTURED;
 pub use merge::{Merge, MergeFault};

@@ -1,7 +1,7 @@
 //! Reading a capture as a stream, record by record.
 ghost use Rattle.std.specs.Prelude.{◌≡◌, ◌<◌, length, vec_len};
 ghost use Rattle.vg_pcap.specs.Captures.{longest};
-ghost use Rattle.vg_pcap.specs.Reader.{IsReadable, Starts, ReadsNext, Shuts};
+ghost use Rattle.vg_pcap.specs.Reader.{IsReadable, Starts, ReadsRecord, Shuts};
 ghost use Rattle.vg_pcap.specs.Reading.{encoding_view};
 
 use crate::buffered::Buffered;
@@ -116,7 +116,7 @@ impl CaptureReader {
     /// can only be closed. It takes no memory.
     pub fn next<F: Files>(&mut self, files: &mut F) -> Result<bool, CaptureFault>
         requires { IsReadable (F.disk files.old) self.old.id }
-        ensures { ReadsNext (F.disk files.old) (F.disk files.new) self.old self.new result }
+        ensures { ReadsRecord (F.disk files.old) (F.disk files.new) self.old self.new result }
     {
         let number = self.count.saturating_add(1);
         let frame = self.frame.as_mut_slice();

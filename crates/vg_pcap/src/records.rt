@@ -2,7 +2,7 @@
 ghost use Rattle.std.specs.Prelude.{◌≡◌, ◌≤◌, [], length, List, ℕ, ◌++◌, IfOk, IfErr};
 ghost use Rattle.vg_pcap.specs.Captures.{HasHead, IsDamaged, units_per_second};
 ghost use Rattle.vg_pcap.specs.Reading.{encoding_view, head_view, damage_view, HasGoodHead, nanoseconds_of};
-ghost use Rattle.vg_pcap.specs.Reader.{fault_of};
+ghost use Rattle.vg_pcap.specs.Incoming.{fault_of};
 
 use crate::encoding::Encoding;
 use crate::faults::CaptureFault;

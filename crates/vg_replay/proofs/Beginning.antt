@@ -12,7 +12,8 @@ use Rattle.vg_pcap.proofs.Opening.{few_ids}
 use Rattle.vg_pcap.proofs.Staying.{SameReading-differs, AreReadable-stays, AreToCome-stays}
 use Rattle.vg_pcap.specs.Frames.{Stream, header}
 use Rattle.vg_pcap.specs.Arrivals.{Arrival}
-use Rattle.vg_pcap.specs.Merge.{Input, ids_of, AllComeIn, AreToCome, StartsMerge, Fills, ClosesInputs}
+use Rattle.vg_pcap.specs.Incoming.{AllComeIn}
+use Rattle.vg_pcap.specs.Merge.{Input, ids_of, AreToCome, StartsMerge, Fills, ClosesInputs}
 use Rattle.vg_replay.specs.declared.stop.RunStop.{RunStop}
 use Rattle.vg_replay.specs.declared.stop.RunStop.TheVariants as stops
 use Rattle.vg_replay.specs.declared.totals.Totals.{Totals}
@@ -21,7 +22,7 @@ use Rattle.vg_replay.proofs.Pieces.{capture_to-none, log_of-none}
 use Rattle.vg_replay.proofs.Stopping.{IsRead, read_goes, read_stops}
 use Rattle.vg_replay.proofs.Wrote.{log_is_none}
 use Rattle.vg_replay.specs.Outputs.{handled_by, totals_of}
-use Rattle.vg_replay.specs.Replays.{ReplayFiles, AreReplayFiles, AreFirst, IsOfText, IsPart, Replays}
+use Rattle.vg_replay.specs.Replays.{ReplayFiles, AreReplayFiles, AreFirst, TakesFewSteps, IsPart, Replays}
 use Rattle.vg_replay.specs.Handling.{GoesOn}
 use Rattle.vg_replay.specs.UnderWay.{Replaying, Going}
 use Rattle.vg_replay.specs.Writing.{HasCreatedAll, HasFailedAll}
@@ -36,10 +37,10 @@ nothing_yet : {s t : Disk} {ins : List (List ℕ)} {inputs : List Input} → Sta
 nothing_yet x told = let come = x.comes told in (come.0, come.0, come.1, none_come come.0, (λ port damage at. tt), omega arith)
 
 -- every output was created, and holds what it should of no frames
-pub begun : {s t u : Disk} {n : ReplayFiles} {inputs : List Input} {ids : List ℕ} {log_id : ℕ} (f : Small) (totals : Totals) → AreReplayFiles n → IsOfText f → length n.outs ≤ 63 → StartsMerge s t n.ins (Ok inputs)
+pub begun : {s t u : Disk} {n : ReplayFiles} {inputs : List Input} {ids : List ℕ} {log_id : ℕ} (f : Small) (totals : Totals) → AreReplayFiles n → TakesFewSteps f → length n.outs ≤ 63 → StartsMerge s t n.ins (Ok inputs)
     → HasCreatedAll t u n.outs n.log ids log_id → IsRead s u n (record { function = f; inputs = inputs; outs = ids; log = log_id; totals = totals }) []
-begun {s} {t} {u} {n} {inputs} {ids} {log_id} f totals names text few x y = record {
-  sound = record { names = names; text = text; inputs = x.ports; outs = y.ports; few = omega (arith, few, y.ports) };
+begun {s} {t} {u} {n} {inputs} {ids} {log_id} f totals names steps few x y = record {
+  sound = record { names = names; steps = steps; inputs = x.ports; outs = y.ports; few = omega (arith, few, y.ports) };
   opened = record {
     held = SameHeld-trans x.keeps.held y.held;
     opens = DiffersBy-append (ids_of inputs) (ids ++ log_id ∷ []) x.opens.0 y.opens;
@@ -69,16 +70,16 @@ still_to_come {inputs = inputs} x y told =
     (come.0, come.1, AreToCome-stays (SameReading-differs inputs x.readable y.held y.opens) come.2)
 
 -- each first record was read
-pub filled : {s t u v : Disk} {n : ReplayFiles} {inputs new : List Input} {ids : List ℕ} {log_id : ℕ} (f : Small) (totals : Totals) → AreReplayFiles n → IsOfText f → length n.outs ≤ 63 → StartsMerge s t n.ins (Ok inputs)
+pub filled : {s t u v : Disk} {n : ReplayFiles} {inputs new : List Input} {ids : List ℕ} {log_id : ℕ} (f : Small) (totals : Totals) → AreReplayFiles n → TakesFewSteps f → length n.outs ≤ 63 → StartsMerge s t n.ins (Ok inputs)
     → HasCreatedAll t u n.outs n.log ids log_id → Fills u v inputs new (Ok tt) → totals ≡ totals_of (handled_by f []) → Going s v n (record { function = f; inputs = new; outs = ids; log = log_id; totals = totals }) []
-filled f totals names text few x y fills counts =
-    read_goes (begun f totals names text few x y) fills.reads counts (λ told. let come = still_to_come x y told in (come.0, come.1, fills.comes come.0 come.2))
+filled f totals names steps few x y fills counts =
+    read_goes (begun f totals names steps few x y) fills.reads counts (λ told. let come = still_to_come x y told in (come.0, come.1, fills.comes come.0 come.2))
 
 -- a first record is refused
-pub fill_refused : {s t u v : Disk} {n : ReplayFiles} {inputs new : List Input} {ids : List ℕ} {log_id : ℕ} {e : MergeFault} (f : Small) (totals : Totals) → AreReplayFiles n → IsOfText f → length n.outs ≤ 63 → StartsMerge s t n.ins (Ok inputs)
+pub fill_refused : {s t u v : Disk} {n : ReplayFiles} {inputs new : List Input} {ids : List ℕ} {log_id : ℕ} {e : MergeFault} (f : Small) (totals : Totals) → AreReplayFiles n → TakesFewSteps f → length n.outs ≤ 63 → StartsMerge s t n.ins (Ok inputs)
     → HasCreatedAll t u n.outs n.log ids log_id → Fills u v inputs new (Err e) → HasStopped s v n (record { function = f; inputs = new; outs = ids; log = log_id; totals = totals }) f (stop_of e)
-fill_refused f totals names text few x y fills =
-    read_stops totals (begun f totals names text few x y) fills.reads fills.fault (λ told. let come = still_to_come x y told in (come.0, come.1, fills.refused come.0 come.2))
+fill_refused f totals names steps few x y fills =
+    read_stops totals (begun f totals names steps few x y) fills.reads fills.fault (λ told. let come = still_to_come x y told in (come.0, come.1, fills.refused come.0 come.2))
 
 part_back : (s t u v : Disk) (name whole : List ℕ) → t.made ≡ s.made → v.made ≡ u.made → IsPart t u name whole → IsPart s v name whole
 part_back s t u v name whole before after part = rw (← before, after) part

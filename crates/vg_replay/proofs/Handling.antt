@@ -36,7 +36,7 @@ one_more x not = omega (arith, not, x.few, past_number x)
 
 -- another frame can be counted
 pub few_more : {s t : Disk} {n : ReplayFiles} {r : Replaying} {past : List Arrival} (port : ℕ) → Going s t n r past → r.totals.frames ≢ most_frames → AreFew r.totals (steps_at r.function.tests port)
-few_more {r = r} {past = past} port x not = rw x.totals_are (totals_of-few r.function past port x.sound.text (one_more x not))
+few_more {r = r} {past = past} port x not = rw x.totals_are (totals_of-few r.function past port x.sound.steps (one_more x not))
 
 first_more : {s t : Disk} {n : ReplayFiles} {r : Replaying} {past : List Arrival} (a : Arrival) → Going s t n r past → r.totals.frames ≢ most_frames → IsFirstLeft r.inputs a → IsTrue s.tells_held → AreFirst s n.ins (past ++ a ∷ [])
 first_more {t = t} {past = past} a x not first told =

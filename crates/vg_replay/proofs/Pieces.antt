@@ -5,8 +5,6 @@ use Rattle.std.proofs.lemmas.List.Elements.{All-map}
 use Rattle.std.proofs.lemmas.List.Sums.{count_by-le-length, sum_by-append, sum_by-le}
 use Rattle.std.specs.List.{sum_by}
 use Rattle.std.proofs.Common.{◌≡◌, ◌<◌, ◌≤◌, ◌+◌, ◌^◌, ◌∙◌, ℕ, suc, List, [], ◌∷◌, ◌++◌, length, get_or, count_by, if◌then◌else◌, Bool, All, refl, sym, ap, append-nil, append_assoc, length-append, add-zero, zero-add, arith}
-use Rattle.vg_core.proofs.SpellingLaws.{Spells-steps}
-use Rattle.vg_core.specs.declared.small.Lang.TheVariants.{C}
 use Rattle.vg_core.specs.declared.small.Small.{Small}
 use Rattle.vg_core.specs.declared.verdict.Verdict.{Verdict}
 use Rattle.vg_core.specs.declared.verdict.Verdict.TheVariants.{Drop, Send, Flood}
@@ -16,7 +14,7 @@ use Rattle.vg_pcap.specs.Arrivals.{Arrival}
 use Rattle.vg_replay.specs.declared.totals.Totals.{Totals}
 use Rattle.vg_replay.specs.Counts.{counted, AreFew}
 use Rattle.vg_replay.specs.Outputs.{Handled, handle_at, handled_by, verdict_by, piece_to, capture_to, line_of, lines_from, log_of, is_send, is_drop, is_flood, totals_of}
-use Rattle.vg_replay.specs.Replays.{IsOfText}
+use Rattle.vg_replay.specs.Replays.{TakesFewSteps}
 
 -- ---- bytes
 
@@ -82,18 +80,18 @@ pub totals_of-frames : (f : Small) (past : List Arrival) → (totals_of (handled
 unfolding totals_of
 totals_of-frames f past = length-map past (handle_at f)
 
-few_steps : (f : Small) (port : ℕ) → IsOfText f → steps_at f.tests port ≤ 2147483648
-few_steps f port text = omega (arith, text.1, Spells-steps C text.0 f port text.2)
+few_steps : (f : Small) (port : ℕ) → TakesFewSteps f → steps_at f.tests port ≤ 2147483648
+few_steps f port steps = omega (arith, steps port)
 
 -- another frame can be counted
-pub totals_of-few : (f : Small) (past : List Arrival) (port : ℕ) → IsOfText f → length past + 1 < 2 ^ 32 → AreFew (totals_of (handled_by f past)) (steps_at f.tests port)
+pub totals_of-few : (f : Small) (past : List Arrival) (port : ℕ) → TakesFewSteps f → length past + 1 < 2 ^ 32 → AreFew (totals_of (handled_by f past)) (steps_at f.tests port)
 unfolding totals_of
-totals_of-few f past port text few = record {
+totals_of-few f past port steps few = record {
   frames = omega (arith, few, length-map past (handle_at f));
   sent = count_by-le-length (λ h. is_send h.verdict) (handled_by f past);
   dropped = count_by-le-length (λ h. is_drop h.verdict) (handled_by f past);
   flooded = count_by-le-length (λ h. is_flood h.verdict) (handled_by f past);
   steps =
-      let each : All (λ (h : Handled). h.steps ≤ 2147483648) (handled_by f past) = All-map (λ (h : Handled). h.steps ≤ 2147483648) (handle_at f) past (λ k d within. few_steps f (get_or past k d).port text) in
-      omega (arith, few, sum_by-le (λ (h : Handled). h.steps) 2147483648 (handled_by f past) each, few_steps f port text, length-map past (handle_at f));
+      let each : All (λ (h : Handled). h.steps ≤ 2147483648) (handled_by f past) = All-map (λ (h : Handled). h.steps ≤ 2147483648) (handle_at f) past (λ k d within. few_steps f (get_or past k d).port steps) in
+      omega (arith, few, sum_by-le (λ (h : Handled). h.steps) 2147483648 (handled_by f past) each, few_steps f port steps, length-map past (handle_at f));
 }

@@ -16,8 +16,9 @@ use Rattle.vg_pcap.proofs.Merging.{no_damage, no_damage_past, input_at}
 use Rattle.vg_pcap.specs.Captures.{Damage, Cut, Long, Fraction}
 use Rattle.vg_pcap.specs.Frames.{Framed, Stream}
 use Rattle.vg_pcap.specs.Arrivals.{Arrival, stream_at, frames_from, ComeFirst, EndsAt, IsAtDamage}
-use Rattle.vg_pcap.specs.Reader.{fault_of, number_after}
-use Rattle.vg_pcap.specs.Merge.{Input, ids_of, AreReadable, IsNext, IsReadOrRecord, Comes, AllComeIn, ReadsInputs, RefusesRecord, ClosesInputs}
+use Rattle.vg_pcap.specs.Incoming.{fault_of, AllComeIn}
+use Rattle.vg_pcap.specs.Reader.{number_after}
+use Rattle.vg_pcap.specs.Merge.{Input, ids_of, AreReadable, IsNext, IsReadOrSomeRecord, Comes, ReadsInputs, RefusesRecord, ClosesInputs}
 use Rattle.vg_replay.specs.declared.stop.RunStop.{RunStop}
 use Rattle.vg_replay.specs.declared.stop.RunStop.TheVariants as stops
 use Rattle.vg_replay.specs.declared.totals.Totals.{Totals}
@@ -26,10 +27,10 @@ use Rattle.vg_replay.proofs.Pieces.{totals_of-frames}
 use Rattle.vg_replay.proofs.Places.{All-left}
 use Rattle.vg_replay.proofs.Wrote.{whole_parts}
 use Rattle.vg_replay.specs.Outputs.{handled_by, totals_of}
-use Rattle.vg_replay.specs.Replays.{ReplayFiles, KeepsOthers, HavePorts, NoFault, WroteAll, WroteParts, Began, StopsAtRecord, StopsReplay, Replays, AreFirst, AreUpTo, AreTooMany, most_frames}
+use Rattle.vg_replay.specs.Replays.{ReplayFiles, KeepsOthers, HavePorts, NoFault, WroteAll, WroteParts, Began, StopsAtRecord, StopsBegun, StopsReplay, Replays, AreFirst, AreUpTo, AreTooMany, most_frames}
 use Rattle.vg_replay.specs.UnderWay.{Replaying, IsSound, HasOpened, HaveCome, Going, AreWritable, open_ids, output_ids}
 use Rattle.vg_replay.specs.Writing.{ClosesWritten}
-use Rattle.vg_replay.specs.Stepping.{stop_at, stop_of, StopsBegun, HasStopped, HasEnded, ClosesAll}
+use Rattle.vg_replay.specs.Stepping.{stop_at, stop_of, HasStopped, HasEnded, ClosesAll}
 
 -- ---- ids of inputs and of outputs
 
@@ -120,7 +121,7 @@ pub record IsRead (s t : Disk) (n : ReplayFiles) (r : Replaying) (frames : List 
 pub read_goes : {s t u : Disk} {n : ReplayFiles} {r : Replaying} {frames : List Arrival} {new : List Input} {totals : Totals} → IsRead s t n r frames → ReadsInputs t u r.inputs new (Ok tt) → totals ≡ totals_of (handled_by r.function frames)
     → (IsTrue s.tells_held → HaveCome s u n.ins new frames) → Going s u n (with_inputs r new totals) frames
 read_goes {s} {t} {u} {n} {totals = totals} x reads counts come = record {
-  sound = record { names = x.sound.names; text = x.sound.text; inputs = reads.ports ∙ x.sound.inputs; outs = x.sound.outs; few = x.sound.few };
+  sound = record { names = x.sound.names; steps = x.sound.steps; inputs = reads.ports ∙ x.sound.inputs; outs = x.sound.outs; few = x.sound.few };
   opened = opened_reads totals x.opened reads;
   no_fault = record { read_faults = reads.cause.same ∙ x.no_fault.read_faults; write_faults = reads.keeps.write_faults ∙ x.no_fault.write_faults };
   ports = x.ports;
@@ -163,7 +164,7 @@ record_stops {frames = frames} damage number is x reads refused = record {
   read_faults = reads.cause.same_else (λ read. record_read damage number (sym is ∙ read)) ∙ x.no_fault.read_faults;
 }
 
-stops_by : {s t u : Disk} {n : ReplayFiles} {r : Replaying} {frames : List Arrival} {new : List Input} {port : ℕ} (fault : CaptureFault) → IsReadOrRecord fault → IsRead s t n r frames
+stops_by : {s t u : Disk} {n : ReplayFiles} {r : Replaying} {frames : List Arrival} {new : List Input} {port : ℕ} (fault : CaptureFault) → IsReadOrSomeRecord fault → IsRead s t n r frames
     → ReadsInputs t u r.inputs new (Err (record { port = port; fault = fault }))
     → (IsTrue s.tells_held → (streams : List Stream) × AllComeIn s n.ins streams × RefusesRecord streams frames (record { port = port; fault = fault }))
     → StopsBegun s u n r.function (stop_at port fault)
@@ -181,7 +182,7 @@ stops_by (faults.Cut number) kind x reads refused = record_stops Cut number refl
 stops_by (faults.Long number) kind x reads refused = record_stops Long number refl x reads refused
 stops_by (faults.Fraction number) kind x reads refused = record_stops Fraction number refl x reads refused
 
-pub read_stops : {s t u : Disk} {n : ReplayFiles} {r : Replaying} {frames : List Arrival} {new : List Input} {e : MergeFault} (totals : Totals) → IsRead s t n r frames → ReadsInputs t u r.inputs new (Err e) → IsReadOrRecord e.fault
+pub read_stops : {s t u : Disk} {n : ReplayFiles} {r : Replaying} {frames : List Arrival} {new : List Input} {e : MergeFault} (totals : Totals) → IsRead s t n r frames → ReadsInputs t u r.inputs new (Err e) → IsReadOrSomeRecord e.fault
     → (IsTrue s.tells_held → (streams : List Stream) × AllComeIn s n.ins streams × RefusesRecord streams frames e) → HasStopped s u n (with_inputs r new totals) r.function (stop_of e)
 read_stops {s} {t} {u} {n} {e = e} totals x reads kind refused = record {
   opened = opened_reads totals x.opened reads;
@@ -269,24 +270,34 @@ began_same same b = record { frames = b.frames; ports = b.ports; first = b.first
 record_same : {s t u : Disk} {n : ReplayFiles} {f : Small} {port : ℕ} {fault : CaptureFault} → u.made ≡ t.made → u.read_faults ≡ t.read_faults → StopsAtRecord s t n f port fault → StopsAtRecord s u n f port fault
 record_same made read x = record { frames = x.frames; ports = x.ports; up_to = x.up_to; wrote = λ told. wrote_same made (x.wrote told); read_faults = read ∙ x.read_faults }
 
-stops_closed : (s t u : Disk) (n : ReplayFiles) (f : Small) (stop : RunStop) → u.made ≡ t.made → u.read_faults ≡ t.read_faults → t.write_faults ≤ u.write_faults → StopsBegun s t n f stop → StopsReplay s u n f stop
+-- a stop stays one where what was opened is closed
+stops_closed : (s t u : Disk) (n : ReplayFiles) (f : Small) (stop : RunStop) → u.made ≡ t.made → u.read_faults ≡ t.read_faults → t.write_faults ≤ u.write_faults → StopsBegun s t n f stop → StopsBegun s u n f stop
 stops_closed s t u n f (stops.Capture port (faults.Header field)) made read write x = absurd x
 stops_closed s t u n f (stops.Capture port (faults.Cut number)) made read write x = record_same made read x
 stops_closed s t u n f (stops.Capture port (faults.Long number)) made read write x = record_same made read x
 stops_closed s t u n f (stops.Capture port (faults.Fraction number)) made read write x = record_same made read x
 stops_closed s t u n f (stops.Capture port faults.Read) made read write x = absurd x
 stops_closed s t u n f (stops.Capture port faults.Memory) made read write x = absurd x
-stops_closed s t u n f stops.Read made read write x = (rw read x.0, inr (began_same made x.1))
+stops_closed s t u n f stops.Read made read write x = (rw read x.0, began_same made x.1)
 stops_closed s t u n f stops.Write made read write x = (let rose = x.0 in omega (arith, rose, write), read ∙ x.1, began_same made x.2)
 stops_closed s t u n f stops.Frames made read write x = record { frames = x.frames; ports = x.ports; too_many = x.too_many; wrote = λ told. wrote_same made (x.wrote told); read_faults = read ∙ x.read_faults }
 stops_closed s t u n f stops.Memory made read write x = absurd x
 
-pub not_memory : (s t : Disk) (n : ReplayFiles) (f : Small) (stop : RunStop) → StopsBegun s t n f stop → stop ≢ stops.Memory
-not_memory s t n f (stops.Capture port fault) x e = absurd cc
-not_memory s t n f stops.Read x e = absurd cc
-not_memory s t n f stops.Write x e = absurd cc
-not_memory s t n f stops.Frames x e = absurd cc
-not_memory s t n f stops.Memory x e = x
+-- one of a replay that began is one of a replay
+begun_stops : (s t : Disk) (n : ReplayFiles) (f : Small) (stop : RunStop) → StopsBegun s t n f stop → StopsReplay s t n f stop
+begun_stops s t n f (stops.Capture port (faults.Header field)) x = absurd x
+begun_stops s t n f (stops.Capture port (faults.Cut number)) x = x
+begun_stops s t n f (stops.Capture port (faults.Long number)) x = x
+begun_stops s t n f (stops.Capture port (faults.Fraction number)) x = x
+begun_stops s t n f (stops.Capture port faults.Read) x = absurd x
+begun_stops s t n f (stops.Capture port faults.Memory) x = absurd x
+begun_stops s t n f stops.Read x = (x.0, inr x.1)
+begun_stops s t n f stops.Write x = x
+begun_stops s t n f stops.Frames x = x
+begun_stops s t n f stops.Memory x = absurd x
+
+pub stopped_begun : {s t u : Disk} {n : ReplayFiles} {r : Replaying} {f : Small} {stop : RunStop} (q : Result (Unit {0}) Failed) → HasStopped s t n r f stop → ClosesAll t u r q → StopsBegun s u n f stop
+stopped_begun {s} {t} {u} {n} {r} {f} {stop} q x y = stops_closed s t u n f stop y.made y.read_faults y.faults.rises x.stops
 
 pub stopped : {s t u : Disk} {n : ReplayFiles} {r : Replaying} {f : Small} {stop : RunStop} (q : Result (Unit {0}) Failed) → HasStopped s t n r f stop → ClosesAll t u r q → Replays s u n f (Err stop)
 stopped {s} {t} {u} {n} {r} {f} {stop} q x y = record {
@@ -294,7 +305,7 @@ stopped {s} {t} {u} {n} {r} {f} {stop} q x y = record {
   ids = closed_again (open_ids r) x.opened.opens y.closes;
   others = λ told. others_same s t u n y.made (x.others told);
   done = tt;
-  stops = stops_closed s t u n f stop y.made y.read_faults y.faults.rises x.stops;
+  stops = begun_stops s u n f stop (stopped_begun q x y);
 }
 
 pub ended : {s t u : Disk} {n : ReplayFiles} {r : Replaying} {past : List Arrival} → Going s t n r past → HasEnded t r → ClosesAll t u r (Ok tt) → Replays s u n r.function (Ok r.totals)

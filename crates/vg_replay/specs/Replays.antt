@@ -2,17 +2,14 @@
 use Rattle.std.specs.Prelude.{ℕ, ◌+◌, ◌-◌, ◌<◌, ◌≤◌, ◌^◌, ◌≡◌, ◌≢◌, ◌⊎◌, List, [], ◌∷◌, ◌++◌, length, IsTrue, Some, Result, IfOk, IfErr, All, AllPairs, slice_get}
 use Rattle.vg_base.specs.Files.{Disk, Rose, SameHeld, SameIds}
 use Rattle.vg_core.specs.declared.small.Small.{Small}
-use Rattle.vg_core.specs.declared.small.Test.{Test}
-use Rattle.vg_core.specs.declared.small.Lang.TheVariants.{C}
-use Rattle.vg_core.specs.Spelling.{Spells}
+use Rattle.vg_core.specs.Meaning.{steps_at}
 use Rattle.vg_pcap.specs.declared.faults.CaptureFault.{CaptureFault}
 use Rattle.vg_pcap.specs.declared.faults.CaptureFault.TheVariants as faults
 use Rattle.vg_pcap.specs.declared.faults.HeaderField.{HeaderField}
 use Rattle.vg_pcap.specs.Captures.{Damage}
 use Rattle.vg_pcap.specs.Frames.{Stream}
 use Rattle.vg_pcap.specs.Arrivals.{Arrival, stream_at, EndsAt, ComeFirst, AllCome, ComeUpTo, IsAtDamage}
-use Rattle.vg_pcap.specs.Reader.{fault_of}
-use Rattle.vg_pcap.specs.Merge.{AllComeIn, IsFirstBadHeader}
+use Rattle.vg_pcap.specs.Incoming.{fault_of, AllComeIn, IsFirstBadHeader}
 use Rattle.vg_replay.specs.declared.totals.Totals.{Totals}
 use Rattle.vg_replay.specs.declared.stop.RunStop.{RunStop}
 use Rattle.vg_replay.specs.declared.stop.RunStop.TheVariants as stops
@@ -39,14 +36,9 @@ pub record AreReplayFiles (n : ReplayFiles) : Type 0 where
 
 -- ---- the function
 
--- a value is the number of a port
-pub record SendsBelow (ports : ℕ) (f : Small) : Type 0 where
-  pub tests : All (λ (t : Test). t.value < ports) f.tests
-  pub last : f.last < ports
-
--- a C text spells the function
-abbrev pub IsOfText : Small → Type 0
-IsOfText f = (text : List ℕ) × (length text < 2 ^ 31) × Spells C text f
+-- no frame takes more steps than this, so that those of all frames can be counted in 64 bits
+abbrev pub TakesFewSteps : Small → Type 0
+TakesFewSteps f = (port : ℕ) → steps_at f.tests port ≤ 2 ^ 31
 
 -- ---- what stands in the files
 
@@ -72,8 +64,8 @@ Holds t name bytes = (more : List ℕ) × (t.made name ≡ Some (bytes ++ more))
 abbrev pub HoldCaptures : Disk → ReplayFiles → Small → List Arrival → Type 0
 HoldCaptures t n f frames = (port : ℕ) (name : List ℕ) → slice_get n.outs port ≡ Some name → Holds t name (capture_to port (handled_by f frames))
 
--- Each output holds no more than first bytes of what it should of these frames. All of them were handled whole but at most the last one: the captures
--- have those frames, and the log their lines. The line of the last one was begun only where every capture has it.
+-- Each output was left as it was or holds no more than first bytes of what it should of these frames. All of them were handled whole but at most the last
+-- one: the captures have those frames, and the log their lines. The line of the last one was begun only where every capture has it.
 pub record WroteParts (s t : Disk) (n : ReplayFiles) (f : Small) (frames : List Arrival) : Type 0 where
   pub outs : (port : ℕ) (name : List ℕ) → slice_get n.outs port ≡ Some name → IsPart s t name (capture_to port (handled_by f frames))
   pub log : IsPart s t n.log (log_of (handled_by f frames))
@@ -156,7 +148,7 @@ pub record StopsAtMost (s t : Disk) (n : ReplayFiles) (f : Small) : Type 0 where
   pub wrote : IsTrue s.tells_made → WroteAll s t n f frames
   pub read_faults : t.read_faults ≡ s.read_faults
 
--- outputs were begun, and hold no more than first bytes of what they should
+-- outputs were begun: each was left as it was, or holds no more than first bytes of what it should
 pub record Began (s t : Disk) (n : ReplayFiles) (f : Small) : Type 0 where
   pub frames : List Arrival
   pub ports : HavePorts n frames
@@ -175,6 +167,19 @@ StopsReplay s t n f stops.Read = Rose s.read_faults t.read_faults × (((t.made �
 StopsReplay s t n f stops.Write = Rose s.write_faults t.write_faults × (t.read_faults ≡ s.read_faults) × Began s t n f
 StopsReplay s t n f stops.Frames = StopsAtMost s t n f
 StopsReplay s t n f stops.Memory = (t.made ≡ s.made) × NoFault s t
+
+-- why a replay stopped whose outputs were created, and what it left
+abbrev pub StopsBegun : Disk → Disk → ReplayFiles → Small → RunStop → Type 0
+StopsBegun s t n f (stops.Capture port (faults.Header field)) = ⊥
+StopsBegun s t n f (stops.Capture port (faults.Cut number)) = StopsAtRecord s t n f port (faults.Cut number)
+StopsBegun s t n f (stops.Capture port (faults.Long number)) = StopsAtRecord s t n f port (faults.Long number)
+StopsBegun s t n f (stops.Capture port (faults.Fraction number)) = StopsAtRecord s t n f port (faults.Fraction number)
+StopsBegun s t n f (stops.Capture port faults.Read) = ⊥
+StopsBegun s t n f (stops.Capture port faults.Memory) = ⊥
+StopsBegun s t n f stops.Read = Rose s.read_faults t.read_faults × Began s t n f
+StopsBegun s t n f stops.Write = Rose s.write_faults t.write_faults × (t.read_faults ≡ s.read_faults) × Began s t n f
+StopsBegun s t n f stops.Frames = StopsAtMost s t n f
+StopsBegun s t n f stops.Memory = ⊥
 
 -- what comes in was replayed through a function, or this stopped; whatever happened, no other file was changed, and no id is open that wasn't
 pub record Replays (s t : Disk) (n : ReplayFiles) (f : Small) (result : Result Totals RunStop) : Type 0 where

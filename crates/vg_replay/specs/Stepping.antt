@@ -1,7 +1,7 @@
 -- The parts of handling a frame. No public clause rests on this file.
 use Rattle.std.specs.Prelude.{ℕ, ◌≡◌, List, [], ◌∷◌, ◌++◌, false, All, IsTrue, Bool, true, Result, Ok, Err}
 use Rattle.vg_base.specs.declared.faults.Failed.{Failed}
-use Rattle.vg_base.specs.Files.{Disk, Rose, Counts, SameHeld}
+use Rattle.vg_base.specs.Files.{Disk, Counts, SameHeld}
 use Rattle.vg_base.specs.Several.{DiffersBy}
 use Rattle.vg_core.specs.declared.small.Small.{Small}
 use Rattle.vg_pcap.specs.declared.faults.CaptureFault.{CaptureFault}
@@ -12,7 +12,7 @@ use Rattle.vg_pcap.specs.Arrivals.{Arrival, AllCome}
 use Rattle.vg_pcap.specs.Merge.{IsNext, Comes}
 use Rattle.vg_replay.specs.declared.stop.RunStop.{RunStop}
 use Rattle.vg_replay.specs.declared.stop.RunStop.TheVariants as stops
-use Rattle.vg_replay.specs.Replays.{ReplayFiles, StopsAtRecord, StopsAtMost, Began, KeepsOthers}
+use Rattle.vg_replay.specs.Replays.{ReplayFiles, KeepsOthers, StopsBegun}
 use Rattle.vg_replay.specs.UnderWay.{Replaying, HasOpened, Going, open_ids}
 
 -- why a replay stops where its inputs can't be read on
@@ -26,19 +26,6 @@ stop_at port (faults.Fraction number) = stops.Capture port (faults.Fraction numb
 
 abbrev pub stop_of : MergeFault → RunStop
 stop_of e = stop_at e.port e.fault
-
--- why a replay stopped whose outputs were created, and what it left
-abbrev pub StopsBegun : Disk → Disk → ReplayFiles → Small → RunStop → Type 0
-StopsBegun s t n f (stops.Capture port (faults.Header field)) = ⊥
-StopsBegun s t n f (stops.Capture port (faults.Cut number)) = StopsAtRecord s t n f port (faults.Cut number)
-StopsBegun s t n f (stops.Capture port (faults.Long number)) = StopsAtRecord s t n f port (faults.Long number)
-StopsBegun s t n f (stops.Capture port (faults.Fraction number)) = StopsAtRecord s t n f port (faults.Fraction number)
-StopsBegun s t n f (stops.Capture port faults.Read) = ⊥
-StopsBegun s t n f (stops.Capture port faults.Memory) = ⊥
-StopsBegun s t n f stops.Read = Rose s.read_faults t.read_faults × Began s t n f
-StopsBegun s t n f stops.Write = Rose s.write_faults t.write_faults × (t.read_faults ≡ s.read_faults) × Began s t n f
-StopsBegun s t n f stops.Frames = StopsAtMost s t n f
-StopsBegun s t n f stops.Memory = ⊥
 
 -- a replay has stopped, and its files are still open
 pub record HasStopped (s t : Disk) (n : ReplayFiles) (r : Replaying) (f : Small) (stop : RunStop) : Type 0 where

@@ -5,10 +5,11 @@ use Rattle.vg_base.specs.Several.{DiffersBy, AreOpen}
 use Rattle.vg_core.specs.declared.small.Small.{Small}
 use Rattle.vg_pcap.specs.Frames.{Stream}
 use Rattle.vg_pcap.specs.Arrivals.{Arrival}
-use Rattle.vg_pcap.specs.Merge.{Input, ids_of, AreReadable, Comes, AllComeIn}
+use Rattle.vg_pcap.specs.Incoming.{AllComeIn}
+use Rattle.vg_pcap.specs.Merge.{Input, ids_of, AreReadable, Comes}
 use Rattle.vg_replay.specs.declared.totals.Totals.{Totals}
 use Rattle.vg_replay.specs.Outputs.{handled_by, totals_of}
-use Rattle.vg_replay.specs.Replays.{ReplayFiles, AreReplayFiles, IsOfText, NoFault, HavePorts, WroteAll, KeepsOthers, most_frames}
+use Rattle.vg_replay.specs.Replays.{ReplayFiles, AreReplayFiles, TakesFewSteps, NoFault, HavePorts, WroteAll, KeepsOthers, most_frames}
 
 -- what is seen of a replay: its function, the inputs by port, the ids of the captures that are written by port, the id of the log, and the counts so far
 pub record Replaying : Type 0 where
@@ -47,11 +48,11 @@ pub record HasOpened (s t : Disk) (n : ReplayFiles) (r : Replaying) : Type 0 whe
 abbrev pub HaveCome : Disk → Disk → List (List ℕ) → List Input → List Arrival → Type 0
 HaveCome s t ins inputs past = (streams : List Stream) × AllComeIn s ins streams × Comes t inputs streams past
 
--- what stays the same while a replay goes on: its files have names as they should, its function is one of a C text, and there is a capture in and one
--- out for each port, no more than files can be open
+-- what stays the same while a replay goes on: its files have names as they should, its function takes few steps, and there is a capture in and one out for
+-- each port, no more than files can be open
 pub record IsSound (n : ReplayFiles) (r : Replaying) : Type 0 where
   pub names : AreReplayFiles n
-  pub text : IsOfText r.function
+  pub steps : TakesFewSteps r.function
   pub inputs : length r.inputs ≡ length n.ins
   pub outs : length r.outs ≡ length n.outs
   pub few : length r.outs ≤ 64

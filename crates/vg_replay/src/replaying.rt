@@ -1,6 +1,7 @@
 //! Replaying captures through a function.
 ghost use Rattle.std.specs.Prelude.{◌≤◌, ◌+◌, length, map, string_bytes};
-ghost use Rattle.vg_replay.specs.Replays.{AreReplayFiles, SendsBelow, IsOfText, Replays, ReplayFiles};
+ghost use Rattle.vg_core.specs.Meaning.{SendsBelow};
+ghost use Rattle.vg_replay.specs.Replays.{AreReplayFiles, TakesFewSteps, Replays, ReplayFiles};
 
 use crate::stop::RunStop;
 use crate::totals::Totals;
@@ -20,7 +21,7 @@ pub fn replay<F: Files>(
 ) -> Result<Totals, RunStop>
     requires room { (F.disk files.old).open_count + length ins.now + length outs.now + 1 ≤ MAX_OPEN }
     requires names { AreReplayFiles (record { log = log.now; ins = map string_bytes ins.now; outs = map string_bytes outs.now }) }
-    requires text { IsOfText small }
+    requires steps { TakesFewSteps small }
     requires ports { SendsBelow (length ins.now) small }
     ensures { Replays (F.disk files.old) (F.disk files.new)
         (record { log = log.now; ins = map string_bytes ins.now; outs = map string_bytes outs.now }) small result }

@@ -1,6 +1,7 @@
-ghost use Rattle.std.specs.Prelude.{◌≡◌, ◌<◌, ◌↔◌, IsTrue, IfOk, [], ◌∷◌, codes, length, map, string_bytes};
+ghost use Rattle.std.specs.Prelude.{◌≡◌, ◌<◌, IfOk, [], ◌∷◌, codes, length, map, string_bytes};
 ghost use Rattle.vg_base.specs.Memory.{disk_of};
-ghost use Rattle.vg_replay.specs.Replays.{IsOfText, SendsBelow};
+ghost use Rattle.vg_core.specs.Meaning.{SendsBelow};
+ghost use Rattle.vg_replay.specs.Replays.{TakesFewSteps};
 
 use super::*;
 use std::alloc::{AllocError, Global};
@@ -60,21 +61,14 @@ fn three(alloc: Global, a: &str, b: &str, c: &str) -> Result<Vec<String>, AllocE
     Ok(names)
 }
 
-// Whether each value of a function is below this.
-fn sends_below(f: &Small, ports: u16) -> bool
-    ensures { IsTrue result ↔ SendsBelow ports f.now }
-{
-    f.last < ports && f.tests.as_slice().iter().all(|t| t.value < ports)
-}
-
 // A function that sends to the ports 0 to 2.
 fn function_of(alloc: Global, text: &str) -> Result<Small, Fail>
     requires { length text.now < 1000 }
-    ensures text { IfOk result IsOfText }
+    ensures steps { IfOk result TakesFewSteps }
     ensures ports { IfOk result (SendsBelow 3) }
 {
     let small = read_small(alloc, text.as_bytes(), Lang::C)?;
-    if sends_below(&small, 3) {
+    if small.sends_below(3) {
         Ok(small)
     } else {
         Err("a value is no port".into())
@@ -164,7 +158,8 @@ fn a_bad_header_creates_nothing(rt: HostRuntime) -> Result<(), Fail> {
 #[test]
 fn each_fault_is_told(rt: HostRuntime) -> Result<(), Fail> {
     let alloc = rt.alloc();
-    let mut told = Vec::new(alloc);
+    let mut reads = Vec::new(alloc);
+    let mut writes = Vec::new(alloc);
     for call in 1..60u64 {
         let mut files = files_of(
             alloc,
@@ -174,11 +169,26 @@ fn each_fault_is_told(rt: HostRuntime) -> Result<(), Fail> {
         )?;
         match replay_three(alloc, &mut files)? {
             Ok(totals) => assert_eq!(rt; totals.frames, 3),
-            Err(RunStop::Read) | Err(RunStop::Write) => told.push(call)?,
+            Err(RunStop::Read) => reads.push(call)?,
+            Err(RunStop::Write) => writes.push(call)?,
             Err(_) => return Err("another stop".into()),
         }
     }
-    assert_eq!(rt; told.len(), 23);
+    assert_eq!(rt; reads.len(), 6);
+    assert_eq!(rt; writes.len(), 17);
+    Ok(())
+}
+
+// The captures are created in the order of their ports, and then the log: where the second one can't be created, only the first stands.
+#[test]
+fn a_capture_is_not_created(rt: HostRuntime) -> Result<(), Fail> {
+    let alloc = rt.alloc();
+    let mut files = files_of(alloc, capture(alloc, &[5])?, capture(alloc, &[4])?, &[7])?;
+    assert_eq!(rt; replay_three(alloc, &mut files)?, Err(RunStop::Write));
+    assert_eq!(rt; files.written("out0").ok_or("no out0")?, HEADER.as_slice());
+    assert!(rt; files.written("out1").is_none());
+    assert!(rt; files.written("out2").is_none());
+    assert!(rt; files.written("log").is_none());
     Ok(())
 }
 

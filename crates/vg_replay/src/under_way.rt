@@ -2,11 +2,12 @@
 ghost use Rattle.std.specs.Prelude.{◌≡◌, ◌<◌, ◌≤◌, ◌+◌, ◌≢◌, ◌^◌, List, length, map, string_bytes, IfOk};
 ghost use Rattle.vg_base.specs.Files.{Disk, Writes};
 ghost use Rattle.vg_base.specs.Several.{AreOpen};
+ghost use Rattle.vg_core.specs.Meaning.{SendsBelow};
 ghost use Rattle.vg_pcap.specs.Frames.{Framed, Fits};
 ghost use Rattle.vg_pcap.specs.Arrivals.{Arrival};
 ghost use Rattle.vg_pcap.specs.Merge.{IsNext, AreReadable, StartsMerge};
 ghost use Rattle.vg_replay.specs.Outputs.{handle_at};
-ghost use Rattle.vg_replay.specs.Replays.{AreReplayFiles, SendsBelow, IsOfText, ReplayFiles};
+ghost use Rattle.vg_replay.specs.Replays.{AreReplayFiles, TakesFewSteps, ReplayFiles};
 ghost use Rattle.vg_replay.specs.UnderWay.{Replaying, output_ids, AreWritable, Going};
 ghost use Rattle.vg_replay.specs.Handling.{StartsReplay, HandlesNext, GoesOn};
 ghost use Rattle.vg_replay.specs.Writing.{WritesFrame};
@@ -63,7 +64,7 @@ impl Replay {
     ) -> Result<Replay, RunStop>
         requires room { (F.disk files.old).open_count + length ins.now + length outs.now + 1 ≤ MAX_OPEN }
         requires names { AreReplayFiles (record { log = log.now; ins = map string_bytes ins.now; outs = map string_bytes outs.now }) }
-        requires text { IsOfText small }
+        requires steps { TakesFewSteps small }
         requires ports { SendsBelow (length ins.now) small }
         ensures { StartsReplay (F.disk files.old) (F.disk files.new)
             (record { log = log.now; ins = map string_bytes ins.now; outs = map string_bytes outs.now }) small result }

@@ -1,6 +1,6 @@
 -- Decisions one after another.
 use Rattle.std.proofs.Common.{◌≡◌, ℕ, zero, suc, ◌+◌, ◌*◌, ◌<◌, ◌≤◌, List, [], ◌∷◌, ◌++◌, length, get_or, true, false, refl, sym, ap, ◌∙◌, inl, inr, ◌⊎◌, subst, arith, length-append}
-use Rattle.std.specs.Prelude.{ℤ, pos, negsuc, neg_ℤ, Bool, not, ◌||◌, All, Option, Some, None, is_some}
+use Rattle.std.specs.Prelude.{ℤ, pos, negsuc, neg_ℤ, Bool, not, ◌||◌, All, Option, Some, None, is_some, MatchOption, Result, Ok, Err, IfOk}
 use Rattle.std.specs.List.{list_all}
 use Rattle.std.specs.Ordering.{int_eq}
 use Rattle.std.proofs.Math.IntN.{neg_ℤ-neg_ℤ}
@@ -17,27 +17,14 @@ use Rattle.vg_units.specs.Searching.{Search, IsAtRest, IsSound, IsSameBut, IsEnd
 use Rattle.vg_units.proofs.Visiting.{grown_within, grown_longer, contains_at, holds_last, holds_before}
 use Rattle.vg_units.proofs.Reaching.{AreDecided, chain_conflict, over-nonzero}
 use Rattle.vg_units.proofs.Assuming.{holds-negations, negated-held, decided_more}
-use Rattle.vg_sat.specs.Walks.{AreValues}
+use Rattle.vg_sat.specs.Walks.{AreValues, Walked}
 use Rattle.vg_sat.proofs.Choosing.{AreAssignedTo, assigned_more, all_true}
-use Rattle.vg_sat.specs.Choices.{IsUndecided}
+use Rattle.vg_sat.specs.Choices.{IsUndecided, AreAssigned}
 use Rattle.vg_sat.specs.Learned.{first_of, LeavesFirst, IsLearnable}
 
--- the decisions so far are the negations of a clause's literals, and no clause is false
-pub record Walked (start s : Search) (clause : List ℤ) : Type 0 where
-  pub variables : s.variables ≡ start.variables
-  pub clauses : s.clauses ≡ start.clauses
-  pub propagated : s.head ≡ length s.trail
-  pub settled : All (Settled s.trail) s.clauses
-  pub sound : IsSound s
-  pub over : All (IsOver start.variables) clause
-  pub falses : AreWithin (negations clause) s.trail
-  pub decided : AreDecided (negations clause) s.trail s.starts
-
-pub walk_starts : (s : Search) → IsAtRest s → IsSound s → All (Settled s.trail) s.clauses → Walked s s []
+pub walk_starts : (s : Search) → IsAtRest s → IsSound s → All (Settled s.trail) s.clauses → Walked s []
 walk_starts s rest sound settled =
     record {
-      variables = refl;
-      clauses = refl;
       propagated = rest.1;
       settled = settled;
       sound = sound;
@@ -82,17 +69,23 @@ decided_from s next new l clause step decided =
     (or_left (int_eq l (neg_ℤ (neg_ℤ l))) (holds (negations clause) l) (same_test l (neg_ℤ (neg_ℤ l)) (sym (neg_ℤ-neg_ℤ l)))) (grown_from s next new l step)
     (more_decided s.trail (negations clause) s.starts (neg_ℤ (neg_ℤ l)) decided))
 
-pub walk_on : (start s next new : Search) (clause : List ℤ) (l : ℤ) → IsOver s.variables l → Decided s next new l → new.head ≡ length new.trail → All (Settled new.trail) new.clauses →
-    Walked start s clause → Walked start new (neg_ℤ l ∷ clause)
-walk_on start s next new clause l over step propagated settled h =
+pub same_variables : (s next new : Search) (l : ℤ) → Decided s next new l → new.variables ≡ s.variables
+same_variables s next new l step = step.stay.0 ∙ ap (λ x. x.variables) step.decision
+
+pub same_clauses : (s next new : Search) (l : ℤ) → Decided s next new l → new.clauses ≡ s.clauses
+same_clauses s next new l step = step.stay.1 ∙ ap (λ x. x.clauses) step.decision
+
+pub walk_on : (s next new : Search) (clause : List ℤ) (l : ℤ) → IsOver s.variables l → Decided s next new l → new.head ≡ length new.trail → All (Settled new.trail) new.clauses →
+    Walked s clause → Walked new (neg_ℤ l ∷ clause)
+walk_on s next new clause l over step propagated settled h =
     let within = grown_within s.clauses (s.trail ++ l ∷ []) new.trail (grown_from s next new l step) in
     record {
-      variables = step.stay.0 ∙ ap (λ x. x.variables) step.decision ∙ h.variables;
-      clauses = step.stay.1 ∙ ap (λ x. x.clauses) step.decision ∙ h.clauses;
       propagated = propagated;
       settled = settled;
       sound = step.sound;
-      over = All-cons (IsOver start.variables) (neg_ℤ l) clause (subst (λ n. IsOver n (neg_ℤ l)) h.variables (over_negated s.variables l over)) h.over;
+      over =
+          subst (λ n. All (IsOver n) (neg_ℤ l ∷ clause)) (sym (same_variables s next new l step))
+          (All-cons (IsOver s.variables) (neg_ℤ l) clause (over_negated s.variables l over) h.over);
       falses =
           within_cons new.trail (negations clause) (neg_ℤ (neg_ℤ l)) (ap (holds new.trail) (neg_ℤ-neg_ℤ l) ∙ within l (holds_last s.trail l))
           (λ k e. within k (holds_before s.trail l k (h.falses k e)));
@@ -119,37 +112,32 @@ false_clause trail c consistent falses = all_apart c (λ k held. held)
         (apart x (within x (or_left (int_eq x x) (holds some x) (same_test x x refl))))
         (all_apart some (λ k e. within k (or_right (int_eq k x) (holds some k) e)))
 
-conflict_reaches : (start s next new : Search) (clause : List ℤ) (l : ℤ) (end : Option ℕ) → is_some end ≡ true → Decided s next new l → IsEnd next new end → Walked start s clause →
-    Reaches start.clauses (negations (neg_ℤ l ∷ clause))
-conflict_reaches start s next new clause l None some step ended h = absurd (false≢true some)
-conflict_reaches start s next new clause l (Some at) some step ended h =
-    subst (λ cs. Reaches cs (negations (neg_ℤ l ∷ clause))) (step.stay.1 ∙ ap (λ x. x.clauses) step.decision ∙ h.clauses)
+conflict_reaches : (s next new : Search) (clause : List ℤ) (l : ℤ) (end : Option ℕ) → is_some end ≡ true → Decided s next new l → IsEnd next new end → Walked s clause →
+    Reaches s.clauses (negations (neg_ℤ l ∷ clause))
+conflict_reaches s next new clause l None some step ended h = absurd (false≢true some)
+conflict_reaches s next new clause l (Some at) some step ended h =
+    subst (λ cs. Reaches cs (negations (neg_ℤ l ∷ clause))) (same_clauses s next new l step)
     (chain_conflict new.clauses new.trail new.starts (negations (neg_ℤ l ∷ clause)) (get_or new.clauses at []) step.sound.chain (decided_from s next new l clause step h.decided)
     (contains_at new.clauses at ended.1) ended.2)
 
 -- a clause that became false gives one to learn
-pub walk_conflict : (start s next new : Search) (clause : List ℤ) (l : ℤ) (end : Option ℕ) → All (IsClauseOver start.variables) start.clauses → IsUndecided s l → is_some end ≡ true → Decided s next new l →
-    IsEnd next new end → Walked start s clause → IsLearnable start.variables start.clauses (neg_ℤ l ∷ clause)
-walk_conflict start s next new clause l end all undecided some step ended h =
+walk_conflict : (s next new : Search) (clause : List ℤ) (l : ℤ) (end : Option ℕ) → All (IsClauseOver s.variables) s.clauses → IsUndecided s l → is_some end ≡ true → Decided s next new l →
+    IsEnd next new end → Walked s clause → IsLearnable s.variables s.clauses (neg_ℤ l ∷ clause)
+walk_conflict s next new clause l end all undecided some step ended h =
     let within = grown_within s.clauses (s.trail ++ l ∷ []) new.trail (grown_from s next new l step) in
     let is_one : is_clause (neg_ℤ l ∷ clause) ≡ true =
     false_clause new.trail (neg_ℤ l ∷ clause) step.sound.consistent
     (within_cons new.trail (negations clause) (neg_ℤ (neg_ℤ l)) (ap (holds new.trail) (neg_ℤ-neg_ℤ l) ∙ within l (holds_last s.trail l))
     (λ k e. within k (holds_before s.trail l k (h.falses k e)))) in
     record {
-      over =
-          record {
-            clause = is_one;
-            over = All-cons (IsOver start.variables) (neg_ℤ l) clause (subst (λ n. IsOver n (neg_ℤ l)) h.variables (over_negated s.variables l undecided.over)) h.over;
-          };
+      over = record { clause = is_one; over = All-cons (IsOver s.variables) (neg_ℤ l) clause (over_negated s.variables l undecided.over) h.over };
       some = omega arith;
-      follows_it =
-          reaches-follows start.clauses (neg_ℤ l ∷ clause) (over-nonzero start.variables start.clauses all) is_one (conflict_reaches start s next new clause l end some step ended h);
+      follows_it = reaches-follows s.clauses (neg_ℤ l ∷ clause) (over-nonzero s.variables s.clauses all) is_one (conflict_reaches s next new clause l end some step ended h);
       first =
           record {
             made = s.trail;
             consistent = h.sound.consistent;
-            settled = subst (All (Settled s.trail)) h.clauses h.settled;
+            settled = h.settled;
             others =
                 λ k held other.
                 elim (or_cases (int_eq k (neg_ℤ l)) (holds clause k) held) [
@@ -160,11 +148,70 @@ walk_conflict start s next new clause l end all undecided some step ended h =
           };
     }
 
--- the state after a decision that led to no false clause
-pub walk_passes : (start s next new : Search) (clause : List ℤ) (l : ℤ) (end : Option ℕ) → is_some end ≡ false → IsUndecided s l → Decided s next new l → IsEnd next new end →
-    Walked start s clause → Walked start new (neg_ℤ l ∷ clause)
-walk_passes start s next new clause l None none undecided step ended h = walk_on start s next new clause l undecided.over step ended.0 ended.1 h
-walk_passes start s next new clause l (Some at) none undecided step ended h = absurd (true≢false none)
+-- where a decision led: to a state with no false clause, or to a clause to learn
+pub walk_step : (s next new : Search) (clause : List ℤ) (l : ℤ) (end : Option ℕ) → All (IsClauseOver s.variables) s.clauses → IsUndecided s l → Decided s next new l → IsEnd next new end →
+    Walked s clause → MatchOption end (Walked new (neg_ℤ l ∷ clause)) (λ at. IsLearnable s.variables s.clauses (neg_ℤ l ∷ clause))
+walk_step s next new clause l None all undecided step ended h = walk_on s next new clause l undecided.over step ended.0 ended.1 h
+walk_step s next new clause l (Some at) all undecided step ended h = walk_conflict s next new clause l (Some at) all undecided refl step ended h
+
+pub walk_led : {E : Type 0} (result : Result (Option ℕ) E) (s next new : Search) (clause items : List ℤ) (l : ℤ) → All (IsClauseOver s.variables) s.clauses → IsUndecided s l →
+    items ≡ neg_ℤ l ∷ clause → Decided s next new l → IfOk result (IsEnd next new) → Walked s clause →
+    IfOk result (λ end. MatchOption end (Walked new items) (λ at. IsLearnable s.variables s.clauses items))
+walk_led (Ok end) s next new clause items l all undecided is step ended h =
+    subst (λ xs. MatchOption end (Walked new xs) (λ at. IsLearnable s.variables s.clauses xs)) (sym is) (walk_step s next new clause l end all undecided step ended h)
+walk_led (Err e) s next new clause items l all undecided is step ended h = tt
+
+pub led_on : (end : Option ℕ) (P : Type 0) (Q : ℕ → Type 0) → is_some end ≡ false → MatchOption end P Q → P
+led_on None P Q none h = h
+led_on (Some at) P Q none h = absurd (true≢false none)
+
+pub led_here : (end : Option ℕ) (P : Type 0) (Q : Type 0) → is_some end ≡ true → MatchOption end P (λ at. Q) → Q
+led_here None P Q some h = absurd (false≢true some)
+led_here (Some at) P Q some h = h
+
+pub led_so : (end : Option ℕ) (P more : Type 0) (Q other : Type 0) → is_some end ≡ true → (Q → other) → MatchOption end P (λ at. Q) → MatchOption end more (λ at. other)
+led_so None P more Q other some so h = absurd (false≢true some)
+led_so (Some at) P more Q other some so h = so h
+
+-- a walk that goes on
+pub record Going (start s : Search) (items : List ℤ) : Type 0 where
+  pub variables : s.variables ≡ start.variables
+  pub clauses : s.clauses ≡ start.clauses
+  pub walked : Walked s items
+
+pub going_starts : (s : Search) (items : List ℤ) → Walked s items → Going s s items
+going_starts s items walked = record { variables = refl; clauses = refl; walked = walked }
+
+pub going_at : (start s t : Search) (items more : List ℤ) → s ≡ t → items ≡ more → Going start t more → Going start s items
+going_at start s t items more is_t is_more h = subst (λ x. Going start x items) (sym is_t) (subst (Going start t) (sym is_more) h)
+
+pub going_on : (start s new : Search) (items more : List ℤ) (end : Option ℕ) (Q : ℕ → Type 0) → is_some end ≡ false → (new.variables ≡ s.variables) × (new.clauses ≡ s.clauses) →
+    MatchOption end (Walked new more) Q → Going start s items → Going start new more
+going_on start s new items more end Q none alike led h =
+    record { variables = alike.0 ∙ h.variables; clauses = alike.1 ∙ h.clauses; walked = led_on end (Walked new more) Q none led }
+
+pub going_learnable : (start s : Search) (items clause : List ℤ) → Going start s items → IsLearnable s.variables s.clauses clause → IsLearnable start.variables start.clauses clause
+going_learnable start s items clause h learnable = subst (λ n. IsLearnable n start.clauses clause) h.variables (subst (λ cs. IsLearnable s.variables cs clause) h.clauses learnable)
+
+pub learnable_there : (s new : Search) (clause : List ℤ) → (new.variables ≡ s.variables) × (new.clauses ≡ s.clauses) → IsLearnable s.variables s.clauses clause → IsLearnable new.variables new.clauses clause
+learnable_there s new clause alike learnable =
+    subst (λ n. IsLearnable n new.clauses clause) (sym alike.0) (subst (λ cs. IsLearnable s.variables cs clause) (sym alike.1) learnable)
+
+pub going_ends : (start s new : Search) (items more : List ℤ) (end : Option ℕ) (P rest : Type 0) → is_some end ≡ true → MatchOption end P (λ at. IsLearnable s.variables s.clauses more) →
+    0 < length new.starts → Going start s items → MatchOption end rest (λ at. IsLearnable start.variables start.clauses more × (0 < length new.starts))
+going_ends start s new items more end P rest some led level h =
+    led_so end P rest (IsLearnable s.variables s.clauses more) (IsLearnable start.variables start.clauses more × (0 < length new.starts)) some
+    (λ learnable. (going_learnable start s items more h learnable, level)) led
+
+-- what was true stays true, and the decision is
+pub step_keeps : (s next new : Search) (l : ℤ) → Decided s next new l → AreWithin s.trail new.trail
+step_keeps s next new l step k e = grown_within s.clauses (s.trail ++ l ∷ []) new.trail (grown_from s next new l step) k (holds_before s.trail l k e)
+
+pub step_decides : (s next new : Search) (l : ℤ) → Decided s next new l → holds new.trail l ≡ true
+step_decides s next new l step = grown_within s.clauses (s.trail ++ l ∷ []) new.trail (grown_from s next new l step) l (holds_last s.trail l)
+
+pub step_level : (s next new : Search) (l : ℤ) → Decided s next new l → 0 < length new.starts
+step_level s next new l step = omega (arith, ap length (step.stay.2 ∙ ap (λ x. x.starts) step.decision), length-append s.starts (length s.trail ∷ []))
 
 -- the trail grows with each decision
 pub walk_longer : (s next new : Search) (l : ℤ) → Decided s next new l → length s.trail < length new.trail
@@ -173,14 +220,13 @@ walk_longer s next new l step =
 
 -- ---- variables that are true or false
 
-pub assigned_decided : (s next new : Search) (l : ℤ) (n : ℕ) → l ≡ neg_ℤ (pos (n + 1)) → Decided s next new l → AreAssignedTo s.trail n → AreAssignedTo new.trail (n + 1)
-assigned_decided s next new l n is step before =
-    let within = grown_within s.clauses (s.trail ++ l ∷ []) new.trail (grown_from s next new l step) in
-    assigned_more new.trail n (inr (ap (holds new.trail) (sym is) ∙ within l (holds_last s.trail l)))
+pub assigned_decided : (trail more : List ℤ) (l : ℤ) (n : ℕ) → l ≡ neg_ℤ (pos (n + 1)) → AreWithin trail more → holds more l ≡ true → AreAssignedTo trail n → AreAssignedTo more (n + 1)
+assigned_decided trail more l n is within here before =
+    assigned_more more n (inr (ap (holds more) (sym is) ∙ here))
     (λ v some inside.
     elim (before v some inside) [
-      | inl t ↦ inl (within (pos v) (holds_before s.trail l (pos v) t))
-      | inr f ↦ inr (within (neg_ℤ (pos v)) (holds_before s.trail l (neg_ℤ (pos v)) f))
+      | inl t ↦ inl (within (pos v) t)
+      | inr f ↦ inr (within (neg_ℤ (pos v)) f)
     ])
 
 pub assigned_found : (trail : List ℤ) (l : ℤ) (n : ℕ) → l ≡ neg_ℤ (pos (n + 1)) → (holds trail l ≡ true) ⊎ (holds trail (neg_ℤ l) ≡ true) → AreAssignedTo trail n → AreAssignedTo trail (n + 1)
@@ -193,13 +239,13 @@ assigned_found trail l n is found before =
     before
 
 -- all variables decided, and no clause false
-pub walk_model : (start s : Search) (clause : List ℤ) (values : List Bool) (n : ℕ) → All (IsClauseOver start.variables) start.clauses → start.variables ≤ n → AreAssignedTo s.trail n →
-    AreValues s values → Walked start s clause → IsModel values (record { variables = start.variables; clauses = start.clauses })
-walk_model start s clause values n all end assigned are h =
+pub walk_model : (start s : Search) (clause : List ℤ) (values : List Bool) → s.variables ≡ start.variables → s.clauses ≡ start.clauses → All (IsClauseOver start.variables) start.clauses →
+    AreAssigned s → AreValues s values → Walked s clause → IsModel values (record { variables = start.variables; clauses = start.clauses })
+walk_model start s clause values variables clauses all assigned are h =
     record {
-      each_variable = are.each ∙ h.variables;
+      each_variable = are.each ∙ variables;
       each_clause =
-          subst (λ cs. makes_all_true values cs ≡ true) h.clauses
-          (all_true s values s.clauses h.sound.consistent (λ v some inside. assigned v some (omega (arith, inside, h.variables, end))) are
-          (subst (λ m. All (IsClauseOver m) s.clauses) (sym h.variables) (subst (All (IsClauseOver start.variables)) (sym h.clauses) all)) h.settled);
+          subst (λ cs. makes_all_true values cs ≡ true) clauses
+          (all_true s values s.clauses h.sound.consistent assigned are
+          (subst (λ m. All (IsClauseOver m) s.clauses) (sym variables) (subst (All (IsClauseOver start.variables)) (sym clauses) all)) h.settled);
     }

@@ -3,3 +3,4 @@ pub mod Deciding
 pub mod Shortening
 pub mod Spending
 pub mod Loads
+pub mod Counting

@@ -35,7 +35,7 @@ apart_clause c apart = each c (λ k held. held)
         (ap not (apart x (within x (or_left (int_eq x x) (holds some x) (same_test x x refl)))))
         (each some (λ k e. within k (or_right (int_eq k x) (holds some k) e)))
 
-clause_apart : (c : List ℤ) (k : ℤ) → is_clause c ≡ true → holds c k ≡ true → holds c (neg_ℤ k) ≡ false
+pub clause_apart : (c : List ℤ) (k : ℤ) → is_clause c ≡ true → holds c k ≡ true → holds c (neg_ℤ k) ≡ false
 clause_apart c k clause held = not_true_back (holds c (neg_ℤ k)) (test_at (λ l. not (holds c (neg_ℤ l))) k c held clause)
 
 held_get : (c : List ℤ) (i : ℕ) → i < length c → holds c (get_or c i (pos 0)) ≡ true

@@ -26,10 +26,10 @@ use Rattle.vg_sat.specs.Learned.{first_of, LeavesOpen, LeavesFirst, IsLearnable,
 
 -- ---- literals of a list, counted or tested
 
-contains_held : (c : List ℤ) (l : ℤ) → Contains c l → holds c l ≡ true
+pub contains_held : (c : List ℤ) (l : ℤ) → Contains c l → holds c l ≡ true
 contains_held c l at = list_any_at (int_eq l) c at.0 l at.1 (same_test l (get_or c at.0 l) (sym at.2))
 
-held_contains : (c : List ℤ) (l : ℤ) → holds c l ≡ true → Contains c l
+pub held_contains : (c : List ℤ) (l : ℤ) → holds c l ≡ true → Contains c l
 held_contains [] l e = absurd (false≢true e)
 held_contains (x ∷ c) l e =
     elim (or_cases (int_eq l x) (holds c l) e) [

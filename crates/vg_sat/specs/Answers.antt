@@ -10,3 +10,9 @@ abbrev pub IsAnswer : ClauseSet → ℕ → Answer → Type 0
 IsAnswer set limit (Model values) = IsModel values set
 IsAnswer set limit (Refuted steps) = IsRefutation set.clauses steps
 IsAnswer set limit (Spent steps) = IsSpent set steps × (length steps ≡ limit)
+
+-- a model or a refutation
+abbrev pub IsDecided : Answer → Type 0
+IsDecided (Model values) = Unit {0}
+IsDecided (Refuted steps) = Unit {0}
+IsDecided (Spent steps) = ⊥

@@ -4,9 +4,12 @@
 mod answer;
 mod learning;
 mod memory;
+mod order;
+mod restarts;
 mod solver;
 #[cfg(test)]
 mod tests;
+mod tracing;
 mod walking;
 
 pub use answer::Answer;

@@ -8,8 +8,7 @@ use Rattle.vg_pcap.specs.Captures.{IsBadHeader}
 use Rattle.vg_pcap.specs.Captures as captures
 use Rattle.vg_pcap.specs.Frames.{Stream, HoldsStream}
 use Rattle.vg_pcap.specs.Arrivals.{Arrival, stream_at, ComeUpTo}
-use Rattle.vg_pcap.specs.Reader.{ComesIn, HasBadHeader, fault_of}
-use Rattle.vg_pcap.specs.Merge.{AllComeIn, IsFirstBadHeader}
+use Rattle.vg_pcap.specs.Incoming.{ComesIn, HasBadHeader, fault_of, AllComeIn, IsFirstBadHeader}
 use Rattle.vg_pcap.proofs.Laws.{HoldsStream-same, IsBadHeader-none, IsBadHeader-same}
 use Rattle.vg_pcap.proofs.Orders.{AllCome-same, AllCome-whole, ComeUpTo-same, AllCome-most, ComeUpTo-most}
 use Rattle.vg_replay.specs.Replays.{AreAll, AreUpTo, AreTooMany}

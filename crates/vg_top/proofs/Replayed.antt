@@ -9,7 +9,7 @@ use Rattle.vg_pcap.specs.declared.faults.CaptureFault.TheVariants as faults
 use Rattle.vg_pcap.specs.declared.faults.HeaderField.{HeaderField}
 use Rattle.vg_pcap.specs.Arrivals.{Arrival}
 use Rattle.vg_pcap.specs.Frames.{Stream}
-use Rattle.vg_pcap.specs.Merge.{AllComeIn, IsFirstBadHeader}
+use Rattle.vg_pcap.specs.Incoming.{AllComeIn, IsFirstBadHeader}
 use Rattle.vg_replay.specs.declared.stop.RunStop.{RunStop}
 use Rattle.vg_replay.specs.declared.stop.RunStop.TheVariants as stops
 use Rattle.vg_replay.specs.declared.totals.Totals.{Totals}
@@ -161,7 +161,7 @@ module _ {s t : Disk} (u : Disk) {n : Files} (f : Functions) (x : ReadsFunctions
   replay_stops stops.Memory keeps y =
       (unwritten y.0 y.1.write_faults, y.1.read_faults ∙ x.reads.same)
 
-  pub replay_done : (r : Report) → IsPathCount f.c f.spec r.paths → IsMostSteps f.c f.spec.ports r.steps → (IsTrue t.tells_made → KeepsOthers t u (replay_files n)) →
+  pub replay_done : (r : Report) → IsPathCount f.c f.spec f.spec.ports r.paths → IsMostSteps f.c f.spec.ports r.steps → (IsTrue t.tells_made → KeepsOthers t u (replay_files n)) →
       HasReplayed t u (replay_files n) f.c r.totals → HasRun s u n r
   replay_done r paths steps keeps y = record {
     c = f.c;

@@ -7,18 +7,18 @@ use Rattle.vg_command.proofs.Decoding as commands
 use Rattle.vg_command.specs.Commands.{Files, Run}
 use Rattle.vg_core.specs.declared.small.Small.{Small}
 use Rattle.vg_core.specs.declared.small.Lang.TheVariants.{C, Spec}
+use Rattle.vg_core.specs.Meaning.{SendsBelow}
 use Rattle.vg_core.specs.Spelling.{Spells, SpellsNone}
 use Rattle.vg_core.proofs.SpellingLaws.{Spells-unique}
 use Rattle.vg_pcap.specs.declared.faults.HeaderField.{HeaderField}
 use Rattle.vg_pcap.specs.Arrivals.{Arrival}
-use Rattle.vg_pcap.specs.Merge.{IsFirstBadHeader}
-use Rattle.vg_replay.specs.Replays.{SendsBelow, AreAll, AreUpTo, AreTooMany}
-use Rattle.vg_top.specs.declared.limits.TheConstants.{MAX_TEXT}
+use Rattle.vg_pcap.specs.Incoming.{IsFirstBadHeader}
+use Rattle.vg_replay.specs.Replays.{AreAll, AreUpTo, AreTooMany}
 use Rattle.vg_top.specs.declared.stop.Damage.{Damage}
 use Rattle.vg_top.specs.declared.stop.Stop.TheVariants.{Wrong, Usage, Header, Record, Read, Write, Memory, Limit, Frames, NotBuilt}
 use Rattle.vg_top.specs.declared.stop.Unbuilt.TheVariants.{Words, Text}
 use Rattle.vg_top.specs.Agreement.{Agree, IsFirstDifference}
-use Rattle.vg_top.specs.Endings.{Ending, Stopped, Done, EndsIn, ComesTo, IsLonger, IsWithin}
+use Rattle.vg_top.specs.Endings.{Ending, Stopped, Done, EndsIn, ComesTo, most_text, IsLonger, IsWithin}
 use Rattle.vg_top.specs.Records.{fault_of_record}
 use Rattle.vg_top.specs.Runs.{IsRun, IsUnbuilt}
 use Rattle.vg_top.proofs.Captures.{same_header_port, same_header_field, header_all, header_up_to, header_many, same_all, all_up_to, all_many, same_up_to, up_to_many}
@@ -57,12 +57,12 @@ AtC s n c_text spec_text e =
 -- the specification is too long, or it isn't
 abbrev AtLongSpec : Disk → Files → List ℕ → Ending → Type 0
 AtLongSpec s n c_text e =
-    ((e ≡ Stopped (Limit Spec)) × IsLonger s n.spec MAX_TEXT) ⊎ ((spec_text : List ℕ) × IsWithin s n.spec MAX_TEXT spec_text × AtC s n c_text spec_text e)
+    ((e ≡ Stopped (Limit Spec)) × IsLonger s n.spec most_text) ⊎ ((spec_text : List ℕ) × IsWithin s n.spec most_text spec_text × AtC s n c_text spec_text e)
 
 -- the C text is too long, or it isn't
 abbrev AtLongC : Disk → Files → Ending → Type 0
 AtLongC s n e =
-    ((e ≡ Stopped (Limit C)) × IsLonger s n.c MAX_TEXT) ⊎ ((c_text : List ℕ) × IsWithin s n.c MAX_TEXT c_text × AtLongSpec s n c_text e)
+    ((e ≡ Stopped (Limit C)) × IsLonger s n.c most_text) ⊎ ((c_text : List ℕ) × IsWithin s n.c most_text c_text × AtLongSpec s n c_text e)
 
 decided : (s : Disk) (n : Files) (e : Ending) → IsTrue s.tells_held → EndsIn s n e → AtLongC s n e
 decided s n (Stopped (Limit C)) told x = inl (refl, x)

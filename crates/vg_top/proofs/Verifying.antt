@@ -1,11 +1,13 @@
 -- Why no two functions that agree were read from two texts.
-use Rattle.std.proofs.Common.{inl, inr, ℕ, List, length, Result, Ok, Err, arith}
+use Rattle.std.proofs.Common.{◌≡◌, inl, inr, ℕ, List, length, Result, Ok, Err, arith}
+use Rattle.std.specs.Result.{IsErrAnd}
 use Rattle.vg_base.specs.Files.{Disk}
 use Rattle.vg_command.specs.Commands.{Files}
 use Rattle.vg_core.specs.declared.small.Small.{Small}
 use Rattle.vg_core.specs.declared.small.Lang.TheVariants.{C, Spec}
 use Rattle.vg_core.specs.Spelling.{Spells}
-use Rattle.vg_replay.specs.Replays.{IsOfText}
+use Rattle.vg_core.proofs.SpellingLaws.{Spells-steps}
+use Rattle.vg_replay.specs.Replays.{TakesFewSteps}
 use Rattle.vg_top.specs.declared.setup.Functions.{Functions}
 use Rattle.vg_top.specs.declared.setup.Texts.{Texts}
 use Rattle.vg_top.specs.declared.stop.Stop.{Stop}
@@ -22,6 +24,11 @@ pub stops_at_spec : (c_text spec_text : List ℕ) (ports : ℕ) (c : Small) (sto
 stops_at_spec c_text spec_text ports c stop spells (inl e) = rw e tt
 stops_at_spec c_text spec_text ports c stop spells (inr none) = rw none.0 (c, spells, none.1)
 
+-- a stop is passed on
+pub stop_passed : {c_text spec_text : List ℕ} {count : ℕ} (r : Result Functions Stop) (stop : Stop) → IsErrAnd r (λ e. e ≡ stop) → StopsVerifying c_text spec_text count stop → Verifies c_text spec_text count r
+stop_passed (Ok f) stop is stops = absurd is
+stop_passed (Err e) stop is stops = record { spelled = tt; below = tt; ports = tt; agree = tt; stops = rw is stops }
+
 -- functions that were read from the texts of a run
 pub are_verified : {s : Disk} {n : Files} {c_text spec_text : List ℕ} (f : Functions) → AreTexts s n c_text spec_text → Verifies c_text spec_text (length n.ins) (Ok f) → AreVerified s n f.c f.spec
 are_verified {c_text = c_text} {spec_text = spec_text} f texts v = record {
@@ -33,8 +40,9 @@ are_verified {c_text = c_text} {spec_text = spec_text} f texts v = record {
   agree = v.agree;
 }
 
-pub is_of_text : {s : Disk} {n : Files} {c_text spec_text : List ℕ} (f : Functions) → AreTexts s n c_text spec_text → Verifies c_text spec_text (length n.ins) (Ok f) → IsOfText f.c
-is_of_text {c_text = c_text} f texts v = (c_text, omega (arith, texts.c.short), v.spelled.c_spells)
+-- no frame takes more steps than the text has bytes
+pub takes_few_steps : {s : Disk} {n : Files} {c_text spec_text : List ℕ} (f : Functions) → AreTexts s n c_text spec_text → Verifies c_text spec_text (length n.ins) (Ok f) → TakesFewSteps f.c
+takes_few_steps {c_text = c_text} f texts v = λ port. omega (arith, texts.c.short, Spells-steps C c_text f.c port v.spelled.c_spells)
 
 -- why none were read
 pub stops_for : {s : Disk} (t : Disk) {n : Files} {c_text spec_text : List ℕ} (stop : Stop) → AreTexts s n c_text spec_text → StopsVerifying c_text spec_text (length n.ins) stop → StopsFor s t n stop
@@ -78,12 +86,12 @@ pub reads_functions : {s t : Disk} {n : Files} (texts : Texts) (r : Result Funct
 reads_functions texts (Ok f) x v = record {
   reads = record { keeps = x.reads.keeps; ids = x.reads.ids; same = x.reads.same; same_else = tt };
   verified = are_verified f x.texts v;
-  text = is_of_text f x.texts v;
+  steps = takes_few_steps f x.texts v;
   stops = tt;
 }
 reads_functions {t = t} texts (Err stop) x v = record {
   reads = record { keeps = x.reads.keeps; ids = x.reads.ids; same = tt; same_else = λ other. x.reads.same };
   verified = tt;
-  text = tt;
+  steps = tt;
   stops = stops_for t stop x.texts v.stops;
 }

@@ -1,5 +1,5 @@
 -- What a C text and its specification have to agree on.
-use Rattle.std.specs.Prelude.{ℕ, zero, suc, ◌+◌, ◌≡◌, ◌≢◌, ◌<◌, ◌≤◌, ◌⊎◌, List, Bool}
+use Rattle.std.specs.Prelude.{ℕ, ◌≡◌, ◌≢◌, ◌<◌, ◌≤◌, List, length, Bool, All, AllPairs, Contains}
 use Rattle.vg_core.specs.declared.small.Small.{Small}
 use Rattle.vg_core.specs.Meaning.{steps_at, sides_at}
 use Rattle.vg_replay.specs.Outputs.{verdict_by}
@@ -23,20 +23,13 @@ pub record IsFirstDifference (c spec : Small) (port : ℕ) : Type 0 where
 abbrev pub sides : Small → Small → ℕ → List Bool × List Bool
 sides c spec port = (sides_at c.tests port, sides_at spec.tests port)
 
--- the frames of a port go another way through the tests of both texts than those of each lower port
-abbrev pub GoesNewWay : Small → Small → ℕ → Type 0
-GoesNewWay c spec port = (lower : ℕ) → lower < port → sides c spec lower ≢ sides c spec port
-
--- how many ways the frames of the ports below one take: that of each port that goes a new way
-abbrev pub CountsWays : Small → Small → ℕ → ℕ → Type 0
-CountsWays c spec zero count = count ≡ 0
-CountsWays c spec (suc port) count =
-    (before : ℕ) × CountsWays c spec port before
-    × ((GoesNewWay c spec port × (count ≡ before + 1)) ⊎ ((GoesNewWay c spec port → ⊥) × (count ≡ before)))
-
--- how many ways the frames of all ports take
-abbrev pub IsPathCount : Small → Small → ℕ → Type 0
-IsPathCount c spec count = CountsWays c spec spec.ports count
+-- how many different ways frames take through the tests of both texts, at so many ports: there is a list of these ways, each of them once
+pub record IsPathCount (c spec : Small) (ports count : ℕ) : Type 0 where
+  pub ways : List (List Bool × List Bool)
+  pub different : AllPairs ◌≢◌ ways
+  pub each : (port : ℕ) → port < ports → Contains ways (sides c spec port)
+  pub taken : All (λ way. (port : ℕ) × (port < ports) × (sides c spec port ≡ way)) ways
+  pub count_is : count ≡ length ways
 
 -- the most steps that a frame takes, of so many ports
 pub record IsMostSteps (c : Small) (ports : ℕ) (most : ℕ) : Type 0 where

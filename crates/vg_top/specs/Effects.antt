@@ -22,8 +22,8 @@ pub record Unwritten (s t : Disk) : Type 0 where
   pub made : t.made ≡ s.made
   pub write_faults : t.write_faults ≡ s.write_faults
 
--- The replay of these words began, through the functions that the files hold: each output holds no more than first bytes of what it should of
--- first frames, the log no further than the captures, and no other file was changed.
+-- The replay of these words began, through the functions that the files hold: each output was left as it was or holds no more than first bytes of what it
+-- should of first frames, the log no further than the captures, and no other file was changed.
 pub record BeganReplay (words : List (List ℕ)) (s t : Disk) : Type 0 where
   pub names : Files
   pub c : Small
@@ -36,7 +36,7 @@ pub record BeganReplay (words : List (List ℕ)) (s t : Disk) : Type 0 where
 -- ---- a run that was done
 
 -- The run was done: the two functions agree, the frames are all that came in, the captures are those of the specification, the log is that of the C
--- function, no frame took more steps than are reported, the reported totals are those of the log, and no fault was counted.
+-- function, no frame took more steps than are reported, the reported totals are those of the log, and no fault was counted but in closing what was read.
 pub record Finished (words : List (List ℕ)) (s t : Disk) (report : List ℕ) : Type 0 where
   pub names : Files
   pub c : Small
@@ -50,7 +50,7 @@ pub record Finished (words : List (List ℕ)) (s t : Disk) (report : List ℕ) :
   pub log : IsTrue s.tells_made → t.made names.log ≡ Some (log_of (handled_by c frames))
   pub others : IsTrue s.tells_made → KeepsOthers s t (replay_files names)
   pub paths : ℕ
-  pub counted : IsPathCount c spec paths
+  pub counted : IsPathCount c spec spec.ports paths
   pub steps : ℕ
   pub most : IsMostSteps c spec.ports steps
   pub bounded : All (λ h. h.steps ≤ steps) (handled_by c frames)
@@ -127,11 +127,6 @@ pub record FailsSaying (u v : Flow) (text : List ℕ) : Type 0 where
   pub rose : Rose u.faults v.faults
 
 -- ---- both
-
--- no fault was counted at reading or printing
-pub record IsQuiet (s t : Disk) (u v : Flow) : Type 0 where
-  pub read_faults : t.read_faults ≡ s.read_faults
-  pub faults : v.faults ≡ u.faults
 
 -- the run was done, and its report was printed
 pub record IsDone (words : List (List ℕ)) (s t : Disk) (u v : Flow) : Type 0 where

@@ -4,12 +4,12 @@ use Rattle.vg_base.specs.Files.{Disk}
 use Rattle.vg_command.specs.Commands.{Files, SpellsNone}
 use Rattle.vg_core.specs.declared.small.Small.{Small}
 use Rattle.vg_core.specs.declared.small.Lang.TheVariants.{C, Spec}
+use Rattle.vg_core.specs.Meaning.{SendsBelow}
 use Rattle.vg_core.specs.Spelling as small
 use Rattle.vg_core.specs.Spelling.{Spells}
 use Rattle.vg_pcap.specs.Arrivals.{Arrival}
-use Rattle.vg_pcap.specs.Merge.{IsFirstBadHeader}
-use Rattle.vg_replay.specs.Replays.{SendsBelow, AreAll, AreUpTo, AreTooMany}
-use Rattle.vg_top.specs.declared.limits.TheConstants.{MAX_TEXT}
+use Rattle.vg_pcap.specs.Incoming.{IsFirstBadHeader}
+use Rattle.vg_replay.specs.Replays.{AreAll, AreUpTo, AreTooMany}
 use Rattle.vg_top.specs.declared.stop.Stop.{Stop}
 use Rattle.vg_top.specs.declared.stop.Stop.TheVariants.{Wrong, Usage, Header, Record, Read, Write, Memory, Limit, Frames, NotBuilt}
 use Rattle.vg_top.specs.declared.stop.Unbuilt.TheVariants.{Words, Text}
@@ -23,6 +23,10 @@ pub data Ending : Type 0 where
   Done : Small → Small → List Arrival → Ending
 
 -- ---- files
+
+-- the most bytes of a C text or a specification
+abbrev pub most_text : ℕ
+most_text = 1048576
 
 -- the bytes that were read of a file: those that it holds, where this is told
 abbrev pub IsRead : Disk → List ℕ → List ℕ → Type 0
@@ -41,8 +45,8 @@ pub record IsWithin (s : Disk) (name : List ℕ) (limit : ℕ) (bytes : List ℕ
 
 -- the two texts
 pub record AreTexts (s : Disk) (n : Files) (c_text spec_text : List ℕ) : Type 0 where
-  pub c : IsWithin s n.c MAX_TEXT c_text
-  pub spec : IsWithin s n.spec MAX_TEXT spec_text
+  pub c : IsWithin s n.c most_text c_text
+  pub spec : IsWithin s n.spec most_text spec_text
 
 -- the two functions that the texts spell
 pub record AreFunctions (s : Disk) (n : Files) (c spec : Small) : Type 0 where
@@ -55,8 +59,8 @@ pub record AreFunctions (s : Disk) (n : Files) (c spec : Small) : Type 0 where
 -- the specification is too long, and the C text isn't
 pub record IsLongSpec (s : Disk) (n : Files) : Type 0 where
   pub c_text : List ℕ
-  pub c : IsWithin s n.c MAX_TEXT c_text
-  pub spec : IsLonger s n.spec MAX_TEXT
+  pub c : IsWithin s n.c most_text c_text
+  pub spec : IsLonger s n.spec most_text
 
 -- the C text spells no small function
 pub record IsOtherC (s : Disk) (n : Files) : Type 0 where
@@ -121,7 +125,7 @@ pub record IsReplayed (s : Disk) (n : Files) (Holds : Type 0) : Type 0 where
 
 -- what a run on these files comes to: a line for each way to end
 abbrev pub EndsIn : Disk → Files → Ending → Type 0
-EndsIn s n (Stopped (Limit C)) = IsLonger s n.c MAX_TEXT
+EndsIn s n (Stopped (Limit C)) = IsLonger s n.c most_text
 EndsIn s n (Stopped (Limit Spec)) = IsLongSpec s n
 EndsIn s n (Stopped (NotBuilt (Text C))) = IsOtherC s n ⊎ IsBeyond s n
 EndsIn s n (Stopped (NotBuilt (Text Spec))) = IsOtherSpec s n

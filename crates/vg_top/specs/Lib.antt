@@ -8,3 +8,4 @@ pub mod Effects
 pub mod Setup
 pub mod Running
 pub mod Stops
+pub mod Ways

@@ -20,7 +20,7 @@ pub record HasRun (s t : Disk) (n : Files) (r : Report) : Type 0 where
   pub c : Small
   pub spec : Small
   pub verified : AreVerified s n c spec
-  pub paths : IsPathCount c spec r.paths
+  pub paths : IsPathCount c spec spec.ports r.paths
   pub steps : IsMostSteps c spec.ports r.steps
   pub replayed : HasReplayed s t (replay_files n) c r.totals
   pub others : IsTrue s.tells_made → KeepsOthers s t (replay_files n)

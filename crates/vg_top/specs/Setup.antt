@@ -6,15 +6,16 @@ use Rattle.vg_command.specs.Commands.{Files}
 use Rattle.vg_core.specs.declared.small.Small.{Small}
 use Rattle.vg_core.specs.declared.small.Lang.{Lang}
 use Rattle.vg_core.specs.declared.small.Lang.TheVariants.{C, Spec}
+use Rattle.vg_core.specs.Meaning.{SendsBelow}
 use Rattle.vg_core.specs.Spelling.{Spells, SpellsNone}
-use Rattle.vg_replay.specs.Replays.{SendsBelow, IsOfText}
+use Rattle.vg_replay.specs.Replays.{TakesFewSteps}
 use Rattle.vg_top.specs.declared.setup.Texts.{Texts}
 use Rattle.vg_top.specs.declared.setup.Functions.{Functions}
 use Rattle.vg_top.specs.declared.stop.Stop.{Stop}
 use Rattle.vg_top.specs.declared.stop.Stop.TheVariants.{Wrong, Usage, Header, Record, Read, Write, Memory, Limit, Frames, NotBuilt}
 use Rattle.vg_top.specs.declared.stop.Unbuilt.TheVariants.{Text}
 use Rattle.vg_top.specs.Agreement.{Agree, IsFirstDifference}
-use Rattle.vg_top.specs.Endings.{Stopped, EndsIn, IsLonger, IsWithin, AreTexts, AreVerified}
+use Rattle.vg_top.specs.Endings.{Stopped, EndsIn, most_text, IsLonger, IsWithin, AreTexts, AreVerified}
 
 -- files were only read; the count of faults at reading changed only where `Read` is answered
 pub record OnlyReads {A : Type 0} (s t : Disk) (result : Result A Stop) : Type 0 where
@@ -24,15 +25,15 @@ pub record OnlyReads {A : Type 0} (s t : Disk) (result : Result A Stop) : Type 0
   pub same_else : IfErr result (λ stop. stop ≢ Read → t.read_faults ≡ s.read_faults)
 
 -- why a text wasn't loaded
-abbrev pub StopsLoading : Disk → Disk → List ℕ → ℕ → Stop → Stop → Type 0
-StopsLoading s t name limit too_long stop =
-    ((stop ≡ too_long) × IsLonger s name limit) ⊎ (((stop ≡ Read) × Rose s.read_faults t.read_faults) ⊎ (stop ≡ Memory))
+abbrev pub StopsLoading : Disk → Disk → List ℕ → Lang → Stop → Type 0
+StopsLoading s t name lang stop =
+    ((stop ≡ Limit lang) × IsLonger s name most_text) ⊎ (((stop ≡ Read) × Rose s.read_faults t.read_faults) ⊎ (stop ≡ Memory))
 
 -- a text was loaded
-pub record LoadsWithin (s t : Disk) (name : List ℕ) (limit : ℕ) (too_long : Stop) (result : Result (Vec ℕ Global) Stop) : Type 0 where
+pub record LoadsText (s t : Disk) (name : List ℕ) (lang : Lang) (result : Result (Vec ℕ Global) Stop) : Type 0 where
   pub reads : OnlyReads s t result
-  pub loaded : IfOk result (λ v. IsWithin s name limit v.items)
-  pub stops : IfErr result (StopsLoading s t name limit too_long)
+  pub loaded : IfOk result (λ v. IsWithin s name most_text v.items)
+  pub stops : IfErr result (StopsLoading s t name lang)
 
 -- why a run on these files stopped before it opened a capture
 abbrev pub StopsFor : Disk → Disk → Files → Stop → Type 0
@@ -57,7 +58,7 @@ pub record LoadsTexts (s t : Disk) (n : Files) (result : Result Texts Stop) : Ty
 pub record ReadsFunctions (s t : Disk) (n : Files) (result : Result Functions Stop) : Type 0 where
   pub reads : OnlyReads s t result
   pub verified : IfOk result (λ f. AreVerified s n f.c f.spec)
-  pub text : IfOk result (λ f. IsOfText f.c)
+  pub steps : IfOk result (λ f. TakesFewSteps f.c)
   pub stops : IfErr result (StopsFor s t n)
 
 -- why no function was read from a text

@@ -1,16 +1,9 @@
 //! Whether a C function and its specification agree.
-ghost use Rattle.std.specs.Prelude.{◌≡◌, ◌<◌, ◌↔◌, IsTrue, IfSome, IfNone};
-ghost use Rattle.vg_replay.specs.Replays.{SendsBelow};
-ghost use Rattle.vg_top.specs.Agreement.{Agree, IsFirstDifference, GoesNewWay, IsPathCount, IsMostSteps};
+ghost use Rattle.std.specs.Prelude.{◌≡◌, ◌<◌, IsTrue, false, IfSome, IfNone};
+ghost use Rattle.vg_top.specs.Agreement.{Agree, IsFirstDifference, IsPathCount, IsMostSteps};
+ghost use Rattle.vg_top.specs.Ways.{GoesNewWay, GoesOldWay};
 
 use vg_core::Small;
-
-/// Whether it sends frames to ports below `ports` alone.
-pub fn sends_below(f: &Small, ports: u16) -> bool
-    ensures { IsTrue result ↔ SendsBelow ports f.now }
-{
-    f.last < ports && f.tests.as_slice().iter().all(|t| t.value < ports)
-}
 
 /// The least port at which they give different verdicts.
 pub fn first_difference(c: &Small, spec: &Small) -> Option<u16>
@@ -27,7 +20,8 @@ pub fn first_difference(c: &Small, spec: &Small) -> Option<u16>
 
 // Whether the frames of a port take other sides at the tests of both than those of each lower port.
 fn goes_new_way(c: &Small, spec: &Small, port: u16) -> bool
-    ensures { IsTrue result ↔ GoesNewWay c.now spec.now port }
+    ensures new { IsTrue result → GoesNewWay c.now spec.now port }
+    ensures old { result ≡ false → GoesOldWay c.now spec.now port }
 {
     for lower in 0..port {
         if c.same_sides(lower, port) && spec.same_sides(lower, port) {
@@ -37,9 +31,9 @@ fn goes_new_way(c: &Small, spec: &Small, port: u16) -> bool
     true
 }
 
-/// How many ways the frames of all ports take through the tests of both.
+/// How many different ways the frames of all ports take through the tests of both.
 pub fn path_count(c: &Small, spec: &Small) -> u32
-    ensures { IsPathCount c.now spec.now result }
+    ensures { IsPathCount c.now spec.now spec.now.ports result }
 {
     let mut count = 0;
     for port in 0..spec.ports {

@@ -9,7 +9,6 @@ mod setup;
 mod stop;
 mod top;
 
-pub use report::Report;
 pub use stop::{Damage, Stop, Unbuilt};
 pub use top::{Status, refuse, run};
 

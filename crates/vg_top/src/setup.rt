@@ -1,10 +1,10 @@
 //! Reading what a run needs, and verifying it.
-ghost use Rattle.std.specs.Prelude.{◌≢◌, ◌<◌, ◌^◌, length, IfOk, IfErr};
+ghost use Rattle.std.specs.Prelude.{◌<◌, ◌^◌, length, IfOk, IfErr};
 ghost use Rattle.vg_command.specs.View.{files_of};
 ghost use Rattle.vg_core.specs.Spelling.{Spells};
-ghost use Rattle.vg_top.specs.Setup.{LoadsWithin, LoadsTexts, StopsReading, Verifies, ReadsFunctions};
+ghost use Rattle.vg_top.specs.Setup.{LoadsText, LoadsTexts, StopsReading, Verifies, ReadsFunctions};
 
-use crate::agreement::{first_difference, sends_below};
+use crate::agreement::first_difference;
 use crate::limits::MAX_TEXT;
 use crate::stop::{Stop, Unbuilt};
 use std::alloc::Global;
@@ -26,22 +26,20 @@ pub struct Functions {
     pub spec: Small,
 }
 
-// The bytes of a text. Where they are more than `limit`, the run stops for the reason `too_long`.
-fn load_within<F: Files>(
+// The bytes of a text in this language.
+fn load_text<F: Files>(
     alloc: Global,
     files: &mut F,
     name: &str,
-    limit: u64,
-    too_long: Stop,
+    lang: Lang,
 ) -> Result<Vec<u8>, Stop>
-    requires room { (F.disk files.old).open_count < MAX_OPEN }
-    requires no_fault { too_long ≢ Stop.Read }
-    ensures { LoadsWithin (F.disk files.old) (F.disk files.new) name.now limit too_long result }
+    requires { (F.disk files.old).open_count < MAX_OPEN }
+    ensures { LoadsText (F.disk files.old) (F.disk files.new) name.now lang result }
 {
-    match load(alloc, files, name, limit) {
+    match load(alloc, files, name, MAX_TEXT) {
         Ok(bytes) => Ok(bytes),
         Err(LoadFault::Read) => Err(Stop::Read),
-        Err(LoadFault::TooLong) => Err(too_long),
+        Err(LoadFault::TooLong) => Err(Stop::Limit(lang)),
         Err(LoadFault::Memory) => Err(Stop::Memory),
     }
 }
@@ -51,14 +49,9 @@ fn load_texts<F: Files>(alloc: Global, files: &mut F, names: &FileNames<'_>) -> 
     requires { (F.disk files.old).open_count < MAX_OPEN }
     ensures { LoadsTexts (F.disk files.old) (F.disk files.new) (files_of names.now) result }
 {
-    let c = match load_within(alloc, files, names.c, MAX_TEXT, Stop::Limit(Lang::C)) {
-        Ok(c) => c,
-        Err(stop) => return Err(stop),
-    };
-    match load_within(alloc, files, names.spec, MAX_TEXT, Stop::Limit(Lang::Spec)) {
-        Ok(spec) => Ok(Texts { c, spec }),
-        Err(stop) => Err(stop),
-    }
+    let c = load_text(alloc, files, names.c, Lang::C)?;
+    let spec = load_text(alloc, files, names.spec, Lang::Spec)?;
+    Ok(Texts { c, spec })
 }
 
 // The function that a text spells.
@@ -80,15 +73,9 @@ fn functions_in(alloc: Global, texts: &Texts, ports: usize) -> Result<Functions,
     requires spec { length texts.now.spec.items < 2 ^ 31 }
     ensures { Verifies texts.now.c.items texts.now.spec.items ports result }
 {
-    let c = match read_function(alloc, &texts.c, Lang::C) {
-        Ok(c) => c,
-        Err(stop) => return Err(stop),
-    };
-    let spec = match read_function(alloc, &texts.spec, Lang::Spec) {
-        Ok(spec) => spec,
-        Err(stop) => return Err(stop),
-    };
-    if !sends_below(&c, spec.ports) {
+    let c = read_function(alloc, &texts.c, Lang::C)?;
+    let spec = read_function(alloc, &texts.spec, Lang::Spec)?;
+    if !c.sends_below(spec.ports) {
         return Err(Stop::NotBuilt(Unbuilt::Text(Lang::C)));
     }
     if ports != spec.ports as usize {
@@ -109,8 +96,6 @@ pub fn read_functions<F: Files>(
     requires { (F.disk files.old).open_count < MAX_OPEN }
     ensures { ReadsFunctions (F.disk files.old) (F.disk files.new) (files_of names.now) result }
 {
-    match load_texts(alloc, files, names) {
-        Ok(texts) => functions_in(alloc, &texts, names.ins.len()),
-        Err(stop) => Err(stop),
-    }
+    let texts = load_texts(alloc, files, names)?;
+    functions_in(alloc, &texts, names.ins.len())
 }

@@ -1,3 +1,6 @@
+ghost use Rattle.std.specs.Prelude.{◌≡◌, IfOk};
+ghost use Rattle.vg_base.specs.Memory.{disk_of};
+
 use super::*;
 use std::alloc::{AllocError, Global};
 use std::test::Fail;
@@ -63,7 +66,27 @@ fn words_of(alloc: Global, line: &str) -> Result<Vec<String>, AllocError> {
     Ok(words)
 }
 
-// Runs a line of words on these two texts and captures, where the file calls of these numbers fail. No call has number 0.
+// Files with these two texts and captures, where the call of this number fails. No call has number 0.
+fn files_of(
+    alloc: Global,
+    texts: (&[u8], &[u8]),
+    captures: (Vec<u8>, Vec<u8>),
+    fails: u64,
+) -> Result<MemFiles, Fail>
+    ensures { IfOk result (λ m. (disk_of m).open_count ≡ 0) }
+{
+    let mut held = Vec::new(alloc);
+    let c = Vec::from_slice(alloc, texts.0)?;
+    let spec = Vec::from_slice(alloc, texts.1)?;
+    held.push(named(alloc, "swap.c", c)?)?;
+    held.push(named(alloc, "swap.spec", spec)?)?;
+    held.push(named(alloc, "in0", captures.0)?)?;
+    held.push(named(alloc, "in1", captures.1)?)?;
+    let files = MemFiles::new(alloc, held, 8, 1000, Vec::from_slice(alloc, &[fails])?)?;
+    Ok(files)
+}
+
+// Runs a line of words on these two texts and captures, where the file call of this number fails.
 fn ran(
     alloc: Global,
     texts: (&str, &str),
@@ -71,14 +94,8 @@ fn ran(
     line: &str,
     fails: u64,
 ) -> Result<(Status, MemFiles, MemSink), Fail> {
-    let mut held = Vec::new(alloc);
-    let c = Vec::from_slice(alloc, texts.0.as_bytes())?;
-    let spec = Vec::from_slice(alloc, texts.1.as_bytes())?;
-    held.push(named(alloc, "swap.c", c)?)?;
-    held.push(named(alloc, "swap.spec", spec)?)?;
-    held.push(named(alloc, "in0", captures.0)?)?;
-    held.push(named(alloc, "in1", captures.1)?)?;
-    let mut files = MemFiles::new(alloc, held, 8, 1000, Vec::from_slice(alloc, &[fails])?)?;
+    let texts = (texts.0.as_bytes(), texts.1.as_bytes());
+    let mut files = files_of(alloc, texts, captures, fails)?;
     let mut out = MemSink::new(alloc, 1000, Vec::new(alloc))?;
     let words = words_of(alloc, line)?;
     let status = run(alloc, words.as_slice(), &mut files, &mut out);
@@ -314,7 +331,34 @@ fn refusals_create_nothing(rt: HostRuntime) -> Result<(), Fail> {
         let (got, files, out) = ran_one(alloc, texts, line, fails)?;
         assert_eq!(rt; got, Status(status), "{line}");
         assert_eq!(rt; out.written(), printed.as_bytes(), "{line}");
-        assert!(rt; files.written("out0").is_none(), "{line}");
+        for name in ["out0", "out1", "log"] {
+            assert!(rt; files.written(name).is_none(), "{line}");
+        }
+    }
+    Ok(())
+}
+
+#[test]
+fn long_texts(rt: HostRuntime) -> Result<(), Fail> {
+    let alloc = rt.alloc();
+    let blanks = vec![in alloc; 32u8; 1_048_577]?;
+    let long = blanks.as_slice();
+    let (fits, _) = long.split_at(1_048_576);
+    let table = [
+        ((long, SWAP_SPEC.as_bytes()), 11, "limit c\n"),
+        ((SWAP_C.as_bytes(), long), 11, "limit spec\n"),
+        ((fits, SWAP_SPEC.as_bytes()), 12, "not built c\n"),
+        ((SWAP_C.as_bytes(), fits), 12, "not built spec\n"),
+    ];
+    for (texts, status, printed) in table {
+        let captures = (Vec::new(alloc), Vec::new(alloc));
+        let mut files = files_of(alloc, texts, captures, 0)?;
+        let mut out = MemSink::new(alloc, 1000, Vec::new(alloc))?;
+        let words = words_of(alloc, WORDS)?;
+        let got = run(alloc, words.as_slice(), &mut files, &mut out);
+        assert_eq!(rt; got, Status(status), "{printed}");
+        assert_eq!(rt; out.written(), printed.as_bytes());
+        assert!(rt; files.written("out0").is_none(), "{printed}");
     }
     Ok(())
 }
@@ -388,9 +432,16 @@ fn three_ports(rt: HostRuntime) -> Result<(), Fail> {
 #[test]
 fn a_sink_that_fails(rt: HostRuntime) -> Result<(), Fail> {
     let alloc = rt.alloc();
-    let mut files = MemFiles::new(alloc, Vec::new(alloc), 7, 1000, Vec::new(alloc))?;
+    let in0 = with_zeros(alloc, &MICROSECONDS, &IN_HEAD)?;
+    let texts = (SWAP_C.as_bytes(), SWAP_SPEC.as_bytes());
+    let mut files = files_of(alloc, texts, (in0, Vec::new(alloc)), 0)?;
     let mut out = MemSink::new(alloc, 1000, Vec::from_slice(alloc, &[1])?)?;
-    let status = run(alloc, &[], &mut files, &mut out);
+    let words = words_of(alloc, WORDS)?;
+    let status = run(alloc, words.as_slice(), &mut files, &mut out);
     assert_eq!(rt; status, Status(7));
+    // The replay was done before.
+    let log = files.written("log").ok_or("no log")?;
+    assert_eq!(rt; log, b"1 in 0 to 1 steps 3\n".as_slice());
+    assert_eq!(rt; out.written(), b"".as_slice());
     Ok(())
 }

@@ -1,5 +1,5 @@
 //! The top call.
-ghost use Rattle.std.specs.Prelude.{◌≡◌, ◌≢◌, ◌≤◌, ◌+◌, ◌⊎◌, ℕ, IsTrue, IfOk, IfErr};
+ghost use Rattle.std.specs.Prelude.{◌≡◌, ◌≤◌, ◌+◌, ◌*◌, ◌⊎◌, ℕ, IsTrue, IfOk, IfErr};
 ghost use Rattle.vg_base.specs.Files.{SameHeld, SameIds};
 ghost use Rattle.vg_command.specs.Commands.{words_in, AreFiles};
 ghost use Rattle.vg_command.specs.View.{files_of};
@@ -12,7 +12,7 @@ ghost use Rattle.vg_top.specs.Runs.{IsRun, RefusesWords};
 ghost use Rattle.vg_top.specs.Endings.{Ending, ComesTo};
 ghost use Rattle.vg_top.specs.Statuses.{status_of, status_at, IsStatus, IsFaultOrMemory};
 ghost use Rattle.vg_top.specs.Lines.{refusal_text};
-ghost use Rattle.vg_top.specs.Effects.{Unwritten, BeganReplay, IsDone, IsStopped, FailsPrinting, IsQuiet};
+ghost use Rattle.vg_top.specs.Effects.{Unwritten, BeganReplay, IsDone, IsStopped, FailsPrinting};
 ghost use Rattle.vg_top.specs.Running.{Runs, Prints};
 
 use crate::agreement::{most_steps, path_count};
@@ -22,7 +22,7 @@ use crate::setup::{Functions, read_functions};
 use crate::stop::{Stop, Unbuilt, stop_of};
 use std::alloc::Global;
 use vg_base::{Files, MAX_OPEN, Sink, say_all};
-use vg_command::{Command, FileNames, command_in};
+use vg_command::{Command, FileNames, MOST_PORTS, command_in};
 use vg_replay::replay;
 
 /// The exit status of a run.
@@ -30,7 +30,7 @@ use vg_replay::replay;
 pub struct Status(pub u8);
 
 // The files of a run without a configuration, which is the one command that is built.
-fn run_in(words: &[String]) -> Result<FileNames<'_>, Stop>
+fn built_run(words: &[String]) -> Result<FileNames<'_>, Stop>
     ensures run { IfOk result (λ names. IsRun (words_in words.now) (files_of names)) }
     ensures refused { IfErr result (RefusesWords (words_in words.now)) }
 {
@@ -49,14 +49,12 @@ fn run_in(words: &[String]) -> Result<FileNames<'_>, Stop>
 
 // Reads, verifies and replays.
 fn run_files<F: Files>(alloc: Global, files: &mut F, names: &FileNames<'_>) -> Result<Report, Stop>
-    requires room { (F.disk files.old).open_count + 33 ≤ MAX_OPEN }
+    requires room { (F.disk files.old).open_count + (2 * MOST_PORTS + 1) ≤ MAX_OPEN }
     requires allowed { AreFiles (files_of names.now) }
     ensures { Runs (F.disk files.old) (F.disk files.new) (files_of names.now) result }
 {
-    let Functions { c, spec } = match read_functions(alloc, files, names) {
-        Ok(functions) => functions,
-        Err(stop) => return Err(stop),
-    };
+    let functions = read_functions(alloc, files, names)?;
+    let Functions { c, spec } = functions;
     let paths = path_count(&c, &spec);
     let steps = most_steps(&c, spec.ports);
     match replay(alloc, c, files, names.log, names.ins, names.outs) {
@@ -102,9 +100,9 @@ pub fn refuse<O: Sink>(out: &mut O, stop: Stop) -> Status
 /// where an output couldn't be written, or the text couldn't be printed whole; 8 where memory ran out, before any output was created; 11 where a text is
 /// too long, or there are more than 4,294,967,295 frames, and then the outputs are those of so many first ones; and 12 where the command isn't built, or a
 /// text is of a form that isn't, or the C function sends to a port that the specification doesn't declare. One line says which. Nothing is created before
-/// both texts and the headers of all captures were found good.
+/// both texts and the headers of all captures were found good. There must be room for 33 more open files: the captures in and out of 16 ports, and the log.
 pub fn run<F: Files, O: Sink>(alloc: Global, words: &[String], files: &mut F, out: &mut O) -> Status
-    requires { (F.disk files.old).open_count + 33 ≤ MAX_OPEN }
+    requires { (F.disk files.old).open_count + (2 * MOST_PORTS + 1) ≤ MAX_OPEN }
     ensures known { IsStatus result.0 }
     ensures done { result.0 ≡ 0 →
         IsDone (words_in words.now) (F.disk files.old) (F.disk files.new) (O.flow out.old) (O.flow out.new) }
@@ -135,17 +133,15 @@ pub fn run<F: Files, O: Sink>(alloc: Global, words: &[String], files: &mut F, ou
         ⊎ FailsPrinting (words_in words.now) (F.disk files.old) (F.disk files.new) (O.flow out.old) (O.flow out.new) }
     ensures memory { result.0 ≡ 8 →
         IsStopped (words_in words.now) (F.disk files.old) (F.disk files.new) (O.flow out.old) (O.flow out.new) Stop.Memory }
-    ensures quiet { result.0 ≢ 6 → result.0 ≢ 7 →
-        IsQuiet (F.disk files.old) (F.disk files.new) (O.flow out.old) (O.flow out.new) }
 
-    // Whatever the status: no output holds more than first bytes of what it should, and what can be read stays.
+    // Whatever the status: each output was left as it was or holds no more than first bytes of what it should, and what can be read stays.
     ensures outputs { Unwritten (F.disk files.old) (F.disk files.new)
         ⊎ BeganReplay (words_in words.now) (F.disk files.old) (F.disk files.new) }
     ensures held { SameHeld (F.disk files.old) (F.disk files.new) }
     ensures ids { SameIds (F.disk files.old) (F.disk files.new) }
     ensures tells { (O.flow out.new).tells_made ≡ (O.flow out.old).tells_made }
 {
-    let names = match run_in(words) {
+    let names = match built_run(words) {
         Ok(names) => names,
         Err(stop) => return refuse(out, stop),
     };

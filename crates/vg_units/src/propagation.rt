@@ -139,6 +139,6 @@ fn force(trail: &mut Trail, clause: usize, literal: Lit) -> Result<Visit, AllocE
     if trail.is_false(literal) {
         return Ok(Visit::Conflict(clause));
     }
-    trail.push(literal)?;
+    trail.push(literal, Some(clause))?;
     Ok(Visit::Kept)
 }

@@ -1,6 +1,6 @@
 // Clauses with a trail of true literals that is propagated and taken back.
 
-ghost use Rattle.std.specs.Prelude.{◌≡◌, ◌<◌, ◌≤◌, ◌+◌, ◌*◌, ◌^◌, ℤ, neg_ℤ, true, false, [], ◌∷◌, ◌++◌, length, take, unsigned_abs, OnOk, OnErr, IfOk, IsOk, IsSome, MatchBool, MatchOption, All};
+ghost use Rattle.std.specs.Prelude.{◌≡◌, ◌<◌, ◌≤◌, ◌+◌, ◌*◌, ◌^◌, ℤ, pos, neg_ℤ, true, false, [], ◌∷◌, ◌++◌, length, take, slice_index_or, unsigned_abs, OnOk, OnErr, IfOk, IsOk, IsSome, MatchBool, MatchOption, All};
 ghost use Rattle.vg_cnf.specs.Clauses.{holds, IsOver, IsClauseOver};
 ghost use Rattle.vg_cnf.specs.Orders.{Reaches, Settled};
 ghost use Rattle.vg_cnf.specs.Propagation.{follows as list_follows, propagated};
@@ -86,6 +86,51 @@ impl Propagator {
         self.trail.is_false(literal)
     }
 
+    /// Where the literals begin that were made true at a level or after it.
+    pub fn start(&self, level: usize) -> usize
+        requires { level < length self.now.starts }
+        ensures { result ≡ start_in self.now.starts level }
+    {
+        self.starts[level]
+    }
+
+    /// How many literals are true.
+    pub fn true_count(&self) -> usize
+        ensures { result ≡ length self.now.trail }
+    {
+        self.trail.len()
+    }
+
+    /// The literal that was made true at a place, from 0.
+    pub fn literal(&self, at: usize) -> Lit
+        requires { at < length self.now.trail }
+        ensures literal { result ≡ slice_index_or self.now.trail at (pos 0) }
+        ensures over { IsOver self.now.variables result }
+    {
+        self.trail.get(at)
+    }
+
+    /// The place of the clause that is said to have forced it; `None` for a decision. It is a hint, that a search may follow and has to check.
+    pub fn reason(&self, at: usize) -> Option<usize> {
+        self.trail.reason(at)
+    }
+
+    /// How many clauses there are.
+    pub fn clause_count(&self) -> usize
+        ensures { result ≡ length self.now.clauses }
+    {
+        self.watches.len()
+    }
+
+    /// The clause at a place.
+    pub fn clause(&self, at: usize) -> &[Lit]
+        requires { at < length self.now.clauses }
+        ensures clause { result.now ≡ slice_index_or self.now.clauses at [] }
+        ensures over { IsClauseOver self.now.variables result.now }
+    {
+        self.watches.clause(at)
+    }
+
     /// Decides that a literal is true, which is neither true nor false.
     pub fn decide(&mut self, literal: Lit) -> Result<(), AllocError>
         requires over { IsOver self.old.variables literal }
@@ -95,7 +140,7 @@ impl Propagator {
         ensures { OnOk result (self.new ≡ record self.old { trail = self.old.trail ++ literal ∷ []; starts = self.old.starts ++ length self.old.trail ∷ [] }) }
     {
         self.starts.push(self.trail.len())?;
-        self.trail.push(literal)?;
+        self.trail.push(literal, None)?;
         Ok(())
     }
 
@@ -244,7 +289,7 @@ fn add_single(
 {
     let len = trail.len();
     if !trail.is_true(single.first) {
-        trail.push(single.first)?;
+        trail.push(single.first, None)?;
     }
     let added = watches.add(clause, single);
     if added.is_err() {

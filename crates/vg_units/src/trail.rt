@@ -15,6 +15,8 @@ pub(crate) struct Trail {
     literals: Vec<Lit>,
     /// Which literals are true, by their places.
     marks: Vec<bool>,
+    /// For each literal in order the clause that forced it. These are hints, of which no contract speaks.
+    reasons: Vec<Option<usize>>,
 }
 
 impl Model for Trail {
@@ -37,6 +39,7 @@ impl Trail {
             variables,
             literals: Vec::new(alloc),
             marks: vec![in alloc; false; 2 * variables as usize + 2]?,
+            reasons: Vec::new(alloc),
         })
     }
 
@@ -81,8 +84,36 @@ impl Trail {
         self.is_true(literal.negated())
     }
 
+    /// The number of the clause that is said to have forced the literal at a place; `None` for a decision. It is a hint.
+    pub fn reason(&self, at: usize) -> Option<usize> {
+        match self.reasons.get(at) {
+            Some(reason) => *reason,
+            None => None,
+        }
+    }
+
+    /// Makes a literal true that isn't, and notes which clause forced it.
+    pub fn push(&mut self, literal: Lit, reason: Option<usize>) -> Result<(), AllocError>
+        requires over { unsigned_abs literal ≤ self.old.variables }
+        requires new { holds self.old.literals literal ≡ false }
+        ensures ok { OnOk result (self.new ≡ record self.old { literals = self.old.literals ++ literal ∷ [] }) }
+        ensures err { OnErr result (self.new ≡ self.old) }
+    {
+        self.note(reason)?;
+        self.make_true(literal)
+    }
+
+    /// Notes which clause forces the literal that is made true next.
+    fn note(&mut self, reason: Option<usize>) -> Result<(), AllocError>
+        ensures { self.new ≡ self.old }
+    {
+        self.reasons.truncate(self.literals.len());
+        self.reasons.push(reason)?;
+        Ok(())
+    }
+
     /// Makes a literal true that isn't.
-    pub fn push(&mut self, literal: Lit) -> Result<(), AllocError>
+    fn make_true(&mut self, literal: Lit) -> Result<(), AllocError>
         requires over { unsigned_abs literal ≤ self.old.variables }
         requires new { holds self.old.literals literal ≡ false }
         ensures ok { OnOk result (self.new ≡ record self.old { literals = self.old.literals ++ literal ∷ [] }) }

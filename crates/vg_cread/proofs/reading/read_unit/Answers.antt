@@ -1,5 +1,5 @@
 use Rattle.std.proofs.Common.{◌≡◌, ◌∙◌, inr, ℕ, sym, ap, subst, Ok}
-use Rattle.vg_core.specs.Syntax.{Syntax}
+use Rattle.vg_core.specs.Syntax.{Syntax, IsOrdered, IsUsedOnce}
 use Rattle.vg_cread.specs.Grammar.{unit}
 use Rattle.vg_cread.specs.Places.{State}
 use Rattle.vg_cread.specs.Spelling.{Spells}
@@ -7,6 +7,7 @@ use Rattle.vg_cread.specs.Refusals.{Refuses}
 use Rattle.vg_cread.specs.Reading.{Wrong, Deep, read}
 use Rattle.vg_cread.specs.declared.reading.ReadFault.TheVariants as faults
 use Rattle.vg_cread.proofs.Units.{unit_spelled}
+use Rattle.vg_cread.proofs.Rules.{parts_first, parts_used_once}
 use Rattle.vg_cread.proofs.Answering.{gave_wrong, gave_deep, only_tree, no_tree, no_fault, wrong_fault, wrong_only, deep_fault, deep_only}
 use Rattle.vg_cread.proofs.reading.read_unit.Goals as goal
 
@@ -14,6 +15,16 @@ pub returns-in-Ok-clause-tree : goal.returns-in-Ok-clause-tree
 returns-in-Ok-clause-tree c =
     let e = subst (λ (s : State). read c.args.toks.now 64 unit s ≡ Ok (c.in-Ok.field-0, c.unit.new.self)) c.new-reader.ensures c.in-Ok.ensures in
     subst (λ (t : Syntax). Spells 64 c.args.toks.now t) (sym c.into_tree.ensures) (unit_spelled c.args.toks.now 64 c.in-Ok.field-0 c.unit.new.self e)
+
+pub returns-in-Ok-clause-ordered : goal.returns-in-Ok-clause-ordered
+returns-in-Ok-clause-ordered c =
+    let e = subst (λ (s : State). read c.args.toks.now 64 unit s ≡ Ok (c.in-Ok.field-0, c.unit.new.self)) c.new-reader.ensures c.in-Ok.ensures in
+    subst (λ (t : Syntax). IsOrdered t) (sym c.into_tree.ensures) (parts_first c.args.toks.now 64 c.unit.new.self.tree (unit_spelled c.args.toks.now 64 c.in-Ok.field-0 c.unit.new.self e))
+
+pub returns-in-Ok-clause-used_once : goal.returns-in-Ok-clause-used_once
+returns-in-Ok-clause-used_once c =
+    let e = subst (λ (s : State). read c.args.toks.now 64 unit s ≡ Ok (c.in-Ok.field-0, c.unit.new.self)) c.new-reader.ensures c.in-Ok.ensures in
+    subst (λ (t : Syntax). IsUsedOnce t) (sym c.into_tree.ensures) (parts_used_once c.args.toks.now 64 c.unit.new.self.tree (unit_spelled c.args.toks.now 64 c.in-Ok.field-0 c.unit.new.self e))
 
 pub returns-in-Ok-clause-only_tree : goal.returns-in-Ok-clause-only_tree
 returns-in-Ok-clause-only_tree c = λ tree is.

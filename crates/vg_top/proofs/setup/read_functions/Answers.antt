@@ -3,5 +3,5 @@ use Rattle.std.specs.Prelude.{string_bytes}
 use Rattle.vg_top.proofs.Verifying.{reads_functions}
 use Rattle.vg_top.proofs.setup.read_functions.Goals as goal
 
-pub returns-in-Ok : goal.returns-in-Ok
-returns-in-Ok g c = reads_functions c.in-Ok.texts c.functions_in.result c.in-Ok.ensures (rw (← length-map c.args.names.now.ins.now string_bytes) at c.functions_in.ensures)
+pub returns : goal.returns
+returns g c = reads_functions c.in_ok-texts.texts c.functions_in.result c.in_ok-texts.ensures (rw (← length-map c.args.names.now.ins.now string_bytes) at c.functions_in.ensures)

@@ -6,24 +6,24 @@ use Rattle.vg_top.proofs.top.run_files.Goals as goal
 pub replay-requires-clause-names : goal.replay-requires-clause-names
 replay-requires-clause-names g c = are_replay_files c.requires.allowed
 
-pub returns-in-Ok-replay : goal.returns-in-Ok-replay
-returns-in-Ok-replay g c =
-    let report : Report = record { paths = c.path_count-paths.result; steps = c.most_steps-steps.result; totals = c.in-Ok-replay.totals } in
-    let replays = c.in-Ok-replay.ensures in
+pub returns-in-Ok : goal.returns-in-Ok
+returns-in-Ok g c =
+    let report : Report = record { paths = c.path_count-paths.result; steps = c.most_steps-steps.result; totals = c.in-Ok.totals } in
+    let replays = c.in-Ok.ensures in
     record {
-      held = held_after _ c.in-Ok.functions c.in-Ok.ensures replays;
-      ids = ids_after _ c.in-Ok.functions c.in-Ok.ensures replays;
-      done = replay_done _ c.in-Ok.functions c.in-Ok.ensures report c.path_count-paths.ensures c.most_steps-steps.ensures replays.others replays.done;
+      held = held_after _ c.in_ok-functions.functions c.in_ok-functions.ensures replays;
+      ids = ids_after _ c.in_ok-functions.functions c.in_ok-functions.ensures replays;
+      done = replay_done _ c.in_ok-functions.functions c.in_ok-functions.ensures report c.path_count-paths.ensures c.most_steps-steps.ensures replays.others replays.done;
       stops = tt;
     }
 
 pub returns : goal.returns
 returns g c =
-    let replays = c.in-Err-replay.ensures in
-    let stops = replay_stops _ c.in-Ok.functions c.in-Ok.ensures c.in-Err-replay.stop replays.others replays.stops in
+    let replays = c.in-Err.ensures in
+    let stops = replay_stops _ c.in_ok-functions.functions c.in_ok-functions.ensures c.in-Err.stop replays.others replays.stops in
     record {
-      held = held_after _ c.in-Ok.functions c.in-Ok.ensures replays;
-      ids = ids_after _ c.in-Ok.functions c.in-Ok.ensures replays;
+      held = held_after _ c.in_ok-functions.functions c.in_ok-functions.ensures replays;
+      ids = ids_after _ c.in_ok-functions.functions c.in_ok-functions.ensures replays;
       done = tt;
       stops = rw c.stop_of.ensures stops;
     }

@@ -1,5 +1,5 @@
 use Rattle.std.proofs.Common.{ap}
-use Rattle.vg_replay.proofs.Stopping.{stopped, not_memory}
+use Rattle.vg_replay.proofs.Stopping.{stopped, stopped_begun}
 use Rattle.vg_replay.proofs.Handling.{next_ends, next_end_fails}
 use Rattle.vg_replay.specs.UnderWay.{Replaying}
 use Rattle.vg_replay.proofs.under_way.Replay.next_frame.Goals as goal
@@ -32,9 +32,10 @@ returns-in-Ok g c = λ s n past x.
 pub returns-in-Err-close : goal.returns-in-Err-close
 returns-in-Err-close g c = λ s n past x.
     let done = (rw c.in-Ok-false.field-0-test at c.in-Ok-false.ensures) s n past x in
-    (λ e. absurd cc, next_end_fails x done.0 done.1 c.in-Err-close.ensures)
+    let failed = next_end_fails x done.0 done.1 c.in-Err-close.ensures in
+    (failed.stops, failed)
 
 pub returns-in-Err : goal.returns-in-Err
 returns-in-Err g c = λ s n past x.
     let halted = c.in-Err.ensures s n past x in
-    (not_memory s _ n _ c.in-Err.stop halted.stops, stopped c.close-in-Err.result halted c.close-in-Err.ensures)
+    (stopped_begun c.close-in-Err.result halted c.close-in-Err.ensures, stopped c.close-in-Err.result halted c.close-in-Err.ensures)

@@ -1,0 +1,4 @@
+pub mod Laws
+pub mod Powers
+pub mod Products
+pub mod Proper

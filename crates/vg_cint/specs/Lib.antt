@@ -1,0 +1,4 @@
+pub mod Types
+pub mod Values
+pub mod Operators
+pub mod Expressions

@@ -1,0 +1,8 @@
+use Rattle.std.proofs.Common.{◌≡◌, ◌+◌, map, drop}
+use Rattle.vg_core.specs.Library.{number_from}
+use Rattle.vg_core.proofs.library.number_of.Given as goal
+
+abbrev pub invariant-loop-row : goal.invariant-loop-row
+invariant-loop-row l =
+    (l.number ≡ l.row-index + 1)
+    × (number_from (l.row-index + 1) (map (λ row. (row.0.now, row.1, row.2.now)) (drop l.row-index l.table)) l.name ≡ number_from 1 (map (λ row. (row.0.now, row.1, row.2.now)) l.table) l.name)

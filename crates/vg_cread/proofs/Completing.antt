@@ -1,0 +1,336 @@
+-- Tokens along which the grammar leads begin a whole tree: what is open at their end can be completed.
+use Rattle.std.proofs.Common.{◌≡◌, ◌∙◌, ◌<◌, ◌≤◌, ◌+◌, ◌⊎◌, inl, inr, ℕ, zero, suc, Bool, true, false, List, [], ◌∷◌, ◌++◌, take, drop, length, slice_get, Some, refl, sym, ap, subst, arith, length-append}
+use Rattle.std.specs.Prelude.{is_some, ◌&&◌}
+use Rattle.std.proofs.lemmas.Bool.{cases_eq}
+use Rattle.std.proofs.lemmas.Option.{slice_get_past}
+use Rattle.std.proofs.lemmas.List.{take-append-drop, length-take-le, append_assoc, length_push}
+use Rattle.vg_ctok.specs.declared.kinds.Token.{Token}
+use Rattle.vg_cread.specs.Forms.{Form, Plain, Place, One, Both, Either, Chain, Inner, Made, Nested, Growth}
+use Rattle.vg_cread.specs.Grammar.{begins, form, unit}
+use Rattle.vg_cread.specs.Places.{State, place_at, passes, tested}
+use Rattle.vg_cread.specs.Spelling.{Spelled, Turns, spelled_with, spelled_inner, spelled, start}
+use Rattle.vg_cread.specs.Refusals.{TurnsTo, comes_with, lacks_inner, Lacks, Begins}
+use Rattle.vg_cread.proofs.Onward.{eats, further, further-least}
+use Rattle.vg_cread.proofs.Rooms.{form_eats}
+use Rattle.vg_cread.proofs.Prefixes.{get_front}
+use Rattle.vg_cread.proofs.Shortest.{whole, fits, calls, form_fits, unit_fits}
+use Rattle.vg_cread.proofs.Going.{bool_cases, halts, halts_second, halts_both, halts_left, halts_right, halts_side, halts_first, halts_more, halts_test, halts_form, fits_both, fits_either, fits_chain, Gaining, spelled_gains, turns_gain, Goes, ends, begins_at, goes_one, goes_both, goes_left, goes_right, goes_made, goes_form, Rounds, goes_chain, Stands, Ready, stands_front, stands_back, both_end, shortest, room_begins}
+
+below_or : (a b : ℕ) → a ≤ b → (a < b) ⊎ (a ≡ b)
+below_or a b le = elim (cases_eq a b) [
+  | inl same ↦ inr same
+  | inr other ↦ inl (grind (arith, le, other))
+]
+
+eaten : (b : Bool) (i j : ℕ) → further b i ≤ j → b ≡ true → i + 1 ≤ j
+eaten true i j h so = h
+eaten false i j h so = absurd (cc)
+
+and_both : (a b : Bool) → a ≡ true → b ≡ true → (a && b) ≡ true
+and_both a b one two = rw (one, two) refl
+
+all_called : {A : Type 0} (f : Form A) → calls (λ n. true) f ≡ true
+all_called (Plain a) = refl
+all_called Place = refl
+all_called (One test) = refl
+all_called (Both f x) = and_both (calls (λ n. true) f) (calls (λ n. true) x) (all_called f) (all_called x)
+all_called (Either test x y) = all_called y
+all_called (Chain test x more) = all_called x
+all_called (Inner n) = refl
+all_called (Made f) = all_called f
+
+module _ (toks : List Token) (i : ℕ) where
+  -- another text has the same first tokens
+  abbrev pub Agrees : List Token → Type 0
+  Agrees all = (k : ℕ) → k < i → slice_get all k ≡ slice_get toks k
+
+  -- what is spelled of the first tokens is spelled there, if the next token ends it
+  abbrev Surely : List Token → (Nested → Spelled ℕ) → (Nested → Spelled ℕ) → Type 0
+  Surely all says far = (n : Nested) (s : State) (a : ℕ) (t : State) → says n s a t → t.at ≤ i → (t.at ≡ i → halts (Inner n) (slice_get all i) ≡ true) → Goes all far (Inner n) s.at t.at
+
+  module _ (all : List Token) (agrees : Agrees all) (says far : Nested → Spelled ℕ) (gain : Gaining toks says) (inner : Surely all says far) where
+    same_test : (test : Token → Bool) (k : ℕ) → k < i → passes test (slice_get all k) ≡ passes test (slice_get toks k)
+    same_test test k less = ap (passes test) (agrees k less)
+
+    turns_sure : {A : Type 0} (n : ℕ) (test : Token → Bool) (more : Form (ℕ → A → Growth A)) → eats more ≡ true
+        → ((s : State) (g : ℕ → A → Growth A) (t : State) → spelled_with toks says more s g t → t.at ≤ i → (t.at ≡ i → halts more (slice_get all i) ≡ true) → Goes all far more s.at t.at)
+        → (at : ℕ) (a : A) (s : State) (b : A) (t : State) → Turns toks n test (spelled_with toks says more) at a s b t → t.at ≤ i
+        → (t.at ≡ i → halts more (slice_get all i) ≡ true) → (t.at ≡ i → passes test (slice_get all i) ≡ false) → Rounds all far n test more s.at t.at
+    turns_sure zero test more eat h at a s b t (unless, same, to) le ended tested =
+        let here : t.at ≡ s.at = ap (λ (u : State). u.at) to in
+        let none : passes test (slice_get all s.at) ≡ false = elim (below_or s.at i (omega (arith, here, le))) [
+          | inl less ↦ same_test test s.at less ∙ unless
+          | inr end ↦ ap (λ n. passes test (slice_get all n)) end ∙ tested (here ∙ end)
+        ] in
+        (none, here)
+    turns_sure (suc n) test more eat h at a s b t (so, g, u, one, rest) le ended tested =
+        let step = eaten (eats more) s.at u.at (spelled_gains toks says gain more s g u one) eat in
+        let later : u.at ≤ t.at =
+        turns_gain toks n test (spelled_with toks says more) (λ v p w is. further-least (eats more) v.at w.at (spelled_gains toks says gain more v p w is)) at (g at a u.tree).0 (record u { tree = (g at a u.tree).1 }) b t rest in (
+          same_test test s.at (omega (arith, step, later, le)) ∙ so,
+          u.at,
+          h s g u one (omega (arith, later, le)) (λ here. ended (omega (arith, here, later, le))),
+          turns_sure n test more eat h at (g at a u.tree).0 (record u { tree = (g at a u.tree).1 }) b t rest le ended tested,
+        )
+
+    pub sure : {A : Type 0} (f : Form A) → fits f ≡ true → (s : State) (a : A) (t : State) → spelled_with toks says f s a t → t.at ≤ i → (t.at ≡ i → halts f (slice_get all i) ≡ true) → Goes all far f s.at t.at
+    sure (Plain b) fit s a t (same, to) le ended = λ v e. (b, v, (refl, refl), e ∙ sym (ap (λ (u : State). u.at) to))
+    sure Place fit s a t (same, to) le ended = λ v e. (place_at all v.at, v, (refl, refl), e ∙ sym (ap (λ (u : State). u.at) to))
+    sure (One test) fit s a t (x, found, is, to) le ended =
+        let next : t.at ≡ s.at + 1 = ap (λ (u : State). u.at) to in
+        ends all far (One test) s.at (s.at + 1) t.at (sym next) (goes_one all far test s.at x (agrees s.at (omega (arith, next, le)) ∙ found) (ap is_some is))
+    sure (Both f x) fit s b t (g, u, a, one, two, same) le ended =
+        let parts = fits_both f x fit in
+        let step = spelled_gains toks says gain x u a t two in
+        let later = further-least (eats x) u.at t.at step in
+        goes_both all far f x s.at u.at t.at
+        (sure f parts.0 s g u one (omega (arith, later, le)) (λ here. elim (bool_cases (eats x)) [
+          | inl so ↦ absurd (omega (arith, eaten (eats x) u.at t.at step so, here, le))
+          | inr none ↦ halts_both f x (slice_get all i) none (ended (omega (arith, here, later, le)))
+        ]))
+        (sure x parts.1 u a t two le (λ here. halts_second f x (slice_get all i) (ended here)))
+    sure (Either test x y) fit s a t (inl (so, one)) le ended =
+        let parts = fits_either test x y fit in
+        let step = eaten (eats x) s.at t.at (spelled_gains toks says gain x s a t one) parts.2 in
+        goes_left all far test x y s.at t.at (same_test test s.at (omega (arith, step, le)) ∙ so) (sure x parts.0 s a t one le (λ here. halts_left test x y (slice_get all i) (ended here)))
+    sure (Either test x y) fit s a t (inr (unless, two)) le ended =
+        let parts = fits_either test x y fit in
+        let step = spelled_gains toks says gain y s a t two in
+        let later = further-least (eats y) s.at t.at step in
+        let none : passes test (slice_get all s.at) ≡ false = elim (below_or s.at i (omega (arith, later, le))) [
+          | inl less ↦ same_test test s.at less ∙ unless
+          | inr end ↦ elim (bool_cases (eats y)) [
+            | inl so ↦ absurd (omega (arith, eaten (eats y) s.at t.at step so, end, le))
+            | inr plain ↦ ap (λ n. passes test (slice_get all n)) end ∙ halts_side test x y (slice_get all i) plain (ended (omega (arith, end, later, le)))
+          ]
+        ] in
+        goes_right all far test x y s.at t.at none (sure y parts.1 s a t two le (λ here. halts_right test x y (slice_get all i) (ended here)))
+    sure (Chain test x more) fit s b t (a, u, n, one, rest) le ended =
+        let parts = fits_chain test x more fit in
+        let later : u.at ≤ t.at =
+        turns_gain toks n test (spelled_with toks says more) (λ v p w is. further-least (eats more) v.at w.at (spelled_gains toks says gain more v p w is)) (place_at toks s.at) a u b t rest in
+        goes_chain all far n test x more s.at u.at t.at (sure x parts.0 s a u one (omega (arith, later, le)) (λ here. halts_first test x more (slice_get all i) (ended (omega (arith, here, later, le)))))
+        (turns_sure n test more parts.2 (λ v p w is. sure more parts.1 v p w is) (place_at toks s.at) a u b t rest le (λ here. halts_more test x more (slice_get all i) (ended here)) (λ here. halts_test test x more (slice_get all i) (ended here)))
+    sure (Inner n) fit s a t is le ended = inner n s a t is le ended
+    sure (Made f) fit s a t (g, u, one, same, to) le ended =
+        let here : t.at ≡ u.at = ap (λ (v : State). v.at) to in
+        goes_made all far f s.at t.at (ends all far f s.at u.at t.at (sym here) (sure f fit s g u one (omega (arith, here, le)) (λ end. ended (here ∙ end))))
+
+  inner_gaining : (room : ℕ) → Gaining toks (spelled_inner toks room)
+  inner_gaining zero n s a t is = absurd is
+  inner_gaining (suc room) n s a t (so, is) = eaten (eats (form n)) s.at t.at (spelled_gains toks (spelled_inner toks room) (inner_gaining room) (form n) s a t is) (form_eats n)
+
+  inner_sure : (all : List Token) → Agrees all → (room : ℕ) → Surely all (spelled_inner toks room) (spelled_inner all (suc (suc room)))
+  inner_sure all agrees zero n s a t is le ended = absurd is
+  inner_sure all agrees (suc room) n s a t (so, is) le ended =
+      let step = inner_gaining (suc room) n s a t (so, is) in
+      goes_form all (suc (suc room)) n s.at t.at (ap (passes (begins n)) (agrees s.at (omega (arith, step, le))) ∙ so)
+      (sure all agrees (spelled_inner toks room) (spelled_inner all (suc (suc room))) (inner_gaining room) (inner_sure all agrees room) (form n) (form_fits n) s a t is le (λ here. halts_form n (slice_get all i) (ended here)))
+
+  -- where the grammar needs a token is not before the start
+  turns_within : {A : Type 0} (n : ℕ) (test : Token → Bool) (says : Spelled (ℕ → A → Growth A)) (stops : State → Type 0) → ((s : State) (g : ℕ → A → Growth A) (t : State) → says s g t → s.at ≤ t.at) → ((s : State) → stops s → s.at ≤ i)
+      → (at : ℕ) (a : A) (s : State) → TurnsTo toks n test says stops at a s → s.at ≤ i
+  turns_within zero test says stops h k at a s (so, is) = k s is
+  turns_within (suc n) test says stops h k at a s (so, g, u, one, rest) =
+      omega (arith, h s g u one, turns_within n test says stops h k at (g at a u.tree).0 (record u { tree = (g at a u.tree).1 }) rest)
+
+  module _ (says : Nested → Spelled ℕ) (lacks : Nested → State → Type 0) (gain : Gaining toks says) (near : (n : Nested) (s : State) → lacks n s → s.at ≤ i) where
+    comes_within : {A : Type 0} (f : Form A) (s : State) → comes_with toks says (λ u. u.at ≡ i) lacks f s → s.at ≤ i
+    comes_within (Plain a) s is = absurd is
+    comes_within Place s is = absurd is
+    comes_within (One test) s (here, none) = omega (arith, here)
+    comes_within (Both f x) s (inl first) = comes_within f s first
+    comes_within (Both f x) s (inr (g, u, one, second)) = omega (arith, further-least (eats f) s.at u.at (spelled_gains toks says gain f s g u one), comes_within x u second)
+    comes_within (Either test x y) s (inl (so, is)) = comes_within x s is
+    comes_within (Either test x y) s (inr (unless, is)) = comes_within y s is
+    comes_within (Chain test x more) s (inl first) = comes_within x s first
+    comes_within (Chain test x more) s (inr (a, u, n, one, later)) =
+        omega (
+          arith,
+          further-least (eats x) s.at u.at (spelled_gains toks says gain x s a u one),
+          turns_within n test (spelled_with toks says more) (comes_with toks says (λ u. u.at ≡ i) lacks more) (λ v p w is. further-least (eats more) v.at w.at (spelled_gains toks says gain more v p w is)) (λ v is. comes_within more v is)
+              (place_at toks s.at) a u later,
+        )
+    comes_within (Inner n) s is = near n s is
+    comes_within (Made f) s is = comes_within f s is
+
+    -- what completes a form: tokens with which it goes on from the place and comes to its end
+    module _ (far : List Token → Nested → Spelled ℕ) (kept : (all : List Token) → Agrees all → Surely all says (far all)) (ready : (all : List Token) → Ready all (λ n. true) (far all)) where
+      short : (all : List Token) {A : Type 0} (f : Form A) → fits f ≡ true → (j k : ℕ) → k ≡ j + length (whole f) → Stands all j (whole f) → halts f (slice_get all k) ≡ true → Goes all (far all) f j k
+      short all f fit j k far-off stand ended = shortest all (λ n. true) (far all) (ready all) f fit (all_called f) j k far-off stand ended
+
+      abbrev pub Completed : {A : Type 0} → Form A → State → Type 0
+      Completed f s = (more : List Token) × ((all : List Token) → Agrees all → Stands all i more → halts f (slice_get all (i + length more)) ≡ true → Goes all (far all) f s.at (i + length more))
+
+      abbrev Turning : {A : Type 0} → (Token → Bool) → Form (ℕ → A → Growth A) → State → Type 0
+      Turning test rest s = (more : List Token) × (s.at ≡ i → more ≡ []) × ((all : List Token) → Agrees all → Stands all i more → halts rest (slice_get all (i + length more)) ≡ true
+          → passes test (slice_get all (i + length more)) ≡ false → (n : ℕ) × Rounds all (far all) n test rest s.at (i + length more))
+
+      -- a chain that comes to its next turn at the place has none
+      turning_end : {A : Type 0} (test : Token → Bool) (rest : Form (ℕ → A → Growth A)) (s : State) → s.at ≡ i → Turning test rest s
+      turning_end test rest s end = ([], (λ here. refl), λ all agrees stand ended tested. (0, (ap (λ n. passes test (slice_get all n)) (omega (arith, end)) ∙ tested, omega (arith, end))))
+
+      turns_complete : {A : Type 0} (n : ℕ) (test : Token → Bool) (rest : Form (ℕ → A → Growth A)) → fits rest ≡ true → ((s : State) → comes_with toks says (λ u. u.at ≡ i) lacks rest s → s.at < i → Completed rest s)
+          → (at : ℕ) (a : A) (s : State) → TurnsTo toks n test (spelled_with toks says rest) (comes_with toks says (λ u. u.at ≡ i) lacks rest) at a s → s.at ≤ i → Turning test rest s
+      turns_complete zero test rest fit h at a s (so, is) le = elim (below_or s.at i le) [
+        | inr end ↦ turning_end test rest s end
+        | inl less ↦
+            let c = h s is less in (
+              c.0,
+              (λ here. absurd (omega (arith, here, less))),
+              λ all agrees stand ended tested. (1, (ap (passes test) (agrees s.at less) ∙ so, i + length c.0, c.1 all agrees stand ended, (tested, refl))),
+            )
+      ]
+      turns_complete (suc n) test rest fit h at a s (so, g, u, one, later) le = elim (below_or s.at i le) [
+        | inr end ↦ turning_end test rest s end
+        | inl less ↦
+            let there : u.at ≤ i =
+            turns_within n test (spelled_with toks says rest) (comes_with toks says (λ u. u.at ≡ i) lacks rest) (λ v p w is. further-least (eats rest) v.at w.at (spelled_gains toks says gain rest v p w is)) (λ v is. comes_within rest v is)
+            at (g at a u.tree).0 (record u { tree = (g at a u.tree).1 }) later in
+            let c = turns_complete n test rest fit h at (g at a u.tree).0 (record u { tree = (g at a u.tree).1 }) later there in (
+              c.0,
+              (λ here. absurd (omega (arith, here, less))),
+              λ all agrees stand ended tested.
+                  let r = c.2 all agrees stand ended tested in (
+                    suc r.0,
+                    (
+                      ap (passes test) (agrees s.at less) ∙ so,
+                      u.at,
+                      sure all agrees says (far all) gain (kept all agrees) rest fit s g u one there (λ here. let same : i + length c.0 ≡ i = omega (arith, ap length (c.1 here)) in ap (λ n. halts rest (slice_get all n)) (sym same) ∙ ended),
+                      r.1,
+                    ),
+                  ),
+            )
+      ]
+
+      pub complete : {A : Type 0} (f : Form A) → fits f ≡ true → ((n : Nested) (s : State) → lacks n s → s.at < i → Completed (Inner n) s) → (s : State) → comes_with toks says (λ u. u.at ≡ i) lacks f s → s.at < i → Completed f s
+      complete (Plain a) fit inner s is less = absurd is
+      complete Place fit inner s is less = absurd is
+      complete (One test) fit inner s (here, none) less = absurd (omega (arith, here, less))
+      complete (Both f x) fit inner s (inl first) less =
+          let parts = fits_both f x fit in
+          let c = complete f parts.0 inner s first less in (
+            c.0 ++ whole x,
+            λ all agrees stand ended.
+                let k = i + length (c.0 ++ whole x) in
+                let j = i + length c.0 in
+                let last : k ≡ j + length (whole x) = omega (arith, length-append c.0 (whole x)) in
+                let behind = stands_back all c.0 (whole x) i stand in
+                goes_both all (far all) f x s.at j k (c.1 all agrees (stands_front all c.0 (whole x) i stand) (both_end all f x j k last fit behind ended)) (short all x parts.1 j k last behind (halts_second f x (slice_get all k) ended)),
+          )
+      complete (Both f x) fit inner s (inr (g, u, one, second)) less =
+          let parts = fits_both f x fit in
+          elim (below_or u.at i (comes_within x u second)) [
+            | inl inside ↦
+                let c = complete x parts.1 inner u second inside in (
+                  c.0,
+                  λ all agrees stand ended.
+                      goes_both all (far all) f x s.at u.at (i + length c.0) (sure all agrees says (far all) gain (kept all agrees) f parts.0 s g u one (omega (arith, inside)) (λ here. absurd (omega (arith, here, inside))))
+                      (c.1 all agrees stand (halts_second f x (slice_get all (i + length c.0)) ended)),
+                )
+            | inr end ↦ (
+              whole x,
+              λ all agrees stand ended.
+                  let k = i + length (whole x) in
+                  goes_both all (far all) f x s.at u.at k (sure all agrees says (far all) gain (kept all agrees) f parts.0 s g u one (omega (arith, end)) (λ here. both_end all f x i k refl fit stand ended))
+                  (begins_at all (far all) x i u.at k (sym end) (short all x parts.1 i k refl stand (halts_second f x (slice_get all k) ended))),
+            )
+          ]
+      complete (Either test x y) fit inner s (inl (so, is)) less =
+          let c = complete x (fits_either test x y fit).0 inner s is less in (
+            c.0,
+            λ all agrees stand ended.
+                goes_left all (far all) test x y s.at (i + length c.0) (ap (passes test) (agrees s.at less) ∙ so) (c.1 all agrees stand (halts_left test x y (slice_get all (i + length c.0)) ended)),
+          )
+      complete (Either test x y) fit inner s (inr (unless, is)) less =
+          let c = complete y (fits_either test x y fit).1 inner s is less in (
+            c.0,
+            λ all agrees stand ended.
+                goes_right all (far all) test x y s.at (i + length c.0) (ap (passes test) (agrees s.at less) ∙ unless) (c.1 all agrees stand (halts_right test x y (slice_get all (i + length c.0)) ended)),
+          )
+      complete (Chain test x more) fit inner s (inl first) less =
+          let c = complete x (fits_chain test x more fit).0 inner s first less in (
+            c.0,
+            λ all agrees stand ended.
+                let k = i + length c.0 in
+                goes_chain all (far all) 0 test x more s.at k k (c.1 all agrees stand (halts_first test x more (slice_get all k) ended)) (halts_test test x more (slice_get all k) ended, refl),
+          )
+      complete (Chain test x more) fit inner s (inr (a, u, n, one, later)) less =
+          let parts = fits_chain test x more fit in
+          let there : u.at ≤ i =
+          turns_within n test (spelled_with toks says more) (comes_with toks says (λ u. u.at ≡ i) lacks more) (λ v p w is. further-least (eats more) v.at w.at (spelled_gains toks says gain more v p w is)) (λ v is. comes_within more v is)
+          (place_at toks s.at) a u later in
+          let c = turns_complete n test more parts.1 (λ v is inside. complete more parts.1 inner v is inside) (place_at toks s.at) a u later there in (
+            c.0,
+            λ all agrees stand ended.
+                let k = i + length c.0 in
+                let r = c.2 all agrees stand (halts_more test x more (slice_get all k) ended) (halts_test test x more (slice_get all k) ended) in
+                goes_chain all (far all) r.0 test x more s.at u.at k
+                (sure all agrees says (far all) gain (kept all agrees) x parts.0 s a u one there (λ here. let same : k ≡ i = omega (arith, ap length (c.1 here)) in ap (λ n. halts x (slice_get all n)) (sym same) ∙ halts_first test x more (slice_get all k) ended))
+                r.1,
+          )
+      complete (Inner n) fit inner s is less = inner n s is less
+      complete (Made f) fit inner s is less =
+          let c = complete f fit inner s is less in
+          (c.0, λ all agrees stand ended. goes_made all (far all) f s.at (i + length c.0) (c.1 all agrees stand ended))
+
+  -- constructs that are counted
+  inner_within : (room : ℕ) (n : Nested) (s : State) → lacks_inner toks i room n s → s.at ≤ i
+  inner_within zero n s (here, unless) = omega (arith, here)
+  inner_within (suc room) n s (inl (here, unless)) = omega (arith, here)
+  inner_within (suc room) n s (inr (so, is)) = comes_within (spelled_inner toks room) (lacks_inner toks i room) (inner_gaining room) (inner_within room) (form n) s is
+
+  abbrev roomy : ℕ → List Token → Nested → Spelled ℕ
+  roomy room all = spelled_inner all (suc (suc room))
+
+  inner_complete : (room : ℕ) (n : Nested) (s : State) → lacks_inner toks i room n s → s.at < i
+      → Completed (spelled_inner toks room) (lacks_inner toks i room) (inner_gaining room) (inner_within room) (roomy room) (λ all agrees. inner_sure all agrees room) (λ all. room_begins all room) (Inner n) s
+  inner_complete zero n s (here, unless) less = absurd (omega (arith, here, less))
+  inner_complete (suc room) n s (inl (here, unless)) less = absurd (omega (arith, here, less))
+  inner_complete (suc room) n s (inr (so, is)) less =
+      let c = complete (spelled_inner toks room) (lacks_inner toks i room) (inner_gaining room) (inner_within room) (roomy room) (λ all agrees. inner_sure all agrees room) (λ all. room_begins all room) (form n) (form_fits n) (inner_complete room) s is less in (
+        c.0,
+        λ all agrees stand ended.
+            goes_form all (suc (suc room)) n s.at (i + length c.0) (ap (passes (begins n)) (agrees s.at less) ∙ so) (c.1 all agrees stand (halts_form n (slice_get all (i + length c.0)) ended)),
+      )
+
+  unit_complete : (room : ℕ) → Lacks room toks i
+      → Completed (spelled_inner toks room) (lacks_inner toks i room) (inner_gaining room) (inner_within room) (roomy room) (λ all agrees. inner_sure all agrees room) (λ all. room_begins all room) unit start
+  unit_complete room is = elim (below_or 0 i (omega arith)) [
+    | inl less ↦ complete (spelled_inner toks room) (lacks_inner toks i room) (inner_gaining room) (inner_within room) (roomy room) (λ all agrees. inner_sure all agrees room) (λ all. room_begins all room) unit unit_fits (inner_complete room) start is less
+    | inr same ↦ (
+      whole unit,
+      λ all agrees stand ended.
+          begins_at all (roomy room all) unit i 0 (i + length (whole unit)) (sym same)
+          (short (spelled_inner toks room) (lacks_inner toks i room) (inner_gaining room) (inner_within room) (roomy room) (λ all agrees. inner_sure all agrees room) (λ all. room_begins all room) all unit unit_fits i (i + length (whole unit)) refl
+          stand ended),
+    )
+  ]
+
+-- tokens behind others
+get_behind : (front : List Token) (x : Token) (xs : List Token) → slice_get (front ++ x ∷ xs) (length front) ≡ Some x
+get_behind [] x xs = refl
+get_behind (y ∷ front) x xs = get_behind front x xs
+
+stands_behind : (more front : List Token) → Stands (front ++ more) (length front) more
+stands_behind [] front = tt
+stands_behind (x ∷ more) front =
+    let rest = stands_behind more (front ++ x ∷ []) in
+    let here : length (front ++ x ∷ []) ≡ length front + 1 = length_push front x in
+    (get_behind front x more, subst (λ n. Stands (front ++ x ∷ more) n more) here (subst (λ l. Stands l (length (front ++ x ∷ [])) more) (append_assoc front (x ∷ []) more) rest))
+
+-- tokens before a place where the grammar needs another begin a whole tree
+pub begins_tree : (toks : List Token) (room i : ℕ) → i ≤ length toks → Lacks room toks i → Begins (take i toks)
+begins_tree toks room i le is =
+    let c = unit_complete toks i room is in
+    let front = take i toks in
+    let all = front ++ c.0 in
+    let size : length front ≡ i = length-take-le i toks le in
+    let agrees : Agrees toks i all = λ k less.
+    get_front front c.0 k (omega (arith, less, size)) ∙ sym (get_front front (drop i toks) k (omega (arith, less, size))) ∙ ap (λ (l : List Token). slice_get l k) (take-append-drop i toks) in
+    let stand : Stands all i c.0 = subst (λ n. Stands all n c.0) size (stands_behind c.0 front) in
+    let end : length all ≡ i + length c.0 = omega (arith, length-append front c.0, size) in
+    let ended : halts unit (slice_get all (i + length c.0)) ≡ true = ap (halts unit) (slice_get_past all (i + length c.0) (omega (arith, end))) in
+    let g = c.1 all agrees stand ended start refl in
+    let to : g.1 ≡ record { at = length all; tree = g.1.tree } = ap (λ (n : ℕ). record g.1 { at = n }) (g.3 ∙ sym end) in
+    (suc (suc room), c.0, g.1.tree, (g.0, subst (λ (u : State). spelled all (suc (suc room)) unit start g.0 u) to g.2))

@@ -1,6 +1,0 @@
-use Rattle.vg_sat.proofs.Choosing.{AreAssignedTo}
-use Rattle.vg_sat.proofs.Deciding.{Walked}
-use Rattle.vg_sat.proofs.walking.decide_all.Given as goal
-
-abbrev pub invariant-loop-before : goal.invariant-loop-before
-invariant-loop-before l = record { walked : Walked l.fn.search l.search l.clause.items; assigned : AreAssignedTo l.search.trail l.before }
