@@ -9,3 +9,4 @@ pub mod KnownLaws
 pub mod Wires
 pub mod Following
 pub mod Building
+pub mod Equalities

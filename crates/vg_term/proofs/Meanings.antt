@@ -2,11 +2,12 @@
 use Rattle.std.proofs.Common.{◌≡◌, ℕ, List, [], ◌∷◌, ◌++◌, map, slice_get, Some, Result, Ok, Err, All, refl, sym, ap, subst, ◌∙◌, inl, inr}
 use Rattle.std.proofs.lemmas.List.{append-nil}
 use Rattle.std.proofs.lemmas.Option.{slice_get_within}
+use Rattle.std.specs.Prelude.{IfOk}
 use Rattle.vg_bits.specs.declared.word.Word.{Word}
 use Rattle.vg_term.specs.Operations.{bits_of, widths, answer, width_of, Fits}
-use Rattle.vg_term.specs.Terms.{Term, Stands, AreTerms, Needs, width_at, width_in, listed, held, operation}
+use Rattle.vg_term.specs.Terms.{Term, Stands, AreTerms, Needs, width_at, width_in, word_in, listed, held, operation}
 use Rattle.vg_term.specs.Value.{bits_at, entry_value, Assigns}
-use Rattle.vg_term.specs.Folding.{Grows, StandsFor, Folds, IsWord, IsAnswer}
+use Rattle.vg_term.specs.Folding.{Grows, StandsFor, Folds, IsWord, IsAnswer, IsFolded}
 use Rattle.vg_term.specs.declared.node.TermId.{TermId}
 use Rattle.vg_term.specs.declared.node.Op.{Op}
 use Rattle.vg_term.specs.declared.node.Op.TheVariants.{Const}
@@ -92,6 +93,10 @@ folds_to_word old new op parts w (Ok id) was made stand is needs =
     record { grows = grows; means = word_stands_for old new op parts w id was made grows stand is needs.term; kept = tt }
 folds_to_word old new op parts w (Err stop) was made stand is needs =
     record { grows = needs_grows old new (operation old (Const w) []) (Err stop) needs; means = tt; kept = needs.kept }
+
+pub folded_to_word : (old new : List Term) (op : Op) (parts : List TermId) (w : Word) (result : Result TermId TermStop) → IsAnswer old op parts w → Needs old new (operation old (Const w) []) result → IfOk result (λ id. IsFolded old new op parts id)
+folded_to_word old new op parts w (Ok id) is needs = record { word = w; constant = ap word_in needs.term; answer = is }
+folded_to_word old new op parts w (Err stop) is needs = tt
 
 pub folds_to_itself : (old new : List Term) (op : Op) (parts : List TermId) (result : Result TermId TermStop) → AreTerms new → All (Stands old) parts → Fits op (map (width_at old) parts) →
     Needs old new (operation old op parts) result → Folds old new op parts result

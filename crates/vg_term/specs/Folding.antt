@@ -1,8 +1,8 @@
 -- What the constructors that fold promise: another term may stand for the operation, and its value is the operation's under every assignment.
-use Rattle.std.specs.Prelude.{◌≡◌, List, ◌++◌, map, length, Result, IfOk, OnErr}
+use Rattle.std.specs.Prelude.{◌≡◌, List, ◌++◌, map, length, Some, Result, IfOk, OnErr}
 use Rattle.vg_bits.specs.declared.word.Word.{Word}
 use Rattle.vg_term.specs.Operations.{answer, width_of, bits_of}
-use Rattle.vg_term.specs.Terms.{Term, AreTerms, Stands, width_at, variable_count}
+use Rattle.vg_term.specs.Terms.{Term, AreTerms, Stands, width_at, constant_at, variable_count}
 use Rattle.vg_term.specs.Value.{value_of, bits_at, Assigns}
 use Rattle.vg_term.specs.declared.known.Known.{Known}
 use Rattle.vg_term.specs.declared.known.Known.TheVariants.{Standing, Constant}
@@ -35,6 +35,12 @@ IsWord terms id w = (words : List Word) → bits_at terms words id ≡ bits_of w
 pub record IsAnswer (terms : List Term) (op : Op) (parts : List TermId) (w : Word) : Type 0 where
   pub width : w.width ≡ width_of op (map (width_at terms) parts)
   pub value : (words : List Word) → Assigns words terms → w.value ≡ answer op (map (bits_at terms words) parts)
+
+-- the term is the constant of what the operation answers
+pub record IsFolded (old new : List Term) (op : Op) (parts : List TermId) (id : TermId) : Type 0 where
+  pub word : Word
+  pub constant : constant_at new id ≡ Some word
+  pub answer : IsAnswer old op parts word
 
 -- a simpler form stands for the operation on these parts
 abbrev pub IsKnown : List Term → Op → List TermId → Known → Type 0

@@ -4,3 +4,4 @@ pub mod Value
 pub mod Rules
 pub mod Folding
 pub mod Wiring
+pub mod Equality

@@ -1,8 +1,10 @@
 -- Terms as the list of what they are made of: a term's number is its place in the list, each part stands before its term, and no two are equal.
 use Rattle.std.specs.Prelude.{◌≡◌, ◌↔◌, ◌⊎◌, ℕ, suc, ◌<◌, ◌≤◌, List, [], ◌∷◌, ◌++◌, map, length, slice_get, Option, Some, None, Result, Err, IfOk, OnOk, OnErr, All, Contains}
+use Rattle.vg_bits.specs.declared.word.Word.{Word}
 use Rattle.vg_term.specs.Operations.{Fits, width_of}
 use Rattle.vg_term.specs.declared.node.TermId.{TermId}
 use Rattle.vg_term.specs.declared.node.Op.{Op}
+use Rattle.vg_term.specs.declared.node.Op.TheVariants.{Const}
 use Rattle.vg_term.specs.declared.node.Parts.{Parts}
 use Rattle.vg_term.specs.declared.node.Parts.TheVariants.{Zero, One, Two, Three}
 use Rattle.vg_term.specs.declared.node.Node.{Node}
@@ -33,9 +35,22 @@ abbrev pub width_in : Option Term → ℕ
 width_in None = 0
 width_in (Some t) = t.1
 
+-- the word that an entry is, where it is a constant
+abbrev pub word_in : Option Term → Option Word
+word_in (Some (nodes.Op (Const w) parts, v)) = Some w
+word_in _ = None
+
 -- the width of the term at a place
 abbrev pub width_at : List Term → TermId → ℕ
 width_at terms id = width_in (slice_get terms id.0)
+
+-- the word that the term at a place is, where it is a constant
+abbrev pub constant_at : List Term → TermId → Option Word
+constant_at terms id = word_in (slice_get terms id.0)
+
+-- the term is a constant
+abbrev pub IsConstant : List Term → TermId → Type 0
+IsConstant terms id = (w : Word) × (constant_at terms id ≡ Some w)
 
 -- the term of an operation on these parts, among terms where they stand
 abbrev pub operation : List Term → Op → List TermId → Term

@@ -1,9 +1,9 @@
 //! Constructors that fold: the answered term may be a simpler one of the same value.
 
-ghost use Rattle.std.specs.Prelude.{map, All, IfSome};
+ghost use Rattle.std.specs.Prelude.{◌≡◌, None, map, All, IfOk, IfSome};
 ghost use Rattle.vg_term.specs.Operations.{Fits};
-ghost use Rattle.vg_term.specs.Terms.{AreTerms, Stands, width_at};
-ghost use Rattle.vg_term.specs.Folding.{Builds, Folds, IsWord, IsAnswer, IsKnown};
+ghost use Rattle.vg_term.specs.Terms.{AreTerms, IsConstant, Stands, constant_at, width_at};
+ghost use Rattle.vg_term.specs.Folding.{Builds, Folds, IsAnswer, IsFolded, IsKnown, IsWord};
 
 use crate::applying::apply;
 use crate::known::Known;
@@ -16,7 +16,8 @@ impl Terms {
     /// The word of a term that is a constant.
     pub fn constant(&self, term: TermId) -> Option<Word>
         requires { Stands self.now term }
-        ensures { IfSome result (λ w. IsWord self.now term w) }
+        ensures constant { result ≡ constant_at self.now term }
+        ensures word { IfSome result (λ w. IsWord self.now term w) }
     {
         match self.node(term) {
             Node::Op(op, _) => match op {
@@ -27,11 +28,13 @@ impl Terms {
         }
     }
 
-    /// A term for an operation on parts that fit it, of the same value under every assignment. It is a simpler one where the parts are constants, equal, opposite, or neutral.
+    /// A term for an operation on parts that fit it, of the same value under every assignment. It is a simpler one where the parts are constants, equal, opposite, or neutral; on constants it is the constant of what the operation answers.
     pub fn build(&mut self, op: Op, parts: &[TermId]) -> Result<TermId, TermStop>
         requires parts_stand { All (Stands self.old) parts.now }
         requires fits { Fits op (map (width_at self.old) parts.now) }
-        ensures { Folds self.old self.new op parts.now result }
+        ensures made { AreTerms self.new }
+        ensures folds { Folds self.old self.new op parts.now result }
+        ensures folded { All (IsConstant self.old) parts.now → IfOk result (λ id. IsFolded self.old self.new op parts.now id) }
     {
         let mark = self.mark();
         match self.folded(op, parts) {
@@ -48,12 +51,29 @@ impl Terms {
         requires made { AreTerms self.old }
         requires parts_stand { All (Stands self.old) parts.now }
         requires fits { Fits op (map (width_at self.old) parts.now) }
+        ensures builds { Builds self.old self.new op parts.now result }
+        ensures folded { All (IsConstant self.old) parts.now → IfOk result (λ id. IsFolded self.old self.new op parts.now id) }
+    {
+        if let Some(word) = self.answer_on_constants(op, parts) {
+            return self.make(Op::Const(word), &[]);
+        }
+        match (op, parts) {
+            (Op::Eq, [a, b]) => self.equal(*a, *b),
+            _ => self.wired(op, parts),
+        }
+    }
+
+    /// The operation by the rules of one operation alone. A refusal may leave terms that were needed on the way.
+    pub(crate) fn simple(&mut self, op: Op, parts: &[TermId]) -> Result<TermId, TermStop>
+        requires made { AreTerms self.old }
+        requires parts_stand { All (Stands self.old) parts.now }
+        requires fits { Fits op (map (width_at self.old) parts.now) }
         ensures { Builds self.old self.new op parts.now result }
     {
         match self.known(op, parts) {
             Some(Known::Standing(term)) => Ok(term),
             Some(Known::Constant(word)) => self.make(Op::Const(word), &[]),
-            None => self.wired(op, parts),
+            None => self.make(op, parts),
         }
     }
 
@@ -69,7 +89,7 @@ impl Terms {
         let width = self.answer_width(same, held);
         match self.wires(same, held, width) {
             Some(wires) => self.rebuild(&wires, width),
-            None => self.make(op, parts),
+            None => self.simple(op, parts),
         }
     }
 
@@ -94,10 +114,11 @@ impl Terms {
     fn answer_on_constants(&self, op: Op, parts: &[TermId]) -> Option<Word>
         requires parts_stand { All (Stands self.now) parts.now }
         requires fits { Fits op (map (width_at self.now) parts.now) }
-        ensures { IfSome result (λ w. IsAnswer self.now op parts.now w) }
+        ensures answer { IfSome result (λ w. IsAnswer self.now op parts.now w) }
+        ensures all { result ≡ None → All (IsConstant self.now) parts.now → ⊥ }
     {
         match Parts::new(parts) {
-            Parts::Zero => None,
+            Parts::Zero => Some(apply(op, &[])),
             Parts::One(a) => {
                 let word = self.constant(a)?;
                 Some(apply(op, &[word]))

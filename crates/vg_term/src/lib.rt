@@ -2,6 +2,7 @@
 #![tactic(auto)]
 
 mod applying;
+mod equal;
 mod folding;
 mod known;
 mod node;

@@ -1,5 +1,9 @@
 //! Why a term was not made.
 
+ghost use Rattle.std.specs.Prelude.{◌≡◌};
+ghost use Rattle.vg_term.specs.declared.stops.TermStop.TheVariants as stops;
+
+use std::alloc::AllocError;
 use thiserror::Error;
 
 /// Memory ran out.
@@ -16,4 +20,12 @@ pub enum TermStop {
     /// Memory ran out.
     #[error("out of memory")]
     Memory,
+}
+
+impl From<AllocError> for TermStop {
+    ghost from_gives = { λ _ e. e ≡ stops.Memory };
+
+    fn from(_e: AllocError) -> TermStop {
+        TermStop::Memory
+    }
 }

@@ -235,3 +235,32 @@ fn bytes_joined_and_cut_again(rt: HostRuntime) {
     };
     assert!(rt; frame_bytes(&mut terms) == Some(true));
 }
+
+// Whether a field of two bytes that equals a constant is two facts on its bytes, and extended words are compared in their own width.
+fn equalities(terms: &mut Terms) -> Option<bool> {
+    let a = terms.var(8).ok()?;
+    let b = terms.var(8).ok()?;
+    let field = big_endian(terms, Op::Or, &[a, b], 16)?;
+    let kind = word(terms, 16, 0x0800)?;
+    let eight = word(terms, 8, 8)?;
+    let zero = word(terms, 8, 0)?;
+    let low = two(terms, Op::Eq, b, zero)?;
+    let high = two(terms, Op::Eq, a, eight)?;
+    let both = two(terms, Op::And, low, high)?;
+    let wide_a = one(terms, Op::Zext(32), a)?;
+    let wide_b = one(terms, Op::Zext(32), b)?;
+    let narrow = two(terms, Op::Eq, a, b)?;
+    let never = word(terms, 32, 256)?;
+    let off = word(terms, 1, 0)?;
+    let split = two(terms, Op::Eq, field, kind)? == both;
+    let same = two(terms, Op::Eq, wide_a, wide_b)? == narrow;
+    Some(split && same && two(terms, Op::Eq, wide_a, never)? == off)
+}
+
+#[test]
+fn fields_compared_by_their_bytes(rt: HostRuntime) {
+    let Ok(mut terms) = Terms::new(rt.alloc()) else {
+        return;
+    };
+    assert!(rt; equalities(&mut terms) == Some(true));
+}

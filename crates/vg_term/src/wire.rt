@@ -42,7 +42,7 @@ fn follows(first: Wire, wire: Wire, places: u8) -> bool
 }
 
 // Where the longest run from this place ends.
-fn run_end(wires: &[Wire], from: u8, width: u8) -> u8
+pub(crate) fn run_end(wires: &[Wire], from: u8, width: u8) -> u8
     requires within { from < width }
     requires most { width ≤ 64 }
     requires long { width ≤ length wires.now }
@@ -106,7 +106,7 @@ impl Terms {
     }
 
     // The term of a run of wires.
-    fn piece(&mut self, wires: &[Wire], from: u8, to: u8) -> Result<TermId, TermStop>
+    pub(crate) fn piece(&mut self, wires: &[Wire], from: u8, to: u8) -> Result<TermId, TermStop>
         requires run { IsRun wires.now from to }
         requires most { to ≤ 64 }
         requires long { to ≤ length wires.now }

@@ -1,16 +1,11 @@
-use Rattle.std.proofs.Common.{[], subst}
-use Rattle.vg_bits.specs.declared.word.Word.{Word}
-use Rattle.vg_term.specs.Terms.{Needs, operation}
-use Rattle.vg_term.specs.Folding.{IsKnown}
-use Rattle.vg_term.specs.declared.known.Known.{Known}
-use Rattle.vg_term.specs.declared.node.Op.TheVariants.{Const}
-use Rattle.vg_term.proofs.Meanings.{folds_to_word}
+use Rattle.vg_term.proofs.Meanings.{folds_to_word, folded_to_word}
 use Rattle.vg_term.proofs.Building.{folds_builds}
 use Rattle.vg_term.proofs.terms.Terms.folded.Goals as goal
 
-pub returns-in-Some-Constant : goal.returns-in-Some-Constant
-returns-in-Some-Constant c =
+pub returns-in-Some-clause-builds : goal.returns-in-Some-clause-builds
+returns-in-Some-clause-builds c =
     folds_builds c.args.self.now c.make.new.self c.args.op c.args.parts.now c.make.result c.make.ensures.made
-    (folds_to_word c.args.self.now c.make.new.self c.args.op c.args.parts.now c.in-Some-Constant.word c.make.result c.make.ensures.stood c.make.ensures.made c.requires.parts_stand
-    (subst (λ (k : Known). IsKnown c.args.self.now c.args.op c.args.parts.now k) c.in-Some-Constant.field-0-is c.in-Some-Constant.ensures)
-    (subst (λ (w : Word). Needs c.args.self.now c.make.new.self (operation c.args.self.now (Const w) []) c.make.result) c.in-Some-Constant.word-is c.make.ensures.term))
+    (folds_to_word c.args.self.now c.make.new.self c.args.op c.args.parts.now c.in-Some.word c.make.result c.make.ensures.stood c.make.ensures.made c.requires.parts_stand c.in-Some.ensures.answer c.make.ensures.term)
+
+pub returns-in-Some-clause-folded : goal.returns-in-Some-clause-folded
+returns-in-Some-clause-folded c _ = folded_to_word c.args.self.now c.make.new.self c.args.op c.args.parts.now c.in-Some.word c.make.result c.in-Some.ensures.answer c.make.ensures.term

@@ -31,8 +31,3 @@ rebuild-requires-clause-long c =
 pub returns-in-Some : goal.returns-in-Some
 returns-in-Some c =
     rebuilt c.args.self.now c.args.op c.args.parts.now c.new-held.result c.new-held.ensures c.requires.fits c.requires.parts_stand c.rebuild.new.self c.without_carries-same.result c.in-Some.wires c.answer_width-width.result c.rebuild.result c.requires.made c.in-Some.ensures.carry c.answer_width-width.ensures c.without_carries-same.ensures c.rebuild.ensures
-
-pub returns-in-None : goal.returns-in-None
-returns-in-None c =
-    folds_builds c.args.self.now c.make.new.self c.args.op c.args.parts.now c.make.result c.make.ensures.made
-    (folds_to_itself c.args.self.now c.make.new.self c.args.op c.args.parts.now c.make.result c.make.ensures.made c.requires.parts_stand c.requires.fits c.make.ensures.term)
