@@ -23,7 +23,7 @@ abbrev pub list_of : Kind → Parts
 list_of (kinds.Unit items) = items
 list_of (kinds.Struct tag fields attribute) = fields
 list_of (kinds.Function is_static is_inline answer name params body) = params
-list_of (kinds.Block statements) = statements
+list_of (kinds.Block statements end) = statements
 list_of (kinds.Call name arguments) = arguments
 list_of _ = record { from = 0; count = 0 }
 

@@ -147,9 +147,10 @@ pub enum Kind {
         pointer: bool,
         name: Name,
     },
-    /// `{ .. }`: declarations and statements.
+    /// `{ .. }`: declarations and statements, and the place of the last brace.
     Block {
         statements: Parts,
+        end: u32,
     },
     /// A declaration of a variable in a block.
     Declare {

@@ -135,7 +135,7 @@ pieces_names l P h = (all_of, refl, piece_names [] _ (λ k at parts tree row w. 
 
 block_names : Names block itself
 unfolding block sign
-block_names l P h = λ at x a is. pieces_names [] _ (λ parts y b so. (itself, takes_list at nodes.Block parts [] parts (λ ps. (refl, refl)) (sym (append-nil parts)), h))
+block_names l P h = λ at x a is. pieces_names [] _ (λ parts end y b so. (itself, takes_list at (λ statements. nodes.Block statements end) parts [] parts (λ ps. (refl, refl)) (sym (append-nil parts)), h))
 
 if_names : Names if_statement itself
 unfolding if_statement otherwise word sign

@@ -136,7 +136,8 @@ pieces = listed begins_piece piece
 
 -- block: { { piece } }
 unfoldable pub block : Form ℕ
-block = Made (Plain (λ at parts. node_with at nodes.Block parts) ⊛ Place ⊲ sign signs.LeftBrace ⊛ pieces ⊲ sign signs.RightBrace)
+block = Made (Plain (λ at parts end. node_with at (λ statements. nodes.Block statements end) parts)
+    ⊛ Place ⊲ sign signs.LeftBrace ⊛ pieces ⊛ Place ⊲ sign signs.RightBrace)
 
 -- [ else statement ]
 unfoldable pub otherwise : Form (Option ℕ)

@@ -221,7 +221,16 @@ fn item_pieces(kind: Kind) -> [Piece; 8] {
 // The pieces of a statement.
 fn statement_pieces(kind: Kind) -> [Piece; 8] {
     match kind {
-        Kind::Block { statements } => [Word("block"), Piece::Parts(statements), N, N, N, N, N, N],
+        Kind::Block { statements, .. } => [
+            Word("block"),
+            Piece::Parts(statements),
+            N,
+            N,
+            N,
+            N,
+            N,
+            N,
+        ],
         Kind::Declare {
             base: of,
             pointer,

@@ -315,9 +315,10 @@ impl Reader {
         let at = self.place(src);
         self.sign(src, Sign::LeftBrace)?;
         let parts = self.pieces(src)?;
+        let end = self.place(src);
         self.sign(src, Sign::RightBrace)?;
         let statements = self.parts(&parts)?;
-        self.node(at, Kind::Block { statements })
+        self.node(at, Kind::Block { statements, end })
     }
 
     // Reads the declarations and statements of a block.

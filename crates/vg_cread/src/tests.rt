@@ -2,6 +2,7 @@ use super::*;
 use crate::shown::shown;
 use std::alloc::{AllocError, Global};
 use std::test::Fail;
+use vg_core::Kind;
 use vg_ctok::tokens;
 
 // A text between two others.
@@ -129,6 +130,14 @@ fn statements_and_declarations(rt: HostRuntime) -> Result<(), Fail> {
         ("x = 1;", "(set x 1)"),
         ("x += y * 2;", "(set + x (* y 2))"),
         ("x >>= 1;", "(set >> x 1)"),
+        (
+            "a -= b; a *= b; a /= b; a %= b;",
+            "(set - a b) (set * a b) (set / a b) (set % a b)",
+        ),
+        (
+            "a &= b; a |= b; a ^= b; a <<= b;",
+            "(set & a b) (set | a b) (set ^ a b) (set << a b)",
+        ),
         ("x++;", "(++ x)"),
         ("a[0]--;", "(-- ([] a 0))"),
         ("p->n = a ? b : c;", "(set (-> p n) (? a b c))"),
@@ -173,6 +182,10 @@ fn statements_and_declarations(rt: HostRuntime) -> Result<(), Fail> {
             "(declare unsigned u) (declare unsigned v)",
         ),
         (
+            "int8_t a; int16_t b; int32_t c;",
+            "(declare int8_t a) (declare int16_t b) (declare int32_t c)",
+        ),
+        (
             "int x; x = 1; int64_t y;",
             "(declare int x) (set x 1) (declare int64_t y)",
         ),
@@ -180,6 +193,31 @@ fn statements_and_declarations(rt: HostRuntime) -> Result<(), Fail> {
     for (text, want) in rows {
         assert!(rt; is_read(rt.alloc(), around, text, shown_around, want)?);
     }
+    Ok(())
+}
+
+// Where the blocks of a text begin and end, the inner before the outer.
+fn ends_of_blocks(alloc: Global, text: &[u8]) -> Result<Vec<(u32, u32)>, Fail> {
+    let mut ends = Vec::new(alloc);
+    let Ok(toks) = tokens(alloc, text) else {
+        return Ok(ends);
+    };
+    let Ok(tree) = read_unit(alloc, &toks) else {
+        return Ok(ends);
+    };
+    for node in tree.nodes() {
+        if let Kind::Block { end, .. } = node.kind {
+            ends.push((node.at, end))?;
+        }
+    }
+    Ok(ends)
+}
+
+#[test]
+fn blocks_end_at_their_last_brace(rt: HostRuntime) -> Result<(), Fail> {
+    let text = b"void f(void) { { ; } if (a) { g(); /* } */ } }";
+    let ends = ends_of_blocks(rt.alloc(), text)?;
+    assert!(rt; ends.as_slice() == [(15, 19), (28, 43), (13, 45)].as_slice());
     Ok(())
 }
 

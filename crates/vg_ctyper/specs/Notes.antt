@@ -86,7 +86,7 @@ operator_steps k _ = 0
 -- at most so many steps: a statement counts 1, a block and a declaration nothing, a condition 1, a call 1 and its body, of two branches the greater
 abbrev pub node_steps : Known → ℕ → Kind → ℕ
 node_steps k n (nodes.Function is_static is_inline answer name params body) = steps_at k body
-node_steps k n (nodes.Block statements) = sum_of_steps k (listed k.tree.items statements)
+node_steps k n (nodes.Block statements end) = sum_of_steps k (listed k.tree.items statements)
 node_steps k n (nodes.Declare base pointer name count value) = optional_steps k value
 node_steps k n nodes.Empty = 1
 node_steps k n (nodes.Evaluate value) = capped (1 + steps_at k value)

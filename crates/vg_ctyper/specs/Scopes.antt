@@ -71,7 +71,7 @@ sight tree n seen (nodes.ExternNumber of name) = []
 sight tree n seen (nodes.Function is_static is_inline answer name params body) =
     in_row tree (Some n) (listed tree.items params) ++ all_see (seen_behind tree (Some n) (listed tree.items params)) (body ∷ [])
 sight tree n seen (nodes.Param base pointer name) = []
-sight tree n seen (nodes.Block statements) = in_row tree seen (listed tree.items statements)
+sight tree n seen (nodes.Block statements end) = in_row tree seen (listed tree.items statements)
 sight tree n seen (nodes.Declare base pointer name count value) = all_see seen (optional count) ++ all_see (Some n) (optional value)
 sight tree n seen nodes.Empty = []
 sight tree n seen (nodes.Evaluate value) = all_see seen (value ∷ [])

@@ -83,7 +83,13 @@ fn tell(tree: &Tree, standings: &mut Vec<Standing>, n: u32)
     match kind_at(tree, n) {
         Kind::Unit { items } => tell_row(tree, standings, n, tree.listed(items), None),
         Kind::Struct { fields, .. } => tell_row(tree, standings, n, tree.listed(fields), Some(n)),
-        Kind::Block { statements } => tell_row(tree, standings, n, tree.listed(statements), seen),
+        Kind::Block { statements, .. } => tell_row(
+            tree,
+            standings,
+            n,
+            tree.listed(statements),
+            seen,
+        ),
         Kind::Function { params, body, .. } => {
             let params = tree.listed(params);
             tell_row(tree, standings, n, params, Some(n));
