@@ -1,0 +1,82 @@
+//! Chunks of the frame, borrowed and given back.
+ghost use Rattle.std.specs.Prelude.{◌≡◌, length, OnErr, IfOk, Ok, slice_get};
+ghost use Rattle.vg_cmemory.specs.Access.{left};
+ghost use Rattle.vg_cmemory.specs.Loans as loans;
+ghost use Rattle.vg_cmemory.specs.Loans.{can_borrow, start_of_loan, is_start, last_chunk};
+
+use crate::memory::FrameMemory;
+use crate::object::{Chunk, Object, Pointer};
+use vg_core::Reason;
+
+// Whether a pointer is the start of a chunk.
+fn is_start(pointer: Pointer, chunk: Option<Chunk>) -> bool
+    ensures { result ≡ is_start pointer chunk }
+{
+    match (pointer.object, chunk) {
+        (Object::Chunk { made }, Some(chunk)) => made == chunk.made && pointer.offset == 0,
+        _ => false,
+    }
+}
+
+impl FrameMemory {
+    fn can_borrow(&self, frame_length: u32, count: u32) -> bool
+        ensures { result ≡ can_borrow self.now frame_length count }
+    {
+        0 < count
+            && self.next <= frame_length
+            && count <= frame_length - self.next
+            && self.chunk_list.len() < 16
+    }
+
+    fn last_chunk(&self) -> Option<Chunk>
+        ensures { result ≡ last_chunk self.now }
+    {
+        let count = self.chunk_list.len();
+        if count == 0 {
+            return None;
+        }
+        self.chunk_list.as_slice().get(count - 1).copied()
+    }
+
+    /// Lends the next bytes of a frame of `frame_length` bytes, and answers a pointer to the first.
+    ///
+    /// `Before(2)`: no byte is asked for, or more than are left, or 16 chunks are lent. Then nothing changes.
+    pub fn borrow(&mut self, frame_length: u32, count: u32) -> Result<Pointer, Reason>
+        ensures value { left result self.new ≡ loans.borrow self.old frame_length count }
+        ensures start { IfOk result (λ p. p ≡ start_of_loan self.old) }
+        ensures kept { OnErr result (self.new ≡ self.old) }
+    {
+        if !self.can_borrow(frame_length, count) {
+            return Err(Reason::Before(2));
+        }
+        let made = self.taken;
+        let from = self.next;
+        self.chunk_list.push(Chunk {
+            made,
+            from,
+            size: count,
+        });
+        self.next = from + count;
+        Ok(Pointer {
+            object: Object::Chunk { made },
+            offset: 0,
+        })
+    }
+
+    /// Takes back the chunk that was lent last.
+    ///
+    /// `Before(3)`: the pointer isn't its start, or no chunk is lent. Then nothing changes.
+    pub fn give_back(&mut self, pointer: Pointer) -> Result<(), Reason>
+        ensures value { left result self.new ≡ loans.give_back self.old pointer }
+        ensures kept { OnErr result (self.new ≡ self.old) }
+    {
+        let last = self.last_chunk();
+        if !is_start(pointer, last) {
+            return Err(Reason::Before(3));
+        }
+        if let Some(chunk) = self.chunk_list.pop() {
+            self.next = chunk.from;
+        }
+        Ok(())
+    }
+}
