@@ -19,12 +19,12 @@ fn is_start(pointer: Pointer, chunk: Option<Chunk>) -> bool
 }
 
 impl FrameMemory {
-    fn can_borrow(&self, frame_length: u32, count: u32) -> bool
+    fn can_borrow(&self, frame_length: u32, count: u64) -> bool
         ensures { result ≡ can_borrow self.now frame_length count }
     {
         0 < count
             && self.next <= frame_length
-            && count <= frame_length - self.next
+            && count <= u64::from(frame_length - self.next)
             && self.chunk_list.len() < 16
     }
 
@@ -41,7 +41,7 @@ impl FrameMemory {
     /// Lends the next bytes of a frame of `frame_length` bytes, and answers a pointer to the first.
     ///
     /// `Before(2)`: no byte is asked for, or more than are left, or 16 chunks are lent. Then nothing changes.
-    pub fn borrow(&mut self, frame_length: u32, count: u32) -> Result<Pointer, Reason>
+    pub fn borrow(&mut self, frame_length: u32, count: u64) -> Result<Pointer, Reason>
         ensures value { left result self.new ≡ loans.borrow self.old frame_length count }
         ensures start { IfOk result (λ p. p ≡ start_of_loan self.old) }
         ensures kept { OnErr result (self.new ≡ self.old) }
@@ -51,12 +51,13 @@ impl FrameMemory {
         }
         let made = self.taken;
         let from = self.next;
+        let size = count as u32;
         self.chunk_list.push(Chunk {
             made,
             from,
-            size: count,
+            size,
         });
-        self.next = from + count;
+        self.next = from + size;
         Ok(Pointer {
             object: Object::Chunk { made },
             offset: 0,

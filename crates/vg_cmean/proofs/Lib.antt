@@ -1,0 +1,5 @@
+mod Below
+mod Closing
+mod Turns
+mod Lists
+mod Strict

@@ -1,0 +1,70 @@
+use Rattle.std.proofs.Common.{◌≡◌, ◌+◌, ◌-◌, ◌*◌, ◌^◌, length, drop}
+use Rattle.vg_cmean.specs.Outcomes.{full}
+use Rattle.vg_cmean.specs.Meaning as meaning
+use Rattle.vg_cmean.specs.Meaning.{meaning_below}
+use Rattle.vg_cmean.proofs.run.+machine.Given as goal
+
+abbrev pub decreases-expression : goal.decreases-expression
+decreases-expression l = 2 ^ 33 * (3 * l.n + 2)
+
+abbrev pub decreases-statement : goal.decreases-statement
+decreases-statement l = 2 ^ 33 * (3 * l.n + 2)
+
+abbrev pub decreases-before_operand : goal.decreases-before_operand
+decreases-before_operand l = 2 ^ 33 * (3 * l.n + 1) + 5
+
+abbrev pub decreases-operation : goal.decreases-operation
+decreases-operation l = 2 ^ 33 * (3 * l.n + 1) + 5
+
+abbrev pub decreases-choose : goal.decreases-choose
+decreases-choose l = 2 ^ 33 * (3 * l.n + 1) + 5
+
+abbrev pub decreases-index_of : goal.decreases-index_of
+decreases-index_of l = 2 ^ 33 * (3 * l.n + 1) + 5
+
+abbrev pub decreases-library : goal.decreases-library
+decreases-library l = 2 ^ 33 * (3 * l.n + 1) + 5
+
+abbrev pub decreases-declaration : goal.decreases-declaration
+decreases-declaration l = 2 ^ 33 * (3 * l.n + 1) + 5
+
+abbrev pub decreases-assign : goal.decreases-assign
+decreases-assign l = 2 ^ 33 * (3 * l.n + 1) + 5
+
+abbrev pub decreases-branch : goal.decreases-branch
+decreases-branch l = 2 ^ 33 * (3 * l.n + 1) + 5
+
+abbrev pub decreases-run_all : goal.decreases-run_all
+decreases-run_all l = 2 ^ 33 * (3 * l.n + 1) + 5
+
+abbrev pub decreases-turns : goal.decreases-turns
+decreases-turns l = 2 ^ 33 * (3 * l.n + 1) + 5
+
+abbrev pub decreases-turn : goal.decreases-turn
+decreases-turn l = 2 ^ 33 * (3 * l.n + 1) + 4
+
+abbrev pub decreases-call : goal.decreases-call
+decreases-call l = 2 ^ 33 * (3 * l.n + 1) + 2 ^ 32 + 2
+
+abbrev pub decreases-call_function : goal.decreases-call_function
+decreases-call_function l = 2 ^ 33 * (3 * l.n + 1) + 2 ^ 32 + 1
+
+abbrev pub decreases-given : goal.decreases-given
+decreases-given l = 2 ^ 33 * (3 * l.n + 1) + length l.arguments.now
+
+abbrev pub decreases-part : goal.decreases-part
+decreases-part l = 2 ^ 33 * (3 * l.n)
+
+abbrev pub decreases-part_does : goal.decreases-part_does
+decreases-part_does l = 2 ^ 33 * (3 * l.n)
+
+abbrev pub decreases-part_value : goal.decreases-part_value
+decreases-part_value l = 2 ^ 33 * (3 * l.n) + 1
+
+abbrev pub invariant-run_all-loop-p : goal.invariant-run_all-loop-p
+invariant-run_all-loop-p l = meaning.run_all (meaning_below l.unit l.n) (drop l.p-index l.list) (full l.memory l.frame) ≡ meaning.run_all (meaning_below l.unit l.n) l.list (full l.initial.memory l.initial.frame)
+
+abbrev pub invariant-turns-loop-turn : goal.invariant-turns-loop-turn
+invariant-turns-loop-turn l =
+    meaning.turns l.unit (4096 - l._turn) l.n (meaning_below l.unit l.n l.body) l.counter l.bound l.step (full l.memory l.frame)
+      ≡ meaning.turns l.unit 4096 l.n (meaning_below l.unit l.n l.body) l.fn.first l.bound l.step (full l.initial.memory l.initial.frame)

@@ -1,0 +1,6 @@
+pub mod Outcomes
+pub mod Typings
+pub mod Values
+pub mod Places
+pub mod Meaning
+pub mod Runs

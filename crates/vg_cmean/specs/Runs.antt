@@ -1,0 +1,88 @@
+-- A run of `nf_process` on a frame, whole.
+use Rattle.std.specs.Prelude.{ℕ, zero, suc, ◌+◌, ◌-◌, List, [], ◌∷◌, ◌++◌, length, slice_get, Option, Some, None, ℤ}
+use Rattle.vg_core.specs.Syntax.{listed}
+use Rattle.vg_core.specs.Layouts.{layout}
+use Rattle.vg_core.specs.Units.{Typed}
+use Rattle.vg_core.specs.declared.reason.Reason.{Reason}
+use Rattle.vg_core.specs.declared.reason.Reason.TheVariants as reasons
+use Rattle.vg_core.specs.declared.tree.IntType.{IntType}
+use Rattle.vg_core.specs.declared.tree.Kind.{Kind}
+use Rattle.vg_core.specs.declared.tree.Kind.TheVariants as nodes
+use Rattle.vg_core.specs.declared.types.CType.{CType}
+use Rattle.vg_core.specs.declared.types.CType.TheVariants as types
+use Rattle.vg_core.specs.declared.types.Integer.{Integer}
+use Rattle.vg_cint.specs.Types.{int, without_sign}
+use Rattle.vg_cint.specs.Values.{reading}
+use Rattle.vg_cint.specs.declared.value.Value.{Value}
+use Rattle.vg_cmemory.specs.declared.object.Variable.{Variable}
+use Rattle.vg_cmemory.specs.State.{Own, State, at_start}
+use Rattle.vg_cmean.specs.declared.datum.Datum.{Datum}
+use Rattle.vg_cmean.specs.declared.datum.Datum.TheVariants as data_of
+use Rattle.vg_cmean.specs.Outcomes.{Outcome, Next, Gives, Wrong, after, full}
+use Rattle.vg_cmean.specs.Typings.{kind_at, type_at}
+use Rattle.vg_cmean.specs.Values.{word_of}
+use Rattle.vg_cmean.specs.Meaning.{meaning, parameter, answer_as, closing, end_of}
+
+-- ---- where the bytes of each declaration stand: one behind the other, in the order of the text
+
+-- a pointer variable has no bytes: its pointer is kept apart
+abbrev pub bytes_of : Typed → CType → ℕ
+bytes_of u (types.Pointer target) = 0
+bytes_of u type = (layout u.notes type).size
+
+-- of a variable, parameter or counter
+abbrev pub bytes_declared : Typed → ℕ → Kind → ℕ
+bytes_declared u n (nodes.Param base pointer name) = bytes_of u (type_at u n)
+bytes_declared u n (nodes.Declare base pointer name count value) = bytes_of u (type_at u n)
+bytes_declared u n (nodes.For type counter start tested bound stepped step body) = bytes_of u (type_at u n)
+bytes_declared u n kind = 0
+
+-- the bytes of all declarations below a node
+unfoldable pub bytes_below : Typed → ℕ → ℕ
+bytes_below u zero = 0
+bytes_below u (suc n) = bytes_below u n + bytes_declared u n (kind_at u n)
+
+abbrev pub variable_at : Typed → ℕ → Variable
+variable_at u n = record { from = bytes_below u n; size = bytes_declared u n (kind_at u n); made = None; points = None }
+
+unfoldable pub variables_below : Typed → ℕ → List Variable
+variables_below u zero = []
+variables_below u (suc n) = variables_below u n ++ variable_at u n ∷ []
+
+-- what a run of a text begins with
+abbrev pub start : Typed → Own
+start u = at_start (variables_below u (length u.tree.nodes)) (bytes_below u (length u.tree.nodes))
+
+-- ---- `nf_process` is the last item of the text
+
+abbrev pub last_of : List ℕ → Option ℕ
+last_of items = slice_get items (length items - 1)
+
+abbrev pub process_in : Typed → Kind → Option ℕ
+process_in u (nodes.Unit items) = last_of (listed u.tree.items items)
+process_in u kind = None
+
+abbrev pub process_of : Typed → Option ℕ
+process_of u = process_in u (kind_at u (length u.tree.nodes - 1))
+
+abbrev pub unsigned : (bits word : ℕ) → Datum
+unsigned bits word = data_of.Word (record { of = without_sign bits; word = word })
+
+-- its parameters: the port, of 16 bits, and the time, of 64
+abbrev pub arguments : Typed → List ℕ → (port now : ℕ) → State → Outcome
+arguments u (p ∷ t ∷ []) port now s = after (parameter u p (unsigned 16 port) s) (parameter u t (unsigned 64 now))
+arguments u ps port now s = Next s
+
+abbrev pub run_of : Typed → Kind → (port now : ℕ) → State → Outcome
+run_of u (nodes.Function is_static is_inline answer name params body) port now s =
+    after (arguments u (listed u.tree.items params) port now s)
+      (λ t. answer_as answer (end_of (kind_at u body)) (closing (listed u.tree.items params) ((meaning u body).does t)))
+run_of u kind port now s = Wrong 0 reasons.Unset
+
+abbrev pub run_at : Typed → Option ℕ → (port now : ℕ) → State → Outcome
+run_at u None port now s = Wrong 0 reasons.Unset
+run_at u (Some f) port now s = run_of u (kind_at u f) port now s
+
+-- what comes of a frame that a port gets at a time
+abbrev pub run : Typed → (port now : ℕ) → List ℕ → Outcome
+run u port now frame = run_at u (process_of u) port now (full (start u) frame)

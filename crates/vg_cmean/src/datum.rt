@@ -1,0 +1,32 @@
+//! What expressions give.
+
+use vg_cint::Value;
+use vg_cmemory::Pointer;
+use vg_core::CType;
+
+/// Where an lvalue stands that is made of bytes.
+#[derive(Clone, Copy, Debug, PartialEq, Eq)]
+pub struct Place {
+    pub pointer: Pointer,
+    /// Its type.
+    pub of: CType,
+    /// Whether it is in a packed struct, where it may stand at any offset.
+    pub loose: bool,
+    /// Where it is named in the text.
+    pub at: u32,
+}
+
+/// What an expression gives.
+#[derive(Clone, Copy, Debug, PartialEq, Eq)]
+pub enum Datum {
+    /// Nothing, as a call of a `void` function.
+    Nothing,
+    /// An integer.
+    Word(Value),
+    /// A pointer that is set.
+    Address(Pointer),
+    /// An lvalue that is made of bytes.
+    Object(Place),
+    /// A pointer variable, with the number of the node that declares it, and where it is named in the text.
+    Holder { node: u32, at: u32 },
+}

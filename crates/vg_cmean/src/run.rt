@@ -1,0 +1,611 @@
+//! The machine: it runs the nodes of a typed text as they mean (C11 6.5, 6.8). It takes no memory.
+ghost use Rattle.std.specs.Prelude.{◌≡◌, ◌<◌, ◌^◌, length};
+ghost use Rattle.vg_cmean.specs.Outcomes.{gives, does, goes, full};
+ghost use Rattle.vg_cmean.specs.Meaning as meaning;
+ghost use Rattle.vg_cmean.specs.Meaning.{meaning_below, value};
+ghost use Rattle.vg_cmean.specs.Typings as typings;
+
+use crate::calls::{answer_as, end_all, end_of, library_alone, library_on, parameter};
+use crate::datum::Datum;
+use crate::fault::Fault;
+use crate::operators::{ONE, binary, is_below, next_of, unary};
+use crate::places::{address, declared, element, indexed, member, named, pointed_to};
+use crate::typings::{constant_at, element_size, kind_at, place_at, referent_at, type_at};
+use crate::values::{as_type, converted_to, integer_of, is_true, of_bool, read, write};
+use vg_cint::Value;
+use vg_cmemory::FrameMemory;
+use vg_core::{BinaryOp, IntType, Integer, Kind, Referent, UnaryOp, Unit, erase};
+
+const UNSIGNED_64: Integer = Integer {
+    bits: 64,
+    signed: false,
+};
+
+/// What a node gives as an expression.
+#[cycle(machine)]
+#[tactic(auto, using(crate::proofs::Below::meaning_is, crate::proofs::Lists::few_listed))]
+pub fn expression(
+    memory: &mut FrameMemory,
+    frame: &mut [u8],
+    unit: &Unit,
+    n: u32,
+) -> Result<Datum, Fault>
+    requires size { length frame.old < 2 ^ 32 }
+    ensures { gives result (full memory.new frame.new) ≡ (meaning.meaning unit.now n).gives (full memory.old frame.old) }
+{
+    match kind_at(unit, n) {
+        Kind::Number { value, of } => Ok(Datum::Word(Value {
+            of: vg_cint::integer_of(of),
+            word: value,
+        })),
+        Kind::Sizeof { .. } => Ok(Datum::Word(Value {
+            of: UNSIGNED_64,
+            word: constant_at(unit, n),
+        })),
+        Kind::Variable { .. } => Ok(named(memory, unit, n)),
+        Kind::Parens { inner } => part(memory, frame, unit, n, inner),
+        Kind::Unary { op, operand } => before_operand(memory, frame, unit, op, n, operand),
+        Kind::Binary { op, left, right } => operation(memory, frame, unit, op, n, left, right),
+        Kind::Choose {
+            condition,
+            then,
+            otherwise,
+        } => choose(memory, frame, unit, n, condition, then, otherwise),
+        Kind::Cast { operand, .. } => {
+            let datum = part_value(memory, frame, unit, n, operand)?;
+            Ok(as_type(type_at(unit, n), datum))
+        }
+        Kind::Index { array, index } => index_of(memory, frame, unit, n, array, index),
+        Kind::Member { whole, .. } => {
+            let datum = part(memory, frame, unit, n, whole)?;
+            Ok(member(unit, n, whole, datum))
+        }
+        Kind::Arrow { pointer, .. } => {
+            let datum = part_value(memory, frame, unit, n, pointer)?;
+            Ok(member(unit, n, pointer, datum))
+        }
+        Kind::Call { arguments, .. } => {
+            let arguments = erase(unit).listed(arguments);
+            call(memory, frame, unit, n, arguments)
+        }
+        _ => Ok(Datum::Nothing),
+    }
+}
+
+// What a part of a node gives. A node's parts stand before it.
+#[cycle(machine)]
+#[tactic(auto, using(crate::proofs::Below::below_is, crate::proofs::Below::below_none))]
+fn part(
+    memory: &mut FrameMemory,
+    frame: &mut [u8],
+    unit: &Unit,
+    n: u32,
+    p: u32,
+) -> Result<Datum, Fault>
+    requires size { length frame.old < 2 ^ 32 }
+    ensures { gives result (full memory.new frame.new) ≡ (meaning_below unit.now n p).gives (full memory.old frame.old) }
+{
+    if n <= p {
+        return Ok(Datum::Nothing);
+    }
+    expression(memory, frame, unit, p)
+}
+
+// The value of a part of a node: an lvalue is read.
+#[cycle(machine)]
+fn part_value(
+    memory: &mut FrameMemory,
+    frame: &mut [u8],
+    unit: &Unit,
+    n: u32,
+    p: u32,
+) -> Result<Datum, Fault>
+    requires size { length frame.old < 2 ^ 32 }
+    ensures { gives result (full memory.new frame.new) ≡ value (meaning_below unit.now n p) (full memory.old frame.old) }
+{
+    let datum = part(memory, frame, unit, n, p)?;
+    read(memory, frame, datum)
+}
+
+// What a part of a node does as a statement.
+#[cycle(machine)]
+#[tactic(auto, using(crate::proofs::Below::below_is, crate::proofs::Below::below_none))]
+fn part_does(
+    memory: &mut FrameMemory,
+    frame: &mut [u8],
+    unit: &Unit,
+    n: u32,
+    p: u32,
+) -> Result<Option<Datum>, Fault>
+    requires size { length frame.old < 2 ^ 32 }
+    ensures { does result (full memory.new frame.new) ≡ (meaning_below unit.now n p).does (full memory.old frame.old) }
+{
+    if n <= p {
+        return Ok(None);
+    }
+    statement(memory, frame, unit, p)
+}
+
+// An operator before its operand.
+#[cycle(machine)]
+fn before_operand(
+    memory: &mut FrameMemory,
+    frame: &mut [u8],
+    unit: &Unit,
+    op: UnaryOp,
+    n: u32,
+    operand: u32,
+) -> Result<Datum, Fault>
+    requires size { length frame.old < 2 ^ 32 }
+    ensures { gives result (full memory.new frame.new) ≡ meaning.before_operand unit.now op n (meaning_below unit.now n operand) (full memory.old frame.old) }
+{
+    match op {
+        UnaryOp::Address => Ok(address(part(memory, frame, unit, n, operand)?)),
+        UnaryOp::Load => {
+            let datum = part_value(memory, frame, unit, n, operand)?;
+            Ok(pointed_to(type_at(unit, n), place_at(unit, n), datum))
+        }
+        _ => {
+            let datum = part_value(memory, frame, unit, n, operand)?;
+            unary(op, place_at(unit, n), datum)
+        }
+    }
+}
+
+// An operator between two operands, the left one evaluated first.
+#[cycle(machine)]
+#[tactic(auto, using(crate::proofs::Strict::operation_strict))]
+fn operation(
+    memory: &mut FrameMemory,
+    frame: &mut [u8],
+    unit: &Unit,
+    op: BinaryOp,
+    n: u32,
+    left: u32,
+    right: u32,
+) -> Result<Datum, Fault>
+    requires size { length frame.old < 2 ^ 32 }
+    ensures { gives result (full memory.new frame.new) ≡ meaning.operation op (typings.place_at unit.now n) (meaning_below unit.now n left) (meaning_below unit.now n right) (full memory.old frame.old) }
+{
+    let a = part_value(memory, frame, unit, n, left)?;
+    match op {
+        BinaryOp::AndThen => {
+            memory.tick();
+            if !is_true(a) {
+                return Ok(of_bool(false));
+            }
+            let b = part_value(memory, frame, unit, n, right)?;
+            Ok(of_bool(is_true(b)))
+        }
+        BinaryOp::OrElse => {
+            memory.tick();
+            if is_true(a) {
+                return Ok(of_bool(true));
+            }
+            let b = part_value(memory, frame, unit, n, right)?;
+            Ok(of_bool(is_true(b)))
+        }
+        _ => {
+            let b = part_value(memory, frame, unit, n, right)?;
+            binary(op, place_at(unit, n), a, b)
+        }
+    }
+}
+
+// `condition ? one : other`
+#[cycle(machine)]
+fn choose(
+    memory: &mut FrameMemory,
+    frame: &mut [u8],
+    unit: &Unit,
+    n: u32,
+    condition: u32,
+    one: u32,
+    other: u32,
+) -> Result<Datum, Fault>
+    requires size { length frame.old < 2 ^ 32 }
+    ensures { gives result (full memory.new frame.new) ≡ meaning.choice unit.now n (meaning_below unit.now n condition) (meaning_below unit.now n one) (meaning_below unit.now n other) (full memory.old frame.old) }
+{
+    let holds = is_true(part_value(memory, frame, unit, n, condition)?);
+    memory.tick();
+    if holds {
+        let datum = part_value(memory, frame, unit, n, one)?;
+        return Ok(as_type(type_at(unit, n), datum));
+    }
+    let datum = part_value(memory, frame, unit, n, other)?;
+    Ok(as_type(type_at(unit, n), datum))
+}
+
+// `array[index]`
+#[cycle(machine)]
+fn index_of(
+    memory: &mut FrameMemory,
+    frame: &mut [u8],
+    unit: &Unit,
+    n: u32,
+    array: u32,
+    index: u32,
+) -> Result<Datum, Fault>
+    requires size { length frame.old < 2 ^ 32 }
+    ensures { gives result (full memory.new frame.new) ≡ meaning.index_of unit.now (meaning_below unit.now n) n array index (full memory.old frame.old) }
+{
+    let whole = part(memory, frame, unit, n, array)?;
+    let whole = indexed(memory, frame, whole)?;
+    let number = part_value(memory, frame, unit, n, index)?;
+    let size = element_size(unit, type_at(unit, array));
+    element(
+        size,
+        type_at(unit, n),
+        place_at(unit, n),
+        place_at(unit, index),
+        whole,
+        number,
+    )
+}
+
+// A call, of a function of the text or of the library.
+#[cycle(machine)]
+fn call(
+    memory: &mut FrameMemory,
+    frame: &mut [u8],
+    unit: &Unit,
+    n: u32,
+    arguments: &[u32],
+) -> Result<Datum, Fault>
+    requires size { length frame.old < 2 ^ 32 }
+    requires few { length arguments.now < 2 ^ 32 }
+    ensures { gives result (full memory.new frame.new) ≡ meaning.call unit.now (meaning_below unit.now n) (typings.place_at unit.now n) arguments.now (typings.referent_at unit.now n) (full memory.old frame.old) }
+{
+    match referent_at(unit, n) {
+        None => Ok(Datum::Nothing),
+        Some(Referent::Library(row)) => library(memory, frame, unit, n, row, arguments),
+        Some(Referent::Declared(function)) => match kind_at(unit, function) {
+            Kind::Function {
+                answer,
+                params,
+                body,
+                ..
+            } => {
+                let params = erase(unit).listed(params);
+                call_function(memory, frame, unit, n, arguments, answer, params, body)
+            }
+            _ => Ok(Datum::Nothing),
+        },
+    }
+}
+
+// A call of a function of the text.
+#[cycle(machine)]
+#[tactic(auto, using(crate::proofs::Closing::closing_ok))]
+fn call_function(
+    memory: &mut FrameMemory,
+    frame: &mut [u8],
+    unit: &Unit,
+    n: u32,
+    arguments: &[u32],
+    answer: Option<IntType>,
+    params: &[u32],
+    body: u32,
+) -> Result<Datum, Fault>
+    requires size { length frame.old < 2 ^ 32 }
+    requires few { length arguments.now < 2 ^ 32 }
+    ensures { gives result (full memory.new frame.new) ≡ meaning.function_called unit.now (meaning_below unit.now n) arguments.now answer params.now body (full memory.old frame.old) }
+{
+    given(memory, frame, unit, n, arguments, params)?;
+    let returned = part_does(memory, frame, unit, n, body)?;
+    end_all(memory, params);
+    answer_as(answer, end_of(kind_at(unit, body)), returned)
+}
+
+// The parameters of a call, after all arguments were evaluated, the first one first.
+#[cycle(machine)]
+fn given(
+    memory: &mut FrameMemory,
+    frame: &mut [u8],
+    unit: &Unit,
+    n: u32,
+    arguments: &[u32],
+    params: &[u32],
+) -> Result<(), Fault>
+    requires size { length frame.old < 2 ^ 32 }
+    requires few { length arguments.now < 2 ^ 32 }
+    ensures { goes result (full memory.new frame.new) ≡ meaning.given unit.now (meaning_below unit.now n) arguments.now params.now (full memory.old frame.old) }
+{
+    match (arguments.split_first(), params.split_first()) {
+        (Some((&argument, arguments)), Some((&p, params))) => {
+            let datum = part_value(memory, frame, unit, n, argument)?;
+            given(memory, frame, unit, n, arguments, params)?;
+            parameter(memory, frame, unit, p, datum)
+        }
+        _ => {
+            memory.tick();
+            Ok(())
+        }
+    }
+}
+
+// A call of the library, by the number of its row.
+#[cycle(machine)]
+fn library(
+    memory: &mut FrameMemory,
+    frame: &mut [u8],
+    unit: &Unit,
+    n: u32,
+    row: u8,
+    arguments: &[u32],
+) -> Result<Datum, Fault>
+    requires size { length frame.old < 2 ^ 32 }
+    ensures { gives result (full memory.new frame.new) ≡ meaning.library (meaning_below unit.now n) row (typings.place_at unit.now n) arguments.now (full memory.old frame.old) }
+{
+    match arguments.split_first() {
+        None => Ok(library_alone(memory, frame, row)),
+        Some((&argument, _)) => {
+            let datum = part_value(memory, frame, unit, n, argument)?;
+            memory.tick();
+            library_on(memory, frame, row, place_at(unit, n), datum)
+        }
+    }
+}
+
+/// What a node does as a statement: nothing where it goes on to the next one, else what it returns.
+#[cycle(machine)]
+#[tactic(auto, using(crate::proofs::Below::meaning_is, crate::proofs::Closing::closing_ok))]
+pub fn statement(
+    memory: &mut FrameMemory,
+    frame: &mut [u8],
+    unit: &Unit,
+    n: u32,
+) -> Result<Option<Datum>, Fault>
+    requires size { length frame.old < 2 ^ 32 }
+    ensures { does result (full memory.new frame.new) ≡ (meaning.meaning unit.now n).does (full memory.old frame.old) }
+{
+    match kind_at(unit, n) {
+        Kind::Block { statements, .. } => {
+            let list = erase(unit).listed(statements);
+            let returned = run_all(memory, frame, unit, n, list)?;
+            end_all(memory, list);
+            Ok(returned)
+        }
+        Kind::Declare { value, .. } => declaration(memory, frame, unit, n, value),
+        Kind::Empty => {
+            memory.tick();
+            Ok(None)
+        }
+        Kind::Evaluate { value } => {
+            memory.tick();
+            part(memory, frame, unit, n, value)?;
+            Ok(None)
+        }
+        Kind::Assign { op, target, value } => assign(memory, frame, unit, n, op, target, value),
+        Kind::Increment { target } => {
+            memory.tick();
+            let to = part(memory, frame, unit, n, target)?;
+            stepped(memory, frame, BinaryOp::Add, place_at(unit, n), to)?;
+            Ok(None)
+        }
+        Kind::Decrement { target } => {
+            memory.tick();
+            let to = part(memory, frame, unit, n, target)?;
+            stepped(memory, frame, BinaryOp::Subtract, place_at(unit, n), to)?;
+            Ok(None)
+        }
+        Kind::If {
+            condition,
+            then,
+            otherwise,
+        } => branch(memory, frame, unit, n, condition, then, otherwise),
+        Kind::For {
+            of,
+            start,
+            bound,
+            step,
+            body,
+            ..
+        } => {
+            memory.tick();
+            memory.declare(n);
+            let returned = turns(memory, frame, unit, n, body, first_of(unit, of, start), constant(unit, bound), step_of(unit, step))?;
+            memory.end_life(n);
+            Ok(returned)
+        }
+        Kind::Return { value } => {
+            memory.tick();
+            match value {
+                None => Ok(Some(Datum::Nothing)),
+                Some(value) => Ok(Some(part_value(memory, frame, unit, n, value)?)),
+            }
+        }
+        _ => Ok(None),
+    }
+}
+
+// A declaration of a variable in a block.
+#[cycle(machine)]
+fn declaration(
+    memory: &mut FrameMemory,
+    frame: &mut [u8],
+    unit: &Unit,
+    n: u32,
+    value: Option<u32>,
+) -> Result<Option<Datum>, Fault>
+    requires size { length frame.old < 2 ^ 32 }
+    ensures { does result (full memory.new frame.new) ≡ meaning.declaration unit.now (meaning_below unit.now n) n value (full memory.old frame.old) }
+{
+    memory.declare(n);
+    match value {
+        None => Ok(None),
+        Some(value) => {
+            let datum = part_value(memory, frame, unit, n, value)?;
+            let variable = declared(memory, unit, n, place_at(unit, n));
+            write(memory, frame, variable, datum)?;
+            Ok(None)
+        }
+    }
+}
+
+// `target = value;`, or `target op= value;`
+#[cycle(machine)]
+fn assign(
+    memory: &mut FrameMemory,
+    frame: &mut [u8],
+    unit: &Unit,
+    n: u32,
+    op: Option<BinaryOp>,
+    target: u32,
+    value: u32,
+) -> Result<Option<Datum>, Fault>
+    requires size { length frame.old < 2 ^ 32 }
+    ensures { does result (full memory.new frame.new) ≡ meaning.assignment unit.now n op (meaning_below unit.now n target) (meaning_below unit.now n value) (full memory.old frame.old) }
+{
+    memory.tick();
+    let to = part(memory, frame, unit, n, target)?;
+    match op {
+        None => {
+            let datum = part_value(memory, frame, unit, n, value)?;
+            write(memory, frame, to, datum)?;
+            Ok(None)
+        }
+        Some(op) => {
+            let a = read(memory, frame, to)?;
+            let b = part_value(memory, frame, unit, n, value)?;
+            let datum = binary(op, place_at(unit, n), a, b)?;
+            write(memory, frame, to, datum)?;
+            Ok(None)
+        }
+    }
+}
+
+// `if (condition) one else other`
+#[cycle(machine)]
+fn branch(
+    memory: &mut FrameMemory,
+    frame: &mut [u8],
+    unit: &Unit,
+    n: u32,
+    condition: u32,
+    one: u32,
+    other: Option<u32>,
+) -> Result<Option<Datum>, Fault>
+    requires size { length frame.old < 2 ^ 32 }
+    ensures { does result (full memory.new frame.new) ≡ meaning.branched (meaning_below unit.now n) condition one other (full memory.old frame.old) }
+{
+    memory.tick();
+    let holds = is_true(part_value(memory, frame, unit, n, condition)?);
+    memory.tick();
+    if holds {
+        return part_does(memory, frame, unit, n, one);
+    }
+    match other {
+        None => Ok(None),
+        Some(other) => part_does(memory, frame, unit, n, other),
+    }
+}
+
+// The statements of a block, in order, up to one that returns.
+#[cycle(machine)]
+fn run_all(
+    memory: &mut FrameMemory,
+    frame: &mut [u8],
+    unit: &Unit,
+    n: u32,
+    list: &[u32],
+) -> Result<Option<Datum>, Fault>
+    requires size { length frame.old < 2 ^ 32 }
+    ensures { does result (full memory.new frame.new) ≡ meaning.run_all (meaning_below unit.now n) list.now (full memory.old frame.old) }
+{
+    for &p in list {
+        if let Some(datum) = part_does(memory, frame, unit, n, p)? {
+            return Ok(Some(datum));
+        }
+    }
+    Ok(None)
+}
+
+// The turns of a loop, up to one that returns.
+#[cycle(machine)]
+#[tactic(auto, using(crate::proofs::Turns::turns_next, crate::proofs::Turns::turns_none))]
+fn turns(
+    memory: &mut FrameMemory,
+    frame: &mut [u8],
+    unit: &Unit,
+    n: u32,
+    body: u32,
+    first: Value,
+    bound: Value,
+    step: u64,
+) -> Result<Option<Datum>, Fault>
+    requires size { length frame.old < 2 ^ 32 }
+    ensures { does result (full memory.new frame.new) ≡ meaning.turns unit.now 4096 n (meaning_below unit.now n body) first bound step (full memory.old frame.old) }
+{
+    let mut counter = first;
+    for _turn in 0..4096u32 {
+        if !is_below(counter, bound) {
+            return Ok(None);
+        }
+        if let Some(datum) = turn(memory, frame, unit, n, body, counter)? {
+            return Ok(Some(datum));
+        }
+        counter = next_of(counter, step);
+    }
+    Ok(None)
+}
+
+// A turn of a loop.
+#[cycle(machine)]
+fn turn(
+    memory: &mut FrameMemory,
+    frame: &mut [u8],
+    unit: &Unit,
+    n: u32,
+    body: u32,
+    counter: Value,
+) -> Result<Option<Datum>, Fault>
+    requires size { length frame.old < 2 ^ 32 }
+    ensures { does result (full memory.new frame.new) ≡ meaning.turn unit.now n (meaning_below unit.now n body) counter (full memory.old frame.old) }
+{
+    memory.tick();
+    let variable = declared(memory, unit, n, place_at(unit, n));
+    write(memory, frame, variable, Datum::Word(counter))?;
+    part_does(memory, frame, unit, n, body)
+}
+
+// Reads an lvalue, and writes to it what it is with one added to it or taken from it.
+fn stepped(
+    memory: &mut FrameMemory,
+    frame: &mut [u8],
+    op: BinaryOp,
+    at: u32,
+    to: Datum,
+) -> Result<(), Fault>
+    ensures { goes result (full memory.new frame.new) ≡ meaning.stepped op at to (full memory.old frame.old) }
+{
+    let datum = binary(op, at, read(memory, frame, to)?, ONE)?;
+    write(memory, frame, to, datum)
+}
+
+// The value of a constant expression.
+fn constant(unit: &Unit, n: u32) -> Value
+    ensures { result ≡ meaning.constant unit.now n }
+{
+    Value {
+        of: integer_of(type_at(unit, n)),
+        word: constant_at(unit, n),
+    }
+}
+
+// What a loop's counter begins with.
+fn first_of(unit: &Unit, of: IntType, start: u32) -> Value
+    ensures { result ≡ meaning.first_of unit.now of start }
+{
+    converted_to(vg_cint::integer_of(of), constant(unit, start))
+}
+
+// By how much a loop's counter is stepped.
+fn step_of(unit: &Unit, step: Option<u32>) -> u64
+    ensures { result ≡ meaning.step_of unit.now step }
+{
+    match step {
+        None => 1,
+        Some(step) => constant_at(unit, step),
+    }
+}
