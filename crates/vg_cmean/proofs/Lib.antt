@@ -3,3 +3,4 @@ mod Closing
 mod Turns
 mod Lists
 mod Strict
+mod Declarations

@@ -1,5 +1,5 @@
 -- A run of `nf_process` on a frame, whole.
-use Rattle.std.specs.Prelude.{ℕ, zero, suc, ◌+◌, ◌-◌, List, [], ◌∷◌, ◌++◌, length, slice_get, Option, Some, None, ℤ}
+use Rattle.std.specs.Prelude.{◌≡◌, ℕ, zero, suc, ◌+◌, ◌-◌, List, [], ◌∷◌, ◌++◌, length, replicate, slice_get, Option, Some, None, ℤ}
 use Rattle.vg_core.specs.Syntax.{listed}
 use Rattle.vg_core.specs.Layouts.{layout}
 use Rattle.vg_core.specs.Units.{Typed}
@@ -15,9 +15,11 @@ use Rattle.vg_cint.specs.Types.{int, without_sign}
 use Rattle.vg_cint.specs.Values.{reading}
 use Rattle.vg_cint.specs.declared.value.Value.{Value}
 use Rattle.vg_cmemory.specs.declared.object.Variable.{Variable}
-use Rattle.vg_cmemory.specs.State.{Own, State, at_start}
+use Rattle.vg_cmemory.specs.State.{Own, State}
 use Rattle.vg_cmean.specs.declared.datum.Datum.{Datum}
 use Rattle.vg_cmean.specs.declared.datum.Datum.TheVariants as data_of
+use Rattle.vg_cmean.specs.declared.machine.Done.{Done}
+use Rattle.vg_cmean.specs.declared.machine.Done.TheVariants as ends
 use Rattle.vg_cmean.specs.Outcomes.{Outcome, Next, Gives, Wrong, after, full}
 use Rattle.vg_cmean.specs.Typings.{kind_at, type_at}
 use Rattle.vg_cmean.specs.Values.{word_of}
@@ -49,9 +51,25 @@ unfoldable pub variables_below : Typed → ℕ → List Variable
 variables_below u zero = []
 variables_below u (suc n) = variables_below u n ++ variable_at u n ∷ []
 
--- what a run of a text begins with
+abbrev pub variables_of : Typed → List Variable
+variables_of u = variables_below u (length u.tree.nodes)
+
+abbrev pub unset_of : Typed → List (Option ℕ)
+unset_of u = replicate (bytes_below u (length u.tree.nodes)) None
+
+-- what a run of a text begins with: no variable lives, no byte is set, no chunk is lent
 abbrev pub start : Typed → Own
-start u = at_start (variables_below u (length u.tree.nodes)) (bytes_below u (length u.tree.nodes))
+start u = record { variables = variables_of u; bytes = unset_of u; chunks = []; place = 0; steps = 0 }
+
+-- ---- a machine: what its runs begin with, and what the last one left
+pub record Made : Type 0 where
+  pub variables : List Variable
+  pub bytes : List (Option ℕ)
+  pub own : Own
+
+pub record IsMadeFor (machine : Made) (u : Typed) : Type 0 where
+  pub variables : machine.variables ≡ variables_of u
+  pub bytes : machine.bytes ≡ unset_of u
 
 -- ---- `nf_process` is the last item of the text
 
@@ -86,3 +104,22 @@ run_at u (Some f) port now s = run_of u (kind_at u f) port now s
 -- what comes of a frame that a port gets at a time
 abbrev pub run : Typed → (port now : ℕ) → List ℕ → Outcome
 run u port now frame = run_at u (process_of u) port now (full (start u) frame)
+
+-- ---- what is told of a run: the value that was returned, the steps, and the chunks that weren't given back; or where it goes wrong, and why
+
+abbrev pub int_of : (word : ℕ) → ℤ
+int_of word = reading int word
+
+abbrev pub returned_with : Datum → State → Done
+returned_with d s = ends.Ret (int_of (word_of d).word) s.own.steps (length s.own.chunks)
+
+abbrev pub done_of : Outcome → Done
+done_of (Next s) = returned_with data_of.Nothing s
+done_of (Gives d s) = returned_with d s
+done_of (Wrong at reason) = ends.Wrong at reason
+
+-- the frame after a run that doesn't go wrong
+abbrev pub frame_of : Outcome → (other : List ℕ) → List ℕ
+frame_of (Next s) other = s.frame
+frame_of (Gives d s) other = s.frame
+frame_of (Wrong at reason) other = other

@@ -2,7 +2,7 @@
 ghost use Rattle.std.specs.Prelude.{◌≡◌, ◌<◌, ◌^◌, List, ℕ, length};
 ghost use Rattle.vg_cmean.specs.Outcomes.{gives, does, goes, full};
 ghost use Rattle.vg_cmean.specs.Meaning as meaning;
-ghost use Rattle.vg_cmemory.specs.State.{State};
+ghost use Rattle.vg_cmemory.specs.State.{State, room};
 
 use crate::datum::Datum;
 use crate::fault::{Fault, or_wrong};
@@ -26,7 +26,8 @@ pub fn parameter(
     p: u32,
     argument: Datum,
 ) -> Result<(), Fault>
-    ensures { goes result (full memory.new frame.new) ≡ meaning.parameter unit.now p argument (full memory.old frame.old) }
+    ensures value { goes result (full memory.new frame.new) ≡ meaning.parameter unit.now p argument (full memory.old frame.old) }
+    ensures room { room memory.new ≡ room memory.old }
 {
     memory.declare(p);
     let variable = declared(memory, unit, p, place_at(unit, p));
@@ -35,7 +36,8 @@ pub fn parameter(
 
 /// What these nodes declare lives no longer.
 pub fn end_all(memory: &mut FrameMemory, nodes: &[u32])
-    ensures { memory.new ≡ meaning.ended nodes.now memory.old }
+    ensures value { memory.new ≡ meaning.ended nodes.now memory.old }
+    ensures room { room memory.new ≡ room memory.old }
 {
     for &node in nodes {
         memory.end_life(node);
@@ -79,7 +81,8 @@ fn packet_borrow(
     count: Datum,
 ) -> Result<Datum, Fault>
     requires size { length frame.now < 2 ^ 32 }
-    ensures { gives result (full memory.new frame.now) ≡ meaning.packet_borrow at count (full memory.old frame.now) }
+    ensures value { gives result (full memory.new frame.now) ≡ meaning.packet_borrow at count (full memory.old frame.now) }
+    ensures room { room memory.new ≡ room memory.old }
 {
     let bytes = converted_to(UNSIGNED_32, word_of(count)).word;
     let start = or_wrong(memory.borrow(frame.len() as u32, bytes), at)?;
@@ -87,7 +90,8 @@ fn packet_borrow(
 }
 
 fn packet_return(memory: &mut FrameMemory, at: u32, chunk: Datum) -> Result<Datum, Fault>
-    ensures { (frame : List ℕ) → gives result (full memory.new frame) ≡ meaning.packet_return at chunk (full memory.old frame) }
+    ensures value { (frame : List ℕ) → gives result (full memory.new frame) ≡ meaning.packet_return at chunk (full memory.old frame) }
+    ensures room { room memory.new ≡ room memory.old }
 {
     or_wrong(memory.give_back(pointer_of(chunk)), at)?;
     Ok(Datum::Nothing)
@@ -95,7 +99,8 @@ fn packet_return(memory: &mut FrameMemory, at: u32, chunk: Datum) -> Result<Datu
 
 /// A call of the library without an argument, by the number of its row.
 pub fn library_alone(memory: &mut FrameMemory, frame: &[u8], row: u8) -> Datum
-    ensures { gives (Ok result) (full memory.new frame.now) ≡ meaning.library_alone row (full memory.old frame.now) }
+    ensures value { gives (Ok result) (full memory.new frame.now) ≡ meaning.library_alone row (full memory.old frame.now) }
+    ensures room { room memory.new ≡ room memory.old }
 {
     if row != 1 {
         return Datum::Nothing;
@@ -118,7 +123,8 @@ pub fn library_on(
     argument: Datum,
 ) -> Result<Datum, Fault>
     requires size { length frame.now < 2 ^ 32 }
-    ensures { gives result (full memory.new frame.now) ≡ meaning.library_on row at argument (full memory.old frame.now) }
+    ensures value { gives result (full memory.new frame.now) ≡ meaning.library_on row at argument (full memory.old frame.now) }
+    ensures room { room memory.new ≡ room memory.old }
 {
     match row {
         2 => packet_borrow(memory, frame, at, argument),

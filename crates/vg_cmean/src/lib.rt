@@ -4,13 +4,12 @@
 mod calls;
 mod datum;
 mod fault;
+mod machine;
 mod operators;
 mod places;
 mod run;
 mod typings;
 mod values;
 
-pub use datum::{Datum, Place};
-pub use fault::Fault;
-pub use run::{expression, statement};
-pub use calls::parameter;
+pub use machine::{Done, Machine};
+

@@ -4,6 +4,7 @@ ghost use Rattle.vg_cmean.specs.Outcomes.{gives, does, goes, full};
 ghost use Rattle.vg_cmean.specs.Meaning as meaning;
 ghost use Rattle.vg_cmean.specs.Meaning.{meaning_below, value};
 ghost use Rattle.vg_cmean.specs.Typings as typings;
+ghost use Rattle.vg_cmemory.specs.State.{room};
 
 use crate::calls::{answer_as, end_all, end_of, library_alone, library_on, parameter};
 use crate::datum::Datum;
@@ -31,7 +32,8 @@ pub fn expression(
     n: u32,
 ) -> Result<Datum, Fault>
     requires size { length frame.old < 2 ^ 32 }
-    ensures { gives result (full memory.new frame.new) ≡ (meaning.meaning unit.now n).gives (full memory.old frame.old) }
+    ensures value { gives result (full memory.new frame.new) ≡ (meaning.meaning unit.now n).gives (full memory.old frame.old) }
+    ensures room { room memory.new ≡ room memory.old }
 {
     match kind_at(unit, n) {
         Kind::Number { value, of } => Ok(Datum::Word(Value {
@@ -83,7 +85,8 @@ fn part(
     p: u32,
 ) -> Result<Datum, Fault>
     requires size { length frame.old < 2 ^ 32 }
-    ensures { gives result (full memory.new frame.new) ≡ (meaning_below unit.now n p).gives (full memory.old frame.old) }
+    ensures value { gives result (full memory.new frame.new) ≡ (meaning_below unit.now n p).gives (full memory.old frame.old) }
+    ensures room { room memory.new ≡ room memory.old }
 {
     if n <= p {
         return Ok(Datum::Nothing);
@@ -101,7 +104,8 @@ fn part_value(
     p: u32,
 ) -> Result<Datum, Fault>
     requires size { length frame.old < 2 ^ 32 }
-    ensures { gives result (full memory.new frame.new) ≡ value (meaning_below unit.now n p) (full memory.old frame.old) }
+    ensures value { gives result (full memory.new frame.new) ≡ value (meaning_below unit.now n p) (full memory.old frame.old) }
+    ensures room { room memory.new ≡ room memory.old }
 {
     let datum = part(memory, frame, unit, n, p)?;
     read(memory, frame, datum)
@@ -118,7 +122,8 @@ fn part_does(
     p: u32,
 ) -> Result<Option<Datum>, Fault>
     requires size { length frame.old < 2 ^ 32 }
-    ensures { does result (full memory.new frame.new) ≡ (meaning_below unit.now n p).does (full memory.old frame.old) }
+    ensures value { does result (full memory.new frame.new) ≡ (meaning_below unit.now n p).does (full memory.old frame.old) }
+    ensures room { room memory.new ≡ room memory.old }
 {
     if n <= p {
         return Ok(None);
@@ -137,7 +142,8 @@ fn before_operand(
     operand: u32,
 ) -> Result<Datum, Fault>
     requires size { length frame.old < 2 ^ 32 }
-    ensures { gives result (full memory.new frame.new) ≡ meaning.before_operand unit.now op n (meaning_below unit.now n operand) (full memory.old frame.old) }
+    ensures value { gives result (full memory.new frame.new) ≡ meaning.before_operand unit.now op n (meaning_below unit.now n operand) (full memory.old frame.old) }
+    ensures room { room memory.new ≡ room memory.old }
 {
     match op {
         UnaryOp::Address => Ok(address(part(memory, frame, unit, n, operand)?)),
@@ -165,7 +171,8 @@ fn operation(
     right: u32,
 ) -> Result<Datum, Fault>
     requires size { length frame.old < 2 ^ 32 }
-    ensures { gives result (full memory.new frame.new) ≡ meaning.operation op (typings.place_at unit.now n) (meaning_below unit.now n left) (meaning_below unit.now n right) (full memory.old frame.old) }
+    ensures value { gives result (full memory.new frame.new) ≡ meaning.operation op (typings.place_at unit.now n) (meaning_below unit.now n left) (meaning_below unit.now n right) (full memory.old frame.old) }
+    ensures room { room memory.new ≡ room memory.old }
 {
     let a = part_value(memory, frame, unit, n, left)?;
     match op {
@@ -204,7 +211,8 @@ fn choose(
     other: u32,
 ) -> Result<Datum, Fault>
     requires size { length frame.old < 2 ^ 32 }
-    ensures { gives result (full memory.new frame.new) ≡ meaning.choice unit.now n (meaning_below unit.now n condition) (meaning_below unit.now n one) (meaning_below unit.now n other) (full memory.old frame.old) }
+    ensures value { gives result (full memory.new frame.new) ≡ meaning.choice unit.now n (meaning_below unit.now n condition) (meaning_below unit.now n one) (meaning_below unit.now n other) (full memory.old frame.old) }
+    ensures room { room memory.new ≡ room memory.old }
 {
     let holds = is_true(part_value(memory, frame, unit, n, condition)?);
     memory.tick();
@@ -227,7 +235,8 @@ fn index_of(
     index: u32,
 ) -> Result<Datum, Fault>
     requires size { length frame.old < 2 ^ 32 }
-    ensures { gives result (full memory.new frame.new) ≡ meaning.index_of unit.now (meaning_below unit.now n) n array index (full memory.old frame.old) }
+    ensures value { gives result (full memory.new frame.new) ≡ meaning.index_of unit.now (meaning_below unit.now n) n array index (full memory.old frame.old) }
+    ensures room { room memory.new ≡ room memory.old }
 {
     let whole = part(memory, frame, unit, n, array)?;
     let whole = indexed(memory, frame, whole)?;
@@ -254,7 +263,8 @@ fn call(
 ) -> Result<Datum, Fault>
     requires size { length frame.old < 2 ^ 32 }
     requires few { length arguments.now < 2 ^ 32 }
-    ensures { gives result (full memory.new frame.new) ≡ meaning.call unit.now (meaning_below unit.now n) (typings.place_at unit.now n) arguments.now (typings.referent_at unit.now n) (full memory.old frame.old) }
+    ensures value { gives result (full memory.new frame.new) ≡ meaning.call unit.now (meaning_below unit.now n) (typings.place_at unit.now n) arguments.now (typings.referent_at unit.now n) (full memory.old frame.old) }
+    ensures room { room memory.new ≡ room memory.old }
 {
     match referent_at(unit, n) {
         None => Ok(Datum::Nothing),
@@ -289,7 +299,8 @@ fn call_function(
 ) -> Result<Datum, Fault>
     requires size { length frame.old < 2 ^ 32 }
     requires few { length arguments.now < 2 ^ 32 }
-    ensures { gives result (full memory.new frame.new) ≡ meaning.function_called unit.now (meaning_below unit.now n) arguments.now answer params.now body (full memory.old frame.old) }
+    ensures value { gives result (full memory.new frame.new) ≡ meaning.function_called unit.now (meaning_below unit.now n) arguments.now answer params.now body (full memory.old frame.old) }
+    ensures room { room memory.new ≡ room memory.old }
 {
     given(memory, frame, unit, n, arguments, params)?;
     let returned = part_does(memory, frame, unit, n, body)?;
@@ -309,7 +320,8 @@ fn given(
 ) -> Result<(), Fault>
     requires size { length frame.old < 2 ^ 32 }
     requires few { length arguments.now < 2 ^ 32 }
-    ensures { goes result (full memory.new frame.new) ≡ meaning.given unit.now (meaning_below unit.now n) arguments.now params.now (full memory.old frame.old) }
+    ensures value { goes result (full memory.new frame.new) ≡ meaning.given unit.now (meaning_below unit.now n) arguments.now params.now (full memory.old frame.old) }
+    ensures room { room memory.new ≡ room memory.old }
 {
     match (arguments.split_first(), params.split_first()) {
         (Some((&argument, arguments)), Some((&p, params))) => {
@@ -335,7 +347,8 @@ fn library(
     arguments: &[u32],
 ) -> Result<Datum, Fault>
     requires size { length frame.old < 2 ^ 32 }
-    ensures { gives result (full memory.new frame.new) ≡ meaning.library (meaning_below unit.now n) row (typings.place_at unit.now n) arguments.now (full memory.old frame.old) }
+    ensures value { gives result (full memory.new frame.new) ≡ meaning.library (meaning_below unit.now n) row (typings.place_at unit.now n) arguments.now (full memory.old frame.old) }
+    ensures room { room memory.new ≡ room memory.old }
 {
     match arguments.split_first() {
         None => Ok(library_alone(memory, frame, row)),
@@ -357,7 +370,8 @@ pub fn statement(
     n: u32,
 ) -> Result<Option<Datum>, Fault>
     requires size { length frame.old < 2 ^ 32 }
-    ensures { does result (full memory.new frame.new) ≡ (meaning.meaning unit.now n).does (full memory.old frame.old) }
+    ensures value { does result (full memory.new frame.new) ≡ (meaning.meaning unit.now n).does (full memory.old frame.old) }
+    ensures room { room memory.new ≡ room memory.old }
 {
     match kind_at(unit, n) {
         Kind::Block { statements, .. } => {
@@ -429,7 +443,8 @@ fn declaration(
     value: Option<u32>,
 ) -> Result<Option<Datum>, Fault>
     requires size { length frame.old < 2 ^ 32 }
-    ensures { does result (full memory.new frame.new) ≡ meaning.declaration unit.now (meaning_below unit.now n) n value (full memory.old frame.old) }
+    ensures value { does result (full memory.new frame.new) ≡ meaning.declaration unit.now (meaning_below unit.now n) n value (full memory.old frame.old) }
+    ensures room { room memory.new ≡ room memory.old }
 {
     memory.declare(n);
     match value {
@@ -455,7 +470,8 @@ fn assign(
     value: u32,
 ) -> Result<Option<Datum>, Fault>
     requires size { length frame.old < 2 ^ 32 }
-    ensures { does result (full memory.new frame.new) ≡ meaning.assignment unit.now n op (meaning_below unit.now n target) (meaning_below unit.now n value) (full memory.old frame.old) }
+    ensures value { does result (full memory.new frame.new) ≡ meaning.assignment unit.now n op (meaning_below unit.now n target) (meaning_below unit.now n value) (full memory.old frame.old) }
+    ensures room { room memory.new ≡ room memory.old }
 {
     memory.tick();
     let to = part(memory, frame, unit, n, target)?;
@@ -487,7 +503,8 @@ fn branch(
     other: Option<u32>,
 ) -> Result<Option<Datum>, Fault>
     requires size { length frame.old < 2 ^ 32 }
-    ensures { does result (full memory.new frame.new) ≡ meaning.branched (meaning_below unit.now n) condition one other (full memory.old frame.old) }
+    ensures value { does result (full memory.new frame.new) ≡ meaning.branched (meaning_below unit.now n) condition one other (full memory.old frame.old) }
+    ensures room { room memory.new ≡ room memory.old }
 {
     memory.tick();
     let holds = is_true(part_value(memory, frame, unit, n, condition)?);
@@ -511,7 +528,8 @@ fn run_all(
     list: &[u32],
 ) -> Result<Option<Datum>, Fault>
     requires size { length frame.old < 2 ^ 32 }
-    ensures { does result (full memory.new frame.new) ≡ meaning.run_all (meaning_below unit.now n) list.now (full memory.old frame.old) }
+    ensures value { does result (full memory.new frame.new) ≡ meaning.run_all (meaning_below unit.now n) list.now (full memory.old frame.old) }
+    ensures room { room memory.new ≡ room memory.old }
 {
     for &p in list {
         if let Some(datum) = part_does(memory, frame, unit, n, p)? {
@@ -535,7 +553,8 @@ fn turns(
     step: u64,
 ) -> Result<Option<Datum>, Fault>
     requires size { length frame.old < 2 ^ 32 }
-    ensures { does result (full memory.new frame.new) ≡ meaning.turns unit.now 4096 n (meaning_below unit.now n body) first bound step (full memory.old frame.old) }
+    ensures value { does result (full memory.new frame.new) ≡ meaning.turns unit.now 4096 n (meaning_below unit.now n body) first bound step (full memory.old frame.old) }
+    ensures room { room memory.new ≡ room memory.old }
 {
     let mut counter = first;
     for _turn in 0..4096u32 {
@@ -561,7 +580,8 @@ fn turn(
     counter: Value,
 ) -> Result<Option<Datum>, Fault>
     requires size { length frame.old < 2 ^ 32 }
-    ensures { does result (full memory.new frame.new) ≡ meaning.turn unit.now n (meaning_below unit.now n body) counter (full memory.old frame.old) }
+    ensures value { does result (full memory.new frame.new) ≡ meaning.turn unit.now n (meaning_below unit.now n body) counter (full memory.old frame.old) }
+    ensures room { room memory.new ≡ room memory.old }
 {
     memory.tick();
     let variable = declared(memory, unit, n, place_at(unit, n));
@@ -577,7 +597,8 @@ fn stepped(
     at: u32,
     to: Datum,
 ) -> Result<(), Fault>
-    ensures { goes result (full memory.new frame.new) ≡ meaning.stepped op at to (full memory.old frame.old) }
+    ensures value { goes result (full memory.new frame.new) ≡ meaning.stepped op at to (full memory.old frame.old) }
+    ensures room { room memory.new ≡ room memory.old }
 {
     let datum = binary(op, at, read(memory, frame, to)?, ONE)?;
     write(memory, frame, to, datum)

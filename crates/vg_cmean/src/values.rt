@@ -2,7 +2,7 @@
 ghost use Rattle.std.specs.Prelude.{◌≡◌, ◌<◌, ◌≤◌};
 ghost use Rattle.vg_cmean.specs.Outcomes.{gives, goes, full};
 ghost use Rattle.vg_cmean.specs.Values as values;
-ghost use Rattle.vg_cmemory.specs.State.{State};
+ghost use Rattle.vg_cmemory.specs.State.{State, room};
 
 use crate::datum::{Datum, Place};
 use crate::fault::{Fault, or_wrong};
@@ -150,7 +150,8 @@ fn write_integer(
     place: Place,
     value: Value,
 ) -> Result<(), Fault>
-    ensures { goes result (full memory.new frame.new) ≡ values.write_integer of place value (full memory.old frame.old) }
+    ensures value { goes result (full memory.new frame.new) ≡ values.write_integer of place value (full memory.old frame.old) }
+    ensures room { room memory.new ≡ room memory.old }
 {
     let size = size_of(of);
     let align = align_of(place.loose, of);
@@ -168,7 +169,8 @@ pub fn write(
     to: Datum,
     datum: Datum,
 ) -> Result<(), Fault>
-    ensures { goes result (full memory.new frame.new) ≡ values.write to datum (full memory.old frame.old) }
+    ensures value { goes result (full memory.new frame.new) ≡ values.write to datum (full memory.old frame.old) }
+    ensures room { room memory.new ≡ room memory.old }
 {
     match to {
         Datum::Object(place) => {

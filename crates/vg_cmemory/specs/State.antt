@@ -1,5 +1,5 @@
 -- What stands in memory while a C function runs on a frame, and how objects come and go (C11 6.2.4).
-use Rattle.std.specs.Prelude.{ℕ, zero, suc, ◌+◌, ◌-◌, ◌%◌, ◌^◌, List, [], ◌∷◌, length, replicate, slice_get, slice_index_or, slice_set, Option, Some, None}
+use Rattle.std.specs.Prelude.{ℕ, zero, suc, ◌+◌, ◌-◌, ◌%◌, ◌^◌, List, length, slice_get, slice_index_or, slice_set, Option, Some, None}
 use Rattle.vg_cmemory.specs.declared.object.Object.{Object}
 use Rattle.vg_cmemory.specs.declared.object.Object.TheVariants as objects
 use Rattle.vg_cmemory.specs.declared.object.Pointer.{Pointer}
@@ -23,9 +23,9 @@ pub record State : Type 0 where
   pub own : Own
   pub frame : List ℕ
 
--- what a run begins with: no variable lives, no byte is set, no chunk is lent
-abbrev pub at_start : List Variable → ℕ → Own
-at_start variables size = record { variables = variables; bytes = replicate size None; chunks = []; place = 0; steps = 0 }
+-- how many variables and bytes there are. No call changes it
+unfoldable pub room : Own → ℕ × ℕ
+room own = (length own.variables, length own.bytes)
 
 -- one step more. Steps are counted in 32 bits; no typed text takes more than 1,000,000
 abbrev pub tick : Own → Own

@@ -1,6 +1,7 @@
 //! Reads and writes of objects.
 ghost use Rattle.std.specs.Prelude.{◌≡◌, ◌≤◌, ◌<◌, ◌+◌, ◌-◌, ◌*◌, ◌^◌, OnErr, IfOk, IfSome, Some};
 ghost use Rattle.vg_cmemory.specs.Access as accesses;
+ghost use Rattle.vg_cmemory.specs.State.{room};
 ghost use Rattle.vg_cmemory.specs.Access.{room_of, access, byte_at, word_at, load, store, left};
 
 use crate::bytes::{set_bytes, write_bytes};
@@ -157,6 +158,7 @@ impl FrameMemory {
     ///
     /// The first that holds, and then nothing is written: `Dead`: the object lives no longer. `OutOfObject`: not all of the bytes are in it.
     /// `Misaligned`: the offset isn't a multiple of `align`.
+    #[tactic(auto, unfolding(crate::specs::State::room))]
     pub fn store(
         &mut self,
         frame: &mut [u8],
@@ -170,6 +172,7 @@ impl FrameMemory {
         ensures value { left result (record { own = self.new; frame = frame.new }) ≡ store (record { own = self.old; frame = frame.old }) pointer size align word }
         ensures kept { OnErr result (self.new ≡ self.old) }
         ensures frame_kept { OnErr result (frame.new ≡ frame.old) }
+        ensures room { room self.new ≡ room self.old }
     {
         let room = self.access(pointer, size, align)?;
         match room.region {

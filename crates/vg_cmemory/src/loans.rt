@@ -1,6 +1,7 @@
 //! Chunks of the frame, borrowed and given back.
 ghost use Rattle.std.specs.Prelude.{◌≡◌, length, OnErr, IfOk, Ok, slice_get};
 ghost use Rattle.vg_cmemory.specs.Access.{left};
+ghost use Rattle.vg_cmemory.specs.State.{room};
 ghost use Rattle.vg_cmemory.specs.Loans as loans;
 ghost use Rattle.vg_cmemory.specs.Loans.{can_borrow, start_of_loan, is_start, last_chunk};
 
@@ -41,10 +42,12 @@ impl FrameMemory {
     /// Lends the next bytes of a frame of `frame_length` bytes, and answers a pointer to the first.
     ///
     /// `Before(2)`: no byte is asked for, or more than are left, or 16 chunks are lent. Then nothing changes.
+    #[tactic(auto, unfolding(crate::specs::State::room))]
     pub fn borrow(&mut self, frame_length: u32, count: u64) -> Result<Pointer, Reason>
         ensures value { left result self.new ≡ loans.borrow self.old frame_length count }
         ensures start { IfOk result (λ p. p ≡ start_of_loan self.old) }
         ensures kept { OnErr result (self.new ≡ self.old) }
+        ensures room { room self.new ≡ room self.old }
     {
         if !self.can_borrow(frame_length, count) {
             return Err(Reason::Before(2));
@@ -67,9 +70,11 @@ impl FrameMemory {
     /// Takes back the chunk that was lent last.
     ///
     /// `Before(3)`: the pointer isn't its start, or no chunk is lent. Then nothing changes.
+    #[tactic(auto, unfolding(crate::specs::State::room))]
     pub fn give_back(&mut self, pointer: Pointer) -> Result<(), Reason>
         ensures value { left result self.new ≡ loans.give_back self.old pointer }
         ensures kept { OnErr result (self.new ≡ self.old) }
+        ensures room { room self.new ≡ room self.old }
     {
         let last = self.last_chunk();
         if !is_start(pointer, last) {

@@ -1,6 +1,6 @@
 //! What a run has beside the frame.
 ghost use Rattle.std.specs.Prelude.{◌≡◌, [], length};
-ghost use Rattle.vg_cmemory.specs.State.{tick, declare, end_life, hold, start_of, variable, with_variable, made_or_never};
+ghost use Rattle.vg_cmemory.specs.State.{room, tick, declare, end_life, hold, start_of, variable, with_variable, made_or_never};
 
 use crate::bytes::unset;
 use crate::object::{Chunk, Object, Pointer, Variable};
@@ -43,8 +43,10 @@ fn made_or_never(made: Option<u32>) -> u32
 
 impl FrameMemory {
     /// The memory that a run begins with, by what its declarations make and by their bytes: nothing lives, is set or is lent.
+    #[tactic(auto, unfolding(crate::specs::State::room))]
     pub fn new(variables: Vec<Variable>, bytes: Vec<Option<u8>>) -> FrameMemory
-        ensures { result ≡ record { variables = variables.items; bytes = bytes.items; chunks = []; place = 0; steps = 0 } }
+        ensures value { result ≡ record { variables = variables.items; bytes = bytes.items; chunks = []; place = 0; steps = 0 } }
+        ensures room { room result ≡ (length variables.items, length bytes.items) }
     {
         FrameMemory {
             variable_list: variables,
@@ -55,9 +57,34 @@ impl FrameMemory {
         }
     }
 
+    /// Begins a run anew, with these variables and bytes: nothing is lent, and no step is taken.
+    #[tactic(auto, unfolding(crate::specs::State::room))]
+    pub fn restart(&mut self, variables: &[Variable], bytes: &[Option<u8>])
+        requires fits { room self.old ≡ (length variables.now, length bytes.now) }
+        ensures value { self.new ≡ record { variables = variables.now; bytes = bytes.now; chunks = []; place = 0; steps = 0 } }
+        ensures room { room self.new ≡ room self.old }
+    {
+        self.variable_list.copy_from_slice(variables);
+        self.byte_list.copy_from_slice(bytes);
+        self.chunk_list.clear();
+        self.next = 0;
+        self.taken = 0;
+    }
+
+    /// Takes back all chunks that are lent.
+    #[tactic(auto, unfolding(crate::specs::State::room))]
+    pub fn take_back_all(&mut self)
+        ensures value { self.new ≡ record self.old { chunks = [] } }
+        ensures room { room self.new ≡ room self.old }
+    {
+        self.chunk_list.clear();
+    }
+
     /// Counts a step.
+    #[tactic(auto, unfolding(crate::specs::State::room))]
     pub fn tick(&mut self)
-        ensures { self.new ≡ tick self.old }
+        ensures value { self.new ≡ tick self.old }
+        ensures room { room self.new ≡ room self.old }
     {
         self.taken = self.taken.wrapping_add(1);
     }
@@ -86,8 +113,10 @@ impl FrameMemory {
             .unwrap_or(NO_VARIABLE)
     }
 
+    #[tactic(auto, unfolding(crate::specs::State::room))]
     fn set_variable(&mut self, node: u32, to: Variable)
-        ensures { self.new ≡ with_variable self.old node to }
+        ensures value { self.new ≡ with_variable self.old node to }
+        ensures room { room self.new ≡ room self.old }
     {
         if (node as usize) < self.variable_list.len() {
             self.variable_list[node as usize] = to;
@@ -95,8 +124,10 @@ impl FrameMemory {
     }
 
     /// A new object of the declaration with this node, of which nothing is set (C11 6.2.4, 6.7.9).
+    #[tactic(auto, unfolding(crate::specs::State::room))]
     pub fn declare(&mut self, node: u32)
-        ensures { self.new ≡ declare node self.old }
+        ensures value { self.new ≡ declare node self.old }
+        ensures room { room self.new ≡ room self.old }
     {
         let variable = self.variable(node);
         let made = Some(self.taken);
@@ -112,8 +143,10 @@ impl FrameMemory {
     }
 
     /// The object of the declaration with this node lives no longer.
+    #[tactic(auto, unfolding(crate::specs::State::room))]
     pub fn end_life(&mut self, node: u32)
-        ensures { self.new ≡ end_life node self.old }
+        ensures value { self.new ≡ end_life node self.old }
+        ensures room { room self.new ≡ room self.old }
     {
         let variable = self.variable(node);
         self.set_variable(
@@ -127,8 +160,10 @@ impl FrameMemory {
     }
 
     /// Sets the pointer variable that a node declares.
+    #[tactic(auto, unfolding(crate::specs::State::room))]
     pub fn hold(&mut self, node: u32, pointer: Pointer)
-        ensures { self.new ≡ hold node pointer self.old }
+        ensures value { self.new ≡ hold node pointer self.old }
+        ensures room { room self.new ≡ room self.old }
     {
         let variable = self.variable(node);
         let points = Some(pointer);
