@@ -20,7 +20,7 @@ pub turns_next : (u : Typed) (left n : ℕ) (body : Meaning) (counter bound : Va
 turns_next u left n body counter bound step s h =
     let e : left ≡ suc (left - 1) = omega arith in
     subst (λ k. turns u k n body counter bound step s ≡ (if is_below counter bound then after (turn u n body counter s) (turns u (left - 1) n body (next_of counter step) bound step) else Next s)) (sym e)
-      (turns_suc u (left - 1) n body counter bound step s)
+    (turns_suc u (left - 1) n body counter bound step s)
 
 -- no turn is left
 pub turns_done : (u : Typed) (left n : ℕ) (body : Meaning) (counter bound : Value) (step : ℕ) (s : State) (o : Outcome) → left ≡ 0 →

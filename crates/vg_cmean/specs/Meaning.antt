@@ -83,7 +83,7 @@ choice u n condition one other s = and_then (value condition s) (λ d t. chosen 
 abbrev pub index_of : Typed → Parts_mean → (n array index : ℕ) → State → Outcome
 index_of u part n array index s =
     and_then (and_then ((part array).gives s) indexed) (λ a t. and_then (value (part index) t)
-      (element (element_size u (type_at u array)) (type_at u n) (place_at u n) (place_at u index) a))
+    (element (element_size u (type_at u array)) (type_at u n) (place_at u n) (place_at u index) a))
 
 -- ---- calls (6.5.2.2): all arguments are evaluated, left first, and each parameter is a new variable with its argument
 

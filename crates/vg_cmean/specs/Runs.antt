@@ -94,7 +94,7 @@ arguments u ps port now s = Next s
 abbrev pub run_of : Typed → Kind → (port now : ℕ) → State → Outcome
 run_of u (nodes.Function is_static is_inline answer name params body) port now s =
     after (arguments u (listed u.tree.items params) port now s)
-      (λ t. answer_as answer (end_of (kind_at u body)) (closing (listed u.tree.items params) ((meaning u body).does t)))
+    (λ t. answer_as answer (end_of (kind_at u body)) (closing (listed u.tree.items params) ((meaning u body).does t)))
 run_of u kind port now s = Wrong 0 reasons.Unset
 
 abbrev pub run_at : Typed → Option ℕ → (port now : ℕ) → State → Outcome

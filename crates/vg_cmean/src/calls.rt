@@ -57,11 +57,7 @@ pub fn end_of(kind: Kind) -> u32
 /// What a function answers, by what its body returned; `end` is the place of its last brace.
 ///
 /// `Unset`, at the last brace: the function isn't `void`, and its body came to its end.
-pub fn answer_as(
-    answer: Option<IntType>,
-    end: u32,
-    returned: Option<Datum>,
-) -> Result<Datum, Fault>
+pub fn answer_as(answer: Option<IntType>, end: u32, returned: Option<Datum>) -> Result<Datum, Fault>
     ensures { (s : State) → gives result s ≡ meaning.answer_as answer end (does (Ok returned) s) }
 {
     match (answer, returned) {

@@ -12,4 +12,3 @@ mod typings;
 mod values;
 
 pub use machine::{Done, Machine};
-

@@ -134,12 +134,7 @@ pub fn element(
             reason: Reason::OutOfObject,
         });
     }
-    Ok(of_object(
-        element_of(start, size, number),
-        of,
-        is_loose(array),
-        at,
-    ))
+    Ok(of_object(element_of(start, size, number), of, is_loose(array), at))
 }
 
 fn offset_of(unit: &Unit, field: Option<Referent>) -> u32

@@ -418,7 +418,16 @@ pub fn statement(
         } => {
             memory.tick();
             memory.declare(n);
-            let returned = turns(memory, frame, unit, n, body, first_of(unit, of, start), constant(unit, bound), step_of(unit, step))?;
+            let returned = turns(
+                memory,
+                frame,
+                unit,
+                n,
+                body,
+                first_of(unit, of, start),
+                constant(unit, bound),
+                step_of(unit, step),
+            )?;
             memory.end_life(n);
             Ok(returned)
         }
@@ -583,7 +592,7 @@ fn turn(
     ensures value { does result (full memory.new frame.new) ≡ meaning.turn unit.now n (meaning_below unit.now n body) counter (full memory.old frame.old) }
     ensures room { room memory.new ≡ room memory.old }
 {
-    memory.tick();
+    memory.tick(); // a turn is a step
     let variable = declared(memory, unit, n, place_at(unit, n));
     write(memory, frame, variable, Datum::Word(counter))?;
     part_does(memory, frame, unit, n, body)

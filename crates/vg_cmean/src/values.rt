@@ -99,7 +99,12 @@ fn align_of(loose: bool, of: Integer) -> u32
     if loose { 1 } else { size_of(of) }
 }
 
-fn read_integer(memory: &FrameMemory, frame: &[u8], of: Integer, place: Place) -> Result<Datum, Fault>
+fn read_integer(
+    memory: &FrameMemory,
+    frame: &[u8],
+    of: Integer,
+    place: Place,
+) -> Result<Datum, Fault>
     ensures { gives result (full memory.now frame.now) ≡ values.read_integer of place (full memory.now frame.now) }
 {
     let size = size_of(of);

@@ -16,7 +16,7 @@ unset_next from size k bytes h =
     let e : size - k ≡ suc (size - (k + 1)) = omega arith in
     let f : from + k + 1 ≡ from + (k + 1) = omega arith in
     subst (λ n. unset (from + k) n bytes ≡ unset (from + (k + 1)) (size - (k + 1)) (slice_set bytes (from + k) None)) (sym e)
-      (subst (λ n. unset (from + k) (suc (size - (k + 1))) bytes ≡ unset n (size - (k + 1)) (slice_set bytes (from + k) None)) f (unset_suc (from + k) (size - (k + 1)) bytes))
+    (subst (λ n. unset (from + k) (suc (size - (k + 1))) bytes ≡ unset n (size - (k + 1)) (slice_set bytes (from + k) None)) f (unset_suc (from + k) (size - (k + 1)) bytes))
 
 pub written_none : {A : Type 0} (mark : ℕ → A) (from word : ℕ) (bytes : List A) → written mark from 0 word bytes ≡ bytes
 unfolding written
@@ -33,7 +33,7 @@ pub written_next : {A : Type 0} (mark : ℕ → A) (from size word : ℕ) (bytes
 written_next mark from size word bytes h =
     let e : size ≡ suc (size - 1) = omega arith in
     subst (λ n. written mark from n word bytes ≡ written mark (from + 1) (size - 1) (word / 256) (slice_set bytes from (mark (word % 256)))) (sym e)
-      (written_suc mark from (size - 1) word bytes)
+    (written_suc mark from (size - 1) word bytes)
 
 pub word_none : (s : State) (region : Region) (from : ℕ) → word_at s region from 0 ≡ Some 0
 unfolding word_at

@@ -1,12 +1,12 @@
 -- Chunks of the frame, borrowed from its start on and given back the last first.
-use Rattle.std.specs.Prelude.{ℕ, ◌+◌, ◌-◌, nat_lt, nat_le, nat_eq, Bool, false, not, ◌&&◌, ◌||◌, List, [], ◌∷◌, ◌++◌, length, take, slice_get, Option, Some, None, Result, Ok, Err, if◌then◌else◌}
+use Rattle.std.specs.Prelude.{ℕ, ◌+◌, ◌-◌, nat_lt, nat_le, nat_eq, Bool, false, ◌&&◌, [], ◌∷◌, ◌++◌, length, take, slice_get, Option, Some, None, Result, Ok, Err, if◌then◌else◌}
 use Rattle.vg_core.specs.declared.reason.Reason.{Reason}
 use Rattle.vg_core.specs.declared.reason.Reason.TheVariants as reasons
 use Rattle.vg_cmemory.specs.declared.object.Object.{Object}
 use Rattle.vg_cmemory.specs.declared.object.Object.TheVariants as objects
 use Rattle.vg_cmemory.specs.declared.object.Pointer.{Pointer}
 use Rattle.vg_cmemory.specs.declared.object.Chunk.{Chunk}
-use Rattle.vg_cmemory.specs.State.{Own, State}
+use Rattle.vg_cmemory.specs.State.{Own}
 
 -- at least one byte, no more than are left of the frame, and fewer than 16 chunks lent
 abbrev pub can_borrow : Own → (frame_length count : ℕ) → Bool

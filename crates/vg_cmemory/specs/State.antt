@@ -1,6 +1,5 @@
 -- What stands in memory while a C function runs on a frame, and how objects come and go (C11 6.2.4).
-use Rattle.std.specs.Prelude.{ℕ, zero, suc, ◌+◌, ◌-◌, ◌%◌, ◌^◌, List, length, slice_get, slice_index_or, slice_set, Option, Some, None}
-use Rattle.vg_cmemory.specs.declared.object.Object.{Object}
+use Rattle.std.specs.Prelude.{ℕ, zero, suc, ◌+◌, ◌-◌, ◌%◌, ◌^◌, List, length, slice_index_or, slice_set, Option, Some, None}
 use Rattle.vg_cmemory.specs.declared.object.Object.TheVariants as objects
 use Rattle.vg_cmemory.specs.declared.object.Pointer.{Pointer}
 use Rattle.vg_cmemory.specs.declared.object.Variable.{Variable}

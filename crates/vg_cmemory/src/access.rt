@@ -136,13 +136,7 @@ impl FrameMemory {
     ///
     /// The first that holds: `Dead`: the object lives no longer. `OutOfObject`: not all of the bytes are in it. `Misaligned`: the offset isn't a
     /// multiple of `align`. `Unset`: one of the bytes isn't set.
-    pub fn load(
-        &self,
-        frame: &[u8],
-        pointer: Pointer,
-        size: u32,
-        align: u32,
-    ) -> Result<u64, Reason>
+    pub fn load(&self, frame: &[u8], pointer: Pointer, size: u32, align: u32) -> Result<u64, Reason>
         requires at_most_a_word { size ≤ 8 }
         requires aligned { 0 < align }
         ensures { result ≡ load (record { own = self.now; frame = frame.now }) pointer size align }

@@ -55,11 +55,7 @@ impl FrameMemory {
         let made = self.taken;
         let from = self.next;
         let size = count as u32;
-        self.chunk_list.push(Chunk {
-            made,
-            from,
-            size,
-        });
+        self.chunk_list.push(Chunk { made, from, size });
         self.next = from + size;
         Ok(Pointer {
             object: Object::Chunk { made },

@@ -69,4 +69,4 @@ invariant-run_all-loop-p l =
 abbrev pub invariant-turns-loop-turn : goal.invariant-turns-loop-turn
 invariant-turns-loop-turn l =
     (room l.memory ≡ room l.initial.memory) × (meaning.turns l.unit (4096 - l._turn) l.n (meaning_below l.unit l.n l.body) l.counter l.bound l.step (full l.memory l.frame)
-      ≡ meaning.turns l.unit 4096 l.n (meaning_below l.unit l.n l.body) l.fn.first l.bound l.step (full l.initial.memory l.initial.frame))
+    ≡ meaning.turns l.unit 4096 l.n (meaning_below l.unit l.n l.body) l.fn.first l.bound l.step (full l.initial.memory l.initial.frame))
