@@ -1,8 +1,8 @@
 -- A part that stands before its node means what it means; any other means nothing.
-use Rattle.std.proofs.Common.{◌≡◌, ◌≢◌, ℕ, zero, suc, ◌<◌, ◌≤◌, nat_eq, true, false, refl, sym, ap, subst, arith, ◌∙◌, if◌then◌else◌, ◌⊎◌, inl, inr}
+use Rattle.std.proofs.Common.{◌≡◌, ◌≢◌, ℕ, zero, suc, ◌<◌, ◌≤◌, nat_eq, true, false, refl, sym, ap, arith, ◌∙◌, if◌then◌else◌, ◌⊎◌, inl, inr}
 use Rattle.std.proofs.lemmas.Bool.Decides.{eqb_tells}
 use Rattle.vg_core.specs.Units.{Typed}
-use Rattle.vg_cmean.specs.Meaning.{Meaning, nothing, of_node, meaning_below, meaning}
+use Rattle.vg_cmean.specs.Meaning.{nothing, of_node, meaning_below, meaning}
 
 pub meaning_is : (u : Typed) (n : ℕ) → meaning u n ≡ of_node u (meaning_below u n) n
 unfolding meaning

@@ -1,5 +1,5 @@
 -- A list of parts has no more of them than a number of 32 bits counts.
-use Rattle.std.proofs.Common.{◌≡◌, ℕ, zero, suc, ◌<◌, ◌≤◌, ◌^◌, List, [], ◌∷◌, length, take, drop, arith}
+use Rattle.std.proofs.Common.{ℕ, zero, suc, ◌<◌, ◌≤◌, ◌^◌, List, [], ◌∷◌, length, take, drop, arith}
 use Rattle.vg_core.specs.Syntax.{listed}
 use Rattle.vg_core.specs.declared.tree.Parts.{Parts}
 

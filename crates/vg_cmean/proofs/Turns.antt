@@ -1,5 +1,5 @@
 -- One turn of a loop, and then the others.
-use Rattle.std.proofs.Common.{◌≡◌, ℕ, zero, suc, ◌+◌, ◌-◌, ◌<◌, refl, sym, ap, subst, arith, ◌∙◌, if◌then◌else◌}
+use Rattle.std.proofs.Common.{◌≡◌, ℕ, suc, ◌-◌, ◌<◌, refl, sym, ap, subst, arith, ◌∙◌, if◌then◌else◌}
 use Rattle.vg_core.specs.Units.{Typed}
 use Rattle.vg_cint.specs.declared.value.Value.{Value}
 use Rattle.vg_cmemory.specs.State.{State}

@@ -1,6 +1,6 @@
 -- The meaning of each node of a typed C text: what it gives as an expression (C11 6.5), and what it does as a statement (6.8), by what its parts mean.
 -- Operands are evaluated left first, arguments too, and `&&`, `||` and `?:` evaluate only what they need.
-use Rattle.std.specs.Prelude.{ℕ, zero, suc, ◌+◌, ◌%◌, ◌^◌, nat_eq, nat_lt, Bool, true, false, List, [], ◌∷◌, length, Option, Some, None, Result, Ok, Err, if◌then◌else◌}
+use Rattle.std.specs.Prelude.{ℕ, zero, suc, ◌+◌, ◌%◌, ◌^◌, nat_eq, Bool, true, false, List, [], ◌∷◌, length, Option, Some, None, Result, Ok, Err, if◌then◌else◌}
 use Rattle.vg_core.specs.Syntax.{listed}
 use Rattle.vg_core.specs.Units.{Typed}
 use Rattle.vg_core.specs.declared.reason.Reason.{Reason}
@@ -14,11 +14,10 @@ use Rattle.vg_core.specs.declared.tree.Kind.{Kind}
 use Rattle.vg_core.specs.declared.tree.Kind.TheVariants as nodes
 use Rattle.vg_core.specs.declared.types.Integer.{Integer}
 use Rattle.vg_core.specs.declared.types.CType.{CType}
-use Rattle.vg_core.specs.declared.types.CType.TheVariants as types
 use Rattle.vg_core.specs.declared.unit.Referent.{Referent}
 use Rattle.vg_core.specs.declared.unit.Referent.TheVariants as referents
 use Rattle.vg_cint.specs.Types as integers
-use Rattle.vg_cint.specs.Values.{converted, truth}
+use Rattle.vg_cint.specs.Values.{truth}
 use Rattle.vg_cint.specs.Expressions.{binary_of}
 use Rattle.vg_cint.specs.declared.value.Value.{Value}
 use Rattle.vg_cmemory.specs.State.{Own, State, declare, end_life}
@@ -104,7 +103,7 @@ ended (n ∷ ns) own = ended ns (end_life n own)
 abbrev pub closing : List ℕ → Outcome → Outcome
 closing ns (Next s) = Next (on_own (ended ns) s)
 closing ns (Gives d s) = Gives d (on_own (ended ns) s)
-closing ns (Wrong at reason) = Wrong at reason
+closing ns (Wrong at reason s) = Wrong at reason s
 
 abbrev pub end_of : Kind → ℕ
 end_of (nodes.Block statements end) = end
@@ -113,9 +112,9 @@ end_of _ = 0
 -- what a function answers, of what its body came to. One that isn't `void` may not come to its last brace
 abbrev pub answer_as : Option IntType → (end : ℕ) → Outcome → Outcome
 answer_as None end o = and_then o (λ d s. Gives data_of.Nothing s)
-answer_as (Some type) end (Next s) = Wrong end reasons.Unset
+answer_as (Some type) end (Next s) = Wrong end reasons.Unset s
 answer_as (Some type) end (Gives d s) = Gives (data_of.Word (converted_to (integers.integer_of type) (word_of d))) s
-answer_as (Some type) end (Wrong at reason) = Wrong at reason
+answer_as (Some type) end (Wrong at reason s) = Wrong at reason s
 
 abbrev pub function_called : Typed → Parts_mean → (arguments : List ℕ) → Option IntType → (params : List ℕ) → (body : ℕ) → State → Outcome
 function_called u part arguments answer params body s =
@@ -136,10 +135,10 @@ packet_length s = Gives (data_of.Word (record { of = unsigned_32; word = length 
 
 abbrev pub packet_borrow : (at : ℕ) → Datum → State → Outcome
 packet_borrow at d s =
-    or_wrong (borrow s.own (length s.frame) (converted_to unsigned_32 (word_of d)).word) at (λ own. Gives (data_of.Address (start_of_loan s.own)) (record s { own = own }))
+    or_wrong (borrow s.own (length s.frame) (converted_to unsigned_32 (word_of d)).word) at s (λ own. Gives (data_of.Address (start_of_loan s.own)) (record s { own = own }))
 
 abbrev pub packet_return : (at : ℕ) → Datum → State → Outcome
-packet_return at d s = or_wrong (give_back s.own (pointer_of d)) at (λ own. Gives data_of.Nothing (record s { own = own }))
+packet_return at d s = or_wrong (give_back s.own (pointer_of d)) at s (λ own. Gives data_of.Nothing (record s { own = own }))
 
 -- by the number of its row. The rows behind these need objects of the library, which no text without externs has
 abbrev pub library_on : (row at : ℕ) → Datum → State → Outcome

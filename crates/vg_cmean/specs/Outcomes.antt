@@ -12,25 +12,25 @@ pub data Outcome : Type 0 where
   Next : State → Outcome
   -- an expression has this, or a function returns it
   Gives : Datum → State → Outcome
-  -- nothing has a meaning from here on
-  Wrong : (at : ℕ) → Reason → Outcome
+  -- nothing has a meaning from here on; the state is the last one that had
+  Wrong : (at : ℕ) → Reason → State → Outcome
 
 -- evaluate, and then go on with what it gave
 abbrev pub and_then : Outcome → (Datum → State → Outcome) → Outcome
 and_then (Next s) go = go data_of.Nothing s
 and_then (Gives d s) go = go d s
-and_then (Wrong at reason) go = Wrong at reason
+and_then (Wrong at reason s) go = Wrong at reason s
 
 -- run a statement, and then the next one, where it doesn't return
 abbrev pub after : Outcome → (State → Outcome) → Outcome
 after (Next s) go = go s
 after (Gives d s) go = Gives d s
-after (Wrong at reason) go = Wrong at reason
+after (Wrong at reason s) go = Wrong at reason s
 
 -- what can be refused goes wrong there
-abbrev pub or_wrong : {A : Type 0} → Result A Reason → (at : ℕ) → (A → Outcome) → Outcome
-or_wrong (Ok x) at go = go x
-or_wrong (Err reason) at go = Wrong at reason
+abbrev pub or_wrong : {A : Type 0} → Result A Reason → (at : ℕ) → State → (A → Outcome) → Outcome
+or_wrong (Ok x) at s go = go x
+or_wrong (Err reason) at s go = Wrong at reason s
 
 -- the state of a run, by its own part and the frame
 abbrev pub full : Own → List ℕ → State
@@ -47,16 +47,16 @@ tick s = on_own memory.tick s
 
 abbrev pub gives : Result Datum Fault → State → Outcome
 gives (Ok d) s = Gives d s
-gives (Err fault) s = Wrong fault.at fault.reason
+gives (Err fault) s = Wrong fault.at fault.reason s
 
 abbrev pub does : Result (Option Datum) Fault → State → Outcome
 does (Ok None) s = Next s
 does (Ok (Some d)) s = Gives d s
-does (Err fault) s = Wrong fault.at fault.reason
+does (Err fault) s = Wrong fault.at fault.reason s
 
 abbrev pub goes : {A : Type 0} → Result A Fault → State → Outcome
 goes (Ok done) s = Next s
-goes (Err fault) s = Wrong fault.at fault.reason
+goes (Err fault) s = Wrong fault.at fault.reason s
 
 -- a refusal at a place of the text
 abbrev pub at_place : {A : Type 0} → Result A Reason → ℕ → Result A Fault

@@ -1,19 +1,16 @@
 -- A run of `nf_process` on a frame, whole.
-use Rattle.std.specs.Prelude.{◌≡◌, ℕ, zero, suc, ◌+◌, ◌-◌, List, [], ◌∷◌, ◌++◌, length, replicate, slice_get, Option, Some, None, ℤ}
+use Rattle.std.specs.Prelude.{◌≡◌, ℕ, zero, suc, ◌+◌, ◌-◌, List, [], ◌∷◌, ◌++◌, length, replicate, slice_get, Option, Some, None, ℤ, Bool, true, false, ◌||◌}
 use Rattle.vg_core.specs.Syntax.{listed}
 use Rattle.vg_core.specs.Layouts.{layout}
 use Rattle.vg_core.specs.Units.{Typed}
-use Rattle.vg_core.specs.declared.reason.Reason.{Reason}
 use Rattle.vg_core.specs.declared.reason.Reason.TheVariants as reasons
-use Rattle.vg_core.specs.declared.tree.IntType.{IntType}
+use Rattle.vg_core.specs.declared.tree.Node.{Node}
 use Rattle.vg_core.specs.declared.tree.Kind.{Kind}
 use Rattle.vg_core.specs.declared.tree.Kind.TheVariants as nodes
 use Rattle.vg_core.specs.declared.types.CType.{CType}
 use Rattle.vg_core.specs.declared.types.CType.TheVariants as types
-use Rattle.vg_core.specs.declared.types.Integer.{Integer}
 use Rattle.vg_cint.specs.Types.{int, without_sign}
 use Rattle.vg_cint.specs.Values.{reading}
-use Rattle.vg_cint.specs.declared.value.Value.{Value}
 use Rattle.vg_cmemory.specs.declared.object.Variable.{Variable}
 use Rattle.vg_cmemory.specs.State.{Own, State}
 use Rattle.vg_cmean.specs.declared.datum.Datum.{Datum}
@@ -32,9 +29,14 @@ abbrev pub bytes_of : Typed → CType → ℕ
 bytes_of u (types.Pointer target) = 0
 bytes_of u type = (layout u.notes type).size
 
+-- nor has a parameter that is a struct, since nothing can be given for it
+abbrev pub bytes_of_parameter : Typed → CType → ℕ
+bytes_of_parameter u (types.Struct tag) = 0
+bytes_of_parameter u type = bytes_of u type
+
 -- of a variable, parameter or counter
 abbrev pub bytes_declared : Typed → ℕ → Kind → ℕ
-bytes_declared u n (nodes.Param base pointer name) = bytes_of u (type_at u n)
+bytes_declared u n (nodes.Param base pointer name) = bytes_of_parameter u (type_at u n)
 bytes_declared u n (nodes.Declare base pointer name count value) = bytes_of u (type_at u n)
 bytes_declared u n (nodes.For type counter start tested bound stepped step body) = bytes_of u (type_at u n)
 bytes_declared u n kind = 0
@@ -45,7 +47,7 @@ bytes_below u zero = 0
 bytes_below u (suc n) = bytes_below u n + bytes_declared u n (kind_at u n)
 
 abbrev pub variable_at : Typed → ℕ → Variable
-variable_at u n = record { from = bytes_below u n; size = bytes_declared u n (kind_at u n); made = None; points = None }
+variable_at u n = record { from = bytes_below u n; size = bytes_declared u n (kind_at u n); number = None; points = None }
 
 unfoldable pub variables_below : Typed → ℕ → List Variable
 variables_below u zero = []
@@ -59,7 +61,7 @@ unset_of u = replicate (bytes_below u (length u.tree.nodes)) None
 
 -- what a run of a text begins with: no variable lives, no byte is set, no chunk is lent
 abbrev pub start : Typed → Own
-start u = record { variables = variables_of u; bytes = unset_of u; chunks = []; place = 0; steps = 0 }
+start u = record { variables = variables_of u; bytes = unset_of u; chunks = []; lent = 0; steps = 0; born = 1 }
 
 -- ---- a machine: what its runs begin with, and what the last one left
 pub record Made : Type 0 where
@@ -70,6 +72,17 @@ pub record Made : Type 0 where
 pub record IsMadeFor (machine : Made) (u : Typed) : Type 0 where
   pub variables : machine.variables ≡ variables_of u
   pub bytes : machine.bytes ≡ unset_of u
+
+-- ---- objects of the library come with it, and so do texts that name them
+
+abbrev pub is_extern : Kind → Bool
+is_extern (nodes.ExternHandle handle name) = true
+is_extern (nodes.ExternNumber type name) = true
+is_extern _ = false
+
+abbrev pub has_extern : List Node → Bool
+has_extern [] = false
+has_extern (node ∷ nodes) = is_extern node.kind || has_extern nodes
 
 -- ---- `nf_process` is the last item of the text
 
@@ -95,10 +108,10 @@ abbrev pub run_of : Typed → Kind → (port now : ℕ) → State → Outcome
 run_of u (nodes.Function is_static is_inline answer name params body) port now s =
     after (arguments u (listed u.tree.items params) port now s)
     (λ t. answer_as answer (end_of (kind_at u body)) (closing (listed u.tree.items params) ((meaning u body).does t)))
-run_of u kind port now s = Wrong 0 reasons.Unset
+run_of u kind port now s = Wrong 0 reasons.Unset s
 
 abbrev pub run_at : Typed → Option ℕ → (port now : ℕ) → State → Outcome
-run_at u None port now s = Wrong 0 reasons.Unset
+run_at u None port now s = Wrong 0 reasons.Unset s
 run_at u (Some f) port now s = run_of u (kind_at u f) port now s
 
 -- what comes of a frame that a port gets at a time
@@ -116,10 +129,10 @@ returned_with d s = ends.Ret (int_of (word_of d).word) s.own.steps (length s.own
 abbrev pub done_of : Outcome → Done
 done_of (Next s) = returned_with data_of.Nothing s
 done_of (Gives d s) = returned_with d s
-done_of (Wrong at reason) = ends.Wrong at reason
+done_of (Wrong at reason s) = ends.Wrong at reason
 
--- the frame after a run that doesn't go wrong
-abbrev pub frame_of : Outcome → (other : List ℕ) → List ℕ
-frame_of (Next s) other = s.frame
-frame_of (Gives d s) other = s.frame
-frame_of (Wrong at reason) other = other
+-- the frame after a run; after a wrong one as the run left it
+abbrev pub frame_of : Outcome → List ℕ
+frame_of (Next s) = s.frame
+frame_of (Gives d s) = s.frame
+frame_of (Wrong at reason s) = s.frame

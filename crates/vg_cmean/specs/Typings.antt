@@ -1,12 +1,10 @@
 -- What the tree and typing say of a node. A node that isn't there is `;`, and has no type.
-use Rattle.std.specs.Prelude.{ℕ, Bool, true, false, List, [], slice_get, Option, Some, None, is_some}
-use Rattle.vg_core.specs.Syntax.{listed}
+use Rattle.std.specs.Prelude.{ℕ, Bool, true, false, slice_get, Option, Some, None, is_some}
 use Rattle.vg_core.specs.Units.{Typed}
 use Rattle.vg_core.specs.Layouts.{target_layout}
 use Rattle.vg_core.specs.declared.tree.Kind.{Kind}
 use Rattle.vg_core.specs.declared.tree.Kind.TheVariants as nodes
 use Rattle.vg_core.specs.declared.tree.Node.{Node}
-use Rattle.vg_core.specs.declared.tree.Parts.{Parts}
 use Rattle.vg_core.specs.declared.types.CType.{CType}
 use Rattle.vg_core.specs.declared.types.CType.TheVariants as types
 use Rattle.vg_core.specs.declared.types.Target.{Target}

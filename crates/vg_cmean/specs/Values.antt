@@ -1,5 +1,5 @@
 -- Values: what an expression gives, its conversions, and reads and writes of what it names (C11 6.3).
-use Rattle.std.specs.Prelude.{ℕ, ◌/◌, Bool, false, Option, Some, None, Result, Ok, Err, if◌then◌else◌}
+use Rattle.std.specs.Prelude.{ℕ, ◌/◌, Bool, Option, Some, None, Result, if◌then◌else◌}
 use Rattle.vg_core.specs.declared.reason.Reason.{Reason}
 use Rattle.vg_core.specs.declared.reason.Reason.TheVariants as reasons
 use Rattle.vg_core.specs.declared.tree.BinaryOp.{BinaryOp}
@@ -14,11 +14,11 @@ use Rattle.vg_cint.specs.Expressions.{binary_of, unary_of}
 use Rattle.vg_cint.specs.declared.value.Value.{Value}
 use Rattle.vg_cmemory.specs.declared.object.Object.TheVariants as objects
 use Rattle.vg_cmemory.specs.declared.object.Pointer.{Pointer}
-use Rattle.vg_cmemory.specs.State.{Own, State, variable, hold}
+use Rattle.vg_cmemory.specs.State.{State, variable, hold}
 use Rattle.vg_cmemory.specs.Access.{load, store}
 use Rattle.vg_cmean.specs.declared.datum.Datum.{Datum}
 use Rattle.vg_cmean.specs.declared.datum.Datum.TheVariants as data_of
-use Rattle.vg_cmean.specs.declared.datum.Place.{Place}
+use Rattle.vg_cmean.specs.declared.datum.Lvalue.{Lvalue}
 use Rattle.vg_cmean.specs.Outcomes.{Outcome, Next, Gives, Wrong, or_wrong, on_own}
 
 -- ---- what typing has made sure of: an integer where one is asked for, a pointer where one is asked for
@@ -70,37 +70,37 @@ size_of t = width t / 8
 abbrev pub align_of : Bool → Integer → ℕ
 align_of loose t = if loose then 1 else size_of t
 
-abbrev pub read_integer : Integer → Place → State → Outcome
-read_integer t p s = or_wrong (load s p.pointer (size_of t) (align_of p.loose t)) p.at (λ word. Gives (data_of.Word (record { of = t; word = word })) s)
+abbrev pub read_integer : Integer → Lvalue → State → Outcome
+read_integer t p s = or_wrong (load s p.pointer (size_of t) (align_of p.loose t)) p.at s (λ word. Gives (data_of.Word (record { of = t; word = word })) s)
 
 -- an array stands for a pointer to its first element
-abbrev pub read_place : CType → Place → State → Outcome
-read_place (types.Int bits signed) p s = read_integer (record { bits = bits; signed = signed }) p s
-read_place (types.Array target length) p s = Gives (data_of.Address p.pointer) s
-read_place _ p s = Gives data_of.Nothing s
+abbrev pub read_lvalue : CType → Lvalue → State → Outcome
+read_lvalue (types.Int bits signed) p s = read_integer (record { bits = bits; signed = signed }) p s
+read_lvalue (types.Array target length) p s = Gives (data_of.Address p.pointer) s
+read_lvalue _ p s = Gives data_of.Nothing s
 
 abbrev pub read_pointer : Option Pointer → ℕ → State → Outcome
-read_pointer None at s = Wrong at reasons.Unset
+read_pointer None at s = Wrong at reasons.Unset s
 read_pointer (Some p) at s = Gives (data_of.Address p) s
 
 -- the value of what an expression gave
 abbrev pub read : Datum → State → Outcome
-read (data_of.Object place) s = read_place place.of place s
-read (data_of.Holder node at) s = read_pointer (variable s.own node).points at s
+read (data_of.Lvalue place) s = read_lvalue place.of place s
+read (data_of.PointerVariable node at) s = read_pointer (variable s.own node).points at s
 read d s = Gives d s
 
-abbrev pub write_integer : Integer → Place → Value → State → Outcome
-write_integer t p v s = or_wrong (store s p.pointer (size_of t) (align_of p.loose t) (converted t v.of v.word)) p.at Next
+abbrev pub write_integer : Integer → Lvalue → Value → State → Outcome
+write_integer t p v s = or_wrong (store s p.pointer (size_of t) (align_of p.loose t) (converted t v.of v.word)) p.at s Next
 
 abbrev pub write : Datum → Datum → State → Outcome
-write (data_of.Object place) d s = write_integer (integer_of place.of) place (word_of d) s
-write (data_of.Holder node at) d s = Next (on_own (hold node (pointer_of d)) s)
+write (data_of.Lvalue place) d s = write_integer (integer_of place.of) place (word_of d) s
+write (data_of.PointerVariable node at) d s = Next (on_own (hold node (pointer_of d)) s)
 write _ d s = Next s
 
 -- ---- operators
 
 abbrev pub of_result : Result Value Reason → ℕ → State → Outcome
-of_result r at s = or_wrong r at (λ v. Gives (data_of.Word v) s)
+of_result r at s = or_wrong r at s (λ v. Gives (data_of.Word v) s)
 
 abbrev pub binary : BinaryOp → (at : ℕ) → Datum → Datum → State → Outcome
 binary op at a b s = of_result (binary_of op (word_of a) (word_of b)) at s

@@ -2,7 +2,7 @@
 ghost use Rattle.std.specs.Prelude.{◌≡◌, ◌<◌, ◌^◌, List, ℕ, length};
 ghost use Rattle.vg_cmean.specs.Outcomes.{gives, does, goes, full};
 ghost use Rattle.vg_cmean.specs.Meaning as meaning;
-ghost use Rattle.vg_cmemory.specs.State.{State, room};
+ghost use Rattle.vg_cmemory.specs.State.{State, sizes};
 
 use crate::datum::Datum;
 use crate::fault::{Fault, or_wrong};
@@ -27,7 +27,7 @@ pub fn parameter(
     argument: Datum,
 ) -> Result<(), Fault>
     ensures value { goes result (full memory.new frame.new) ≡ meaning.parameter unit.now p argument (full memory.old frame.old) }
-    ensures room { room memory.new ≡ room memory.old }
+    ensures sizes { sizes memory.new ≡ sizes memory.old }
 {
     memory.declare(p);
     let variable = declared(memory, unit, p, place_at(unit, p));
@@ -37,7 +37,7 @@ pub fn parameter(
 /// What these nodes declare lives no longer.
 pub fn end_all(memory: &mut FrameMemory, nodes: &[u32])
     ensures value { memory.new ≡ meaning.ended nodes.now memory.old }
-    ensures room { room memory.new ≡ room memory.old }
+    ensures sizes { sizes memory.new ≡ sizes memory.old }
 {
     for &node in nodes {
         memory.end_life(node);
@@ -78,7 +78,7 @@ fn packet_borrow(
 ) -> Result<Datum, Fault>
     requires size { length frame.now < 2 ^ 32 }
     ensures value { gives result (full memory.new frame.now) ≡ meaning.packet_borrow at count (full memory.old frame.now) }
-    ensures room { room memory.new ≡ room memory.old }
+    ensures sizes { sizes memory.new ≡ sizes memory.old }
 {
     let bytes = converted_to(UNSIGNED_32, word_of(count)).word;
     let start = or_wrong(memory.borrow(frame.len() as u32, bytes), at)?;
@@ -87,7 +87,7 @@ fn packet_borrow(
 
 fn packet_return(memory: &mut FrameMemory, at: u32, chunk: Datum) -> Result<Datum, Fault>
     ensures value { (frame : List ℕ) → gives result (full memory.new frame) ≡ meaning.packet_return at chunk (full memory.old frame) }
-    ensures room { room memory.new ≡ room memory.old }
+    ensures sizes { sizes memory.new ≡ sizes memory.old }
 {
     or_wrong(memory.give_back(pointer_of(chunk)), at)?;
     Ok(Datum::Nothing)
@@ -96,7 +96,7 @@ fn packet_return(memory: &mut FrameMemory, at: u32, chunk: Datum) -> Result<Datu
 /// A call of the library without an argument, by the number of its row.
 pub fn library_alone(memory: &mut FrameMemory, frame: &[u8], row: u8) -> Datum
     ensures value { gives (Ok result) (full memory.new frame.now) ≡ meaning.library_alone row (full memory.old frame.now) }
-    ensures room { room memory.new ≡ room memory.old }
+    ensures sizes { sizes memory.new ≡ sizes memory.old }
 {
     if row != 1 {
         return Datum::Nothing;
@@ -120,7 +120,7 @@ pub fn library_on(
 ) -> Result<Datum, Fault>
     requires size { length frame.now < 2 ^ 32 }
     ensures value { gives result (full memory.new frame.now) ≡ meaning.library_on row at argument (full memory.old frame.now) }
-    ensures room { room memory.new ≡ room memory.old }
+    ensures sizes { sizes memory.new ≡ sizes memory.old }
 {
     match row {
         2 => packet_borrow(memory, frame, at, argument),

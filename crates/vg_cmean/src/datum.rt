@@ -4,9 +4,9 @@ use vg_cint::Value;
 use vg_cmemory::Pointer;
 use vg_core::CType;
 
-/// Where an lvalue stands that is made of bytes.
+/// An lvalue that is made of bytes (C11 6.3.2.1).
 #[derive(Clone, Copy, Debug, PartialEq, Eq)]
-pub struct Place {
+pub struct Lvalue {
     pub pointer: Pointer,
     /// Its type.
     pub of: CType,
@@ -26,7 +26,7 @@ pub enum Datum {
     /// A pointer that is set.
     Address(Pointer),
     /// An lvalue that is made of bytes.
-    Object(Place),
-    /// A pointer variable, with the number of the node that declares it, and where it is named in the text.
-    Holder { node: u32, at: u32 },
+    Lvalue(Lvalue),
+    /// A pointer variable as an lvalue, with the number of the node that declares it, and where it is named in the text.
+    PointerVariable { node: u32, at: u32 },
 }

@@ -11,4 +11,4 @@ mod run;
 mod typings;
 mod values;
 
-pub use machine::{Done, Machine};
+pub use machine::{Done, Machine, has_externs};

@@ -1,10 +1,10 @@
 //! Runs of `nf_process` on frames.
-ghost use Rattle.std.specs.Prelude.{◌≡◌, ◌≤◌, ◌<◌, ◌^◌, [], List, ℕ, IfOk, None, length, replicate};
+ghost use Rattle.std.specs.Prelude.{◌≡◌, ◌≤◌, ◌<◌, ◌^◌, [], false, List, ℕ, IfOk, None, length, replicate};
 ghost use Rattle.vg_cmean.specs.Outcomes.{gives, goes, full};
 ghost use Rattle.vg_cmean.specs.Runs as runs;
-ghost use Rattle.vg_cmean.specs.Runs.{IsMadeFor, run, run_at, done_of, frame_of, variables_below, bytes_below};
+ghost use Rattle.vg_cmean.specs.Runs.{has_extern, IsMadeFor, run, run_at, done_of, frame_of, variables_below, bytes_below};
 ghost use Rattle.vg_cmean.specs.Typings as typings;
-ghost use Rattle.vg_cmemory.specs.State.{room};
+ghost use Rattle.vg_cmemory.specs.State.{sizes};
 
 use crate::calls::{answer_as, end_all, end_of, parameter};
 use crate::datum::Datum;
@@ -16,7 +16,7 @@ use std::alloc::Global;
 use std::marker::Model;
 use vg_cint::{INT, Value, reading};
 use vg_cmemory::{FrameMemory, Variable};
-use vg_core::{CType, Integer, Kind, Memory, Reason, Target, Unit, erase, target_layout};
+use vg_core::{CType, Integer, Kind, Memory, Node, Reason, Target, Unit, erase, target_layout};
 
 /// What comes of a frame.
 #[derive(Clone, Copy, Debug, PartialEq, Eq)]
@@ -37,14 +37,41 @@ pub struct Machine {
 
 impl Model for Machine {
     ghost use Rattle.std.specs.Prelude.{◌≡◌, length};
-    ghost use Rattle.vg_cmemory.specs.State.{room};
+    ghost use Rattle.vg_cmemory.specs.State.{sizes};
     ghost use Rattle.vg_cmean.specs.Runs.{Made};
 
     ghost Value = { Made };
 
     ghost view = { λ m. record { variables = m.variables.items; bytes = m.bytes.items; own = m.memory } };
 
-    ghost invariant = { λ m. room m.memory ≡ (length m.variables.items, length m.bytes.items) };
+    ghost invariant = { λ m. sizes m.memory ≡ (length m.variables.items, length m.bytes.items) };
+}
+
+/// Whether a text names an object of the library or a configured number. Machines don't run such texts yet.
+pub fn has_externs(unit: &Unit) -> bool
+    ensures { result ≡ has_extern unit.now.tree.nodes }
+{
+    has_extern(erase(unit).nodes())
+}
+
+fn has_extern(nodes: &[Node]) -> bool
+    ensures { result ≡ has_extern nodes.now }
+{
+    for node in nodes {
+        if is_extern(node) {
+            return true;
+        }
+    }
+    false
+}
+
+fn is_extern(node: &Node) -> bool
+    ensures { result ≡ runs.is_extern node.now.kind }
+{
+    matches!(
+        node.kind,
+        Kind::ExternHandle { .. } | Kind::ExternNumber { .. }
+    )
 }
 
 impl Machine {
@@ -78,14 +105,15 @@ impl Machine {
     }
 
     /// Runs `nf_process` on a frame of at most 262,144 bytes that came to a port at a time in nanoseconds. `unit` is the text that the machine was
-    /// made for. What the function writes stands in the frame afterwards; after a wrong run what it wrote until then. No chunk is lent afterwards.
+    /// made for. What the function wrote stands in the frame afterwards, after a wrong run what it wrote until then. No chunk is lent afterwards.
     ///
     /// No memory is taken.
     pub fn frame(&mut self, unit: &Unit, port: u16, frame: &mut [u8], now: u64) -> Done
         requires made_for { IsMadeFor self.old unit.now }
+        requires no_externs { has_extern unit.now.tree.nodes ≡ false }
         requires size { length frame.old ≤ 262144 }
         ensures runs { result ≡ done_of (run unit.now port now frame.old) }
-        ensures frame { frame.new ≡ frame_of (run unit.now port now frame.old) frame.new }
+        ensures frame { frame.new ≡ frame_of (run unit.now port now frame.old) }
         ensures made_for { IsMadeFor self.new unit.now }
         ensures taken_back { self.new.own.chunks ≡ [] }
     {
@@ -99,12 +127,12 @@ impl Machine {
 
 // A variable of so many bytes from one on that doesn't live.
 fn resting(from: u32, size: u32) -> Variable
-    ensures { result ≡ record { from = from; size = size; made = None; points = None } }
+    ensures { result ≡ record { from = from; size = size; number = None; points = None } }
 {
     Variable {
         from,
         size,
-        made: None,
+        number: None,
         points: None,
     }
 }
@@ -136,14 +164,23 @@ fn bytes_of(unit: &Unit, of: CType) -> u64
     }
 }
 
+// How many bytes a parameter has. Nothing can be given for one that is a struct.
+fn bytes_of_parameter(unit: &Unit, of: CType) -> u64
+    ensures { result ≡ runs.bytes_of_parameter unit.now of }
+{
+    match of {
+        CType::Struct(_) => 0,
+        _ => bytes_of(unit, of),
+    }
+}
+
 // How many bytes a node declares.
 fn bytes_declared(unit: &Unit, n: u32) -> u64
     ensures { result ≡ runs.bytes_declared unit.now n (typings.kind_at unit.now n) }
 {
     match kind_at(unit, n) {
-        Kind::Param { .. } | Kind::Declare { .. } | Kind::For { .. } => {
-            bytes_of(unit, type_at(unit, n))
-        }
+        Kind::Param { .. } => bytes_of_parameter(unit, type_at(unit, n)),
+        Kind::Declare { .. } | Kind::For { .. } => bytes_of(unit, type_at(unit, n)),
         _ => 0,
     }
 }
@@ -192,7 +229,7 @@ fn arguments(
     now: u64,
 ) -> Result<(), Fault>
     ensures value { goes result (full memory.new frame.new) ≡ runs.arguments unit.now params.now port now (full memory.old frame.old) }
-    ensures room { room memory.new ≡ room memory.old }
+    ensures sizes { sizes memory.new ≡ sizes memory.old }
 {
     match params {
         [first, second] => {
@@ -214,7 +251,7 @@ fn process(
 ) -> Result<Datum, Fault>
     requires size { length frame.old < 2 ^ 32 }
     ensures value { gives result (full memory.new frame.new) ≡ run_at unit.now (runs.process_of unit.now) port now (full memory.old frame.old) }
-    ensures room { room memory.new ≡ room memory.old }
+    ensures sizes { sizes memory.new ≡ sizes memory.old }
 {
     let Some(function) = process_of(unit) else {
         return Err(NOTHING_TO_RUN);

@@ -5,7 +5,7 @@ ghost use Rattle.vg_cmean.specs.Places as places;
 ghost use Rattle.vg_cmean.specs.Typings as typings;
 ghost use Rattle.vg_cmemory.specs.State.{State};
 
-use crate::datum::{Datum, Place};
+use crate::datum::{Datum, Lvalue};
 use crate::fault::Fault;
 use crate::typings::{is_array, is_packed, is_pointer, offset_at, place_at, referent_at, type_at};
 use crate::values::{pointer_of, read, word_of};
@@ -18,10 +18,10 @@ const SIGNED_64: Integer = Integer {
     signed: true,
 };
 
-fn of_object(pointer: Pointer, of: CType, loose: bool, at: u32) -> Datum
-    ensures { result ≡ places.of_object pointer of loose at }
+fn lvalue_at(pointer: Pointer, of: CType, loose: bool, at: u32) -> Datum
+    ensures { result ≡ places.lvalue_at pointer of loose at }
 {
-    Datum::Object(Place {
+    Datum::Lvalue(Lvalue {
         pointer,
         of,
         loose,
@@ -35,9 +35,9 @@ pub fn declared(memory: &FrameMemory, unit: &Unit, node: u32, at: u32) -> Datum
 {
     let of = type_at(unit, node);
     if is_pointer(of) {
-        return Datum::Holder { node, at };
+        return Datum::PointerVariable { node, at };
     }
-    of_object(memory.start_of(node), of, false, at)
+    lvalue_at(memory.start_of(node), of, false, at)
 }
 
 /// What a name stands for in an expression.
@@ -63,7 +63,7 @@ fn start_under(datum: Datum) -> Pointer
     ensures { result ≡ places.start_under datum }
 {
     match datum {
-        Datum::Object(place) => place.pointer,
+        Datum::Lvalue(place) => place.pointer,
         _ => pointer_of(datum),
     }
 }
@@ -72,7 +72,7 @@ fn is_loose(datum: Datum) -> bool
     ensures { result ≡ places.is_loose datum }
 {
     match datum {
-        Datum::Object(place) => place.loose,
+        Datum::Lvalue(place) => place.loose,
         _ => false,
     }
 }
@@ -82,7 +82,7 @@ pub fn indexed(memory: &FrameMemory, frame: &[u8], datum: Datum) -> Result<Datum
     ensures { gives result (full memory.now frame.now) ≡ places.indexed datum (full memory.now frame.now) }
 {
     match datum {
-        Datum::Object(place) => {
+        Datum::Lvalue(place) => {
             if is_array(place.of) {
                 Ok(datum)
             } else {
@@ -134,7 +134,7 @@ pub fn element(
             reason: Reason::OutOfObject,
         });
     }
-    Ok(of_object(element_of(start, size, number), of, is_loose(array), at))
+    Ok(lvalue_at(element_of(start, size, number), of, is_loose(array), at))
 }
 
 fn offset_of(unit: &Unit, field: Option<Referent>) -> u32
@@ -151,7 +151,7 @@ pub fn member(unit: &Unit, n: u32, whole: u32, datum: Datum) -> Datum
     ensures { result ≡ places.member unit.now n whole (typings.place_at unit.now n) datum }
 {
     let offset = offset_of(unit, referent_at(unit, n));
-    of_object(
+    lvalue_at(
         moved(start_under(datum), u64::from(offset)),
         type_at(unit, n),
         is_loose(datum) || is_packed(unit, type_at(unit, whole)),
@@ -163,7 +163,7 @@ pub fn member(unit: &Unit, n: u32, whole: u32, datum: Datum) -> Datum
 pub fn pointed_to(of: CType, at: u32, datum: Datum) -> Datum
     ensures { result ≡ places.pointed_to of at datum }
 {
-    of_object(pointer_of(datum), of, false, at)
+    lvalue_at(pointer_of(datum), of, false, at)
 }
 
 /// The address of an lvalue.

@@ -4,7 +4,7 @@ ghost use Rattle.vg_cmean.specs.Outcomes.{gives, does, goes, full};
 ghost use Rattle.vg_cmean.specs.Meaning as meaning;
 ghost use Rattle.vg_cmean.specs.Meaning.{meaning_below, value};
 ghost use Rattle.vg_cmean.specs.Typings as typings;
-ghost use Rattle.vg_cmemory.specs.State.{room};
+ghost use Rattle.vg_cmemory.specs.State.{sizes};
 
 use crate::calls::{answer_as, end_all, end_of, library_alone, library_on, parameter};
 use crate::datum::Datum;
@@ -33,7 +33,7 @@ pub fn expression(
 ) -> Result<Datum, Fault>
     requires size { length frame.old < 2 ^ 32 }
     ensures value { gives result (full memory.new frame.new) ≡ (meaning.meaning unit.now n).gives (full memory.old frame.old) }
-    ensures room { room memory.new ≡ room memory.old }
+    ensures sizes { sizes memory.new ≡ sizes memory.old }
 {
     match kind_at(unit, n) {
         Kind::Number { value, of } => Ok(Datum::Word(Value {
@@ -86,7 +86,7 @@ fn part(
 ) -> Result<Datum, Fault>
     requires size { length frame.old < 2 ^ 32 }
     ensures value { gives result (full memory.new frame.new) ≡ (meaning_below unit.now n p).gives (full memory.old frame.old) }
-    ensures room { room memory.new ≡ room memory.old }
+    ensures sizes { sizes memory.new ≡ sizes memory.old }
 {
     if n <= p {
         return Ok(Datum::Nothing);
@@ -105,7 +105,7 @@ fn part_value(
 ) -> Result<Datum, Fault>
     requires size { length frame.old < 2 ^ 32 }
     ensures value { gives result (full memory.new frame.new) ≡ value (meaning_below unit.now n p) (full memory.old frame.old) }
-    ensures room { room memory.new ≡ room memory.old }
+    ensures sizes { sizes memory.new ≡ sizes memory.old }
 {
     let datum = part(memory, frame, unit, n, p)?;
     read(memory, frame, datum)
@@ -123,7 +123,7 @@ fn part_does(
 ) -> Result<Option<Datum>, Fault>
     requires size { length frame.old < 2 ^ 32 }
     ensures value { does result (full memory.new frame.new) ≡ (meaning_below unit.now n p).does (full memory.old frame.old) }
-    ensures room { room memory.new ≡ room memory.old }
+    ensures sizes { sizes memory.new ≡ sizes memory.old }
 {
     if n <= p {
         return Ok(None);
@@ -143,7 +143,7 @@ fn before_operand(
 ) -> Result<Datum, Fault>
     requires size { length frame.old < 2 ^ 32 }
     ensures value { gives result (full memory.new frame.new) ≡ meaning.before_operand unit.now op n (meaning_below unit.now n operand) (full memory.old frame.old) }
-    ensures room { room memory.new ≡ room memory.old }
+    ensures sizes { sizes memory.new ≡ sizes memory.old }
 {
     match op {
         UnaryOp::Address => Ok(address(part(memory, frame, unit, n, operand)?)),
@@ -172,7 +172,7 @@ fn operation(
 ) -> Result<Datum, Fault>
     requires size { length frame.old < 2 ^ 32 }
     ensures value { gives result (full memory.new frame.new) ≡ meaning.operation op (typings.place_at unit.now n) (meaning_below unit.now n left) (meaning_below unit.now n right) (full memory.old frame.old) }
-    ensures room { room memory.new ≡ room memory.old }
+    ensures sizes { sizes memory.new ≡ sizes memory.old }
 {
     let a = part_value(memory, frame, unit, n, left)?;
     match op {
@@ -212,7 +212,7 @@ fn choose(
 ) -> Result<Datum, Fault>
     requires size { length frame.old < 2 ^ 32 }
     ensures value { gives result (full memory.new frame.new) ≡ meaning.choice unit.now n (meaning_below unit.now n condition) (meaning_below unit.now n one) (meaning_below unit.now n other) (full memory.old frame.old) }
-    ensures room { room memory.new ≡ room memory.old }
+    ensures sizes { sizes memory.new ≡ sizes memory.old }
 {
     let holds = is_true(part_value(memory, frame, unit, n, condition)?);
     memory.tick();
@@ -236,7 +236,7 @@ fn index_of(
 ) -> Result<Datum, Fault>
     requires size { length frame.old < 2 ^ 32 }
     ensures value { gives result (full memory.new frame.new) ≡ meaning.index_of unit.now (meaning_below unit.now n) n array index (full memory.old frame.old) }
-    ensures room { room memory.new ≡ room memory.old }
+    ensures sizes { sizes memory.new ≡ sizes memory.old }
 {
     let whole = part(memory, frame, unit, n, array)?;
     let whole = indexed(memory, frame, whole)?;
@@ -264,7 +264,7 @@ fn call(
     requires size { length frame.old < 2 ^ 32 }
     requires few { length arguments.now < 2 ^ 32 }
     ensures value { gives result (full memory.new frame.new) ≡ meaning.call unit.now (meaning_below unit.now n) (typings.place_at unit.now n) arguments.now (typings.referent_at unit.now n) (full memory.old frame.old) }
-    ensures room { room memory.new ≡ room memory.old }
+    ensures sizes { sizes memory.new ≡ sizes memory.old }
 {
     match referent_at(unit, n) {
         None => Ok(Datum::Nothing),
@@ -300,7 +300,7 @@ fn call_function(
     requires size { length frame.old < 2 ^ 32 }
     requires few { length arguments.now < 2 ^ 32 }
     ensures value { gives result (full memory.new frame.new) ≡ meaning.function_called unit.now (meaning_below unit.now n) arguments.now answer params.now body (full memory.old frame.old) }
-    ensures room { room memory.new ≡ room memory.old }
+    ensures sizes { sizes memory.new ≡ sizes memory.old }
 {
     given(memory, frame, unit, n, arguments, params)?;
     let returned = part_does(memory, frame, unit, n, body)?;
@@ -321,7 +321,7 @@ fn given(
     requires size { length frame.old < 2 ^ 32 }
     requires few { length arguments.now < 2 ^ 32 }
     ensures value { goes result (full memory.new frame.new) ≡ meaning.given unit.now (meaning_below unit.now n) arguments.now params.now (full memory.old frame.old) }
-    ensures room { room memory.new ≡ room memory.old }
+    ensures sizes { sizes memory.new ≡ sizes memory.old }
 {
     match (arguments.split_first(), params.split_first()) {
         (Some((&argument, arguments)), Some((&p, params))) => {
@@ -348,7 +348,7 @@ fn library(
 ) -> Result<Datum, Fault>
     requires size { length frame.old < 2 ^ 32 }
     ensures value { gives result (full memory.new frame.new) ≡ meaning.library (meaning_below unit.now n) row (typings.place_at unit.now n) arguments.now (full memory.old frame.old) }
-    ensures room { room memory.new ≡ room memory.old }
+    ensures sizes { sizes memory.new ≡ sizes memory.old }
 {
     match arguments.split_first() {
         None => Ok(library_alone(memory, frame, row)),
@@ -371,7 +371,7 @@ pub fn statement(
 ) -> Result<Option<Datum>, Fault>
     requires size { length frame.old < 2 ^ 32 }
     ensures value { does result (full memory.new frame.new) ≡ (meaning.meaning unit.now n).does (full memory.old frame.old) }
-    ensures room { room memory.new ≡ room memory.old }
+    ensures sizes { sizes memory.new ≡ sizes memory.old }
 {
     match kind_at(unit, n) {
         Kind::Block { statements, .. } => {
@@ -453,7 +453,7 @@ fn declaration(
 ) -> Result<Option<Datum>, Fault>
     requires size { length frame.old < 2 ^ 32 }
     ensures value { does result (full memory.new frame.new) ≡ meaning.declaration unit.now (meaning_below unit.now n) n value (full memory.old frame.old) }
-    ensures room { room memory.new ≡ room memory.old }
+    ensures sizes { sizes memory.new ≡ sizes memory.old }
 {
     memory.declare(n);
     match value {
@@ -480,7 +480,7 @@ fn assign(
 ) -> Result<Option<Datum>, Fault>
     requires size { length frame.old < 2 ^ 32 }
     ensures value { does result (full memory.new frame.new) ≡ meaning.assignment unit.now n op (meaning_below unit.now n target) (meaning_below unit.now n value) (full memory.old frame.old) }
-    ensures room { room memory.new ≡ room memory.old }
+    ensures sizes { sizes memory.new ≡ sizes memory.old }
 {
     memory.tick();
     let to = part(memory, frame, unit, n, target)?;
@@ -513,7 +513,7 @@ fn branch(
 ) -> Result<Option<Datum>, Fault>
     requires size { length frame.old < 2 ^ 32 }
     ensures value { does result (full memory.new frame.new) ≡ meaning.branched (meaning_below unit.now n) condition one other (full memory.old frame.old) }
-    ensures room { room memory.new ≡ room memory.old }
+    ensures sizes { sizes memory.new ≡ sizes memory.old }
 {
     memory.tick();
     let holds = is_true(part_value(memory, frame, unit, n, condition)?);
@@ -538,7 +538,7 @@ fn run_all(
 ) -> Result<Option<Datum>, Fault>
     requires size { length frame.old < 2 ^ 32 }
     ensures value { does result (full memory.new frame.new) ≡ meaning.run_all (meaning_below unit.now n) list.now (full memory.old frame.old) }
-    ensures room { room memory.new ≡ room memory.old }
+    ensures sizes { sizes memory.new ≡ sizes memory.old }
 {
     for &p in list {
         if let Some(datum) = part_does(memory, frame, unit, n, p)? {
@@ -563,7 +563,7 @@ fn turns(
 ) -> Result<Option<Datum>, Fault>
     requires size { length frame.old < 2 ^ 32 }
     ensures value { does result (full memory.new frame.new) ≡ meaning.turns unit.now 4096 n (meaning_below unit.now n body) first bound step (full memory.old frame.old) }
-    ensures room { room memory.new ≡ room memory.old }
+    ensures sizes { sizes memory.new ≡ sizes memory.old }
 {
     let mut counter = first;
     for _turn in 0..4096u32 {
@@ -590,7 +590,7 @@ fn turn(
 ) -> Result<Option<Datum>, Fault>
     requires size { length frame.old < 2 ^ 32 }
     ensures value { does result (full memory.new frame.new) ≡ meaning.turn unit.now n (meaning_below unit.now n body) counter (full memory.old frame.old) }
-    ensures room { room memory.new ≡ room memory.old }
+    ensures sizes { sizes memory.new ≡ sizes memory.old }
 {
     memory.tick(); // a turn is a step
     let variable = declared(memory, unit, n, place_at(unit, n));
@@ -607,7 +607,7 @@ fn stepped(
     to: Datum,
 ) -> Result<(), Fault>
     ensures value { goes result (full memory.new frame.new) ≡ meaning.stepped op at to (full memory.old frame.old) }
-    ensures room { room memory.new ≡ room memory.old }
+    ensures sizes { sizes memory.new ≡ sizes memory.old }
 {
     let datum = binary(op, at, read(memory, frame, to)?, ONE)?;
     write(memory, frame, to, datum)

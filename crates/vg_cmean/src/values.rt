@@ -2,9 +2,9 @@
 ghost use Rattle.std.specs.Prelude.{◌≡◌, ◌<◌, ◌≤◌};
 ghost use Rattle.vg_cmean.specs.Outcomes.{gives, goes, full};
 ghost use Rattle.vg_cmean.specs.Values as values;
-ghost use Rattle.vg_cmemory.specs.State.{State, room};
+ghost use Rattle.vg_cmemory.specs.State.{State, sizes};
 
-use crate::datum::{Datum, Place};
+use crate::datum::{Datum, Lvalue};
 use crate::fault::{Fault, or_wrong};
 use vg_cint::{INT, Value, converted, truth, width};
 use vg_cmemory::{FrameMemory, Object, Pointer};
@@ -27,7 +27,7 @@ pub fn pointer_of(datum: Datum) -> Pointer
     match datum {
         Datum::Address(pointer) => pointer,
         _ => Pointer {
-            object: Object::Chunk { made: 0 },
+            object: Object::Chunk { number: 0 },
             offset: 0,
         },
     }
@@ -103,7 +103,7 @@ fn read_integer(
     memory: &FrameMemory,
     frame: &[u8],
     of: Integer,
-    place: Place,
+    place: Lvalue,
 ) -> Result<Datum, Fault>
     ensures { gives result (full memory.now frame.now) ≡ values.read_integer of place (full memory.now frame.now) }
 {
@@ -113,8 +113,8 @@ fn read_integer(
     Ok(Datum::Word(Value { of, word }))
 }
 
-fn read_place(memory: &FrameMemory, frame: &[u8], place: Place) -> Result<Datum, Fault>
-    ensures { gives result (full memory.now frame.now) ≡ values.read_place place.of place (full memory.now frame.now) }
+fn read_lvalue(memory: &FrameMemory, frame: &[u8], place: Lvalue) -> Result<Datum, Fault>
+    ensures { gives result (full memory.now frame.now) ≡ values.read_lvalue place.of place (full memory.now frame.now) }
 {
     match place.of {
         CType::Int { bits, signed } => read_integer(memory, frame, Integer { bits, signed }, place),
@@ -142,8 +142,8 @@ pub fn read(memory: &FrameMemory, frame: &[u8], datum: Datum) -> Result<Datum, F
     ensures { gives result (full memory.now frame.now) ≡ values.read datum (full memory.now frame.now) }
 {
     match datum {
-        Datum::Object(place) => read_place(memory, frame, place),
-        Datum::Holder { node, at } => read_pointer(memory.held(node), at),
+        Datum::Lvalue(place) => read_lvalue(memory, frame, place),
+        Datum::PointerVariable { node, at } => read_pointer(memory.held(node), at),
         _ => Ok(datum),
     }
 }
@@ -152,11 +152,11 @@ fn write_integer(
     memory: &mut FrameMemory,
     frame: &mut [u8],
     of: Integer,
-    place: Place,
+    place: Lvalue,
     value: Value,
 ) -> Result<(), Fault>
     ensures value { goes result (full memory.new frame.new) ≡ values.write_integer of place value (full memory.old frame.old) }
-    ensures room { room memory.new ≡ room memory.old }
+    ensures sizes { sizes memory.new ≡ sizes memory.old }
 {
     let size = size_of(of);
     let align = align_of(place.loose, of);
@@ -175,13 +175,13 @@ pub fn write(
     datum: Datum,
 ) -> Result<(), Fault>
     ensures value { goes result (full memory.new frame.new) ≡ values.write to datum (full memory.old frame.old) }
-    ensures room { room memory.new ≡ room memory.old }
+    ensures sizes { sizes memory.new ≡ sizes memory.old }
 {
     match to {
-        Datum::Object(place) => {
+        Datum::Lvalue(place) => {
             write_integer(memory, frame, integer_of(place.of), place, word_of(datum))
         }
-        Datum::Holder { node, .. } => {
+        Datum::PointerVariable { node, .. } => {
             memory.hold(node, pointer_of(datum));
             Ok(())
         }

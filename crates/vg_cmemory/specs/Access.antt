@@ -15,27 +15,27 @@ use Rattle.vg_cmemory.specs.State.{Own, State}
 -- ---- where the bytes of an object stand; nowhere where its life has ended
 
 abbrev pub room_made : Option ℕ → ℕ → Room → Option Room
-room_made None made room = None
-room_made (Some m) made room = if nat_eq m made then Some room else None
+room_made None number room = None
+room_made (Some m) number room = if nat_eq m number then Some room else None
 
 abbrev pub room_of_variable : Option Variable → ℕ → Option Room
-room_of_variable None made = None
-room_of_variable (Some v) made = room_made v.made made (record { region = regions.Variables; from = v.from; size = v.size })
+room_of_variable None number = None
+room_of_variable (Some v) number = room_made v.number number (record { region = regions.Variables; from = v.from; size = v.size })
 
 abbrev pub room_if_made : Chunk → ℕ → Option Room
-room_if_made chunk made = if nat_eq chunk.made made then Some (record { region = regions.Frame; from = chunk.from; size = chunk.size }) else None
+room_if_made chunk number = if nat_eq chunk.number number then Some (record { region = regions.Frame; from = chunk.from; size = chunk.size }) else None
 
 abbrev pub or_else : Option Room → Option Room → Option Room
 or_else None other = other
 or_else (Some room) other = Some room
 
 abbrev pub room_of_chunk : List Chunk → ℕ → Option Room
-room_of_chunk [] made = None
-room_of_chunk (chunk ∷ chunks) made = or_else (room_if_made chunk made) (room_of_chunk chunks made)
+room_of_chunk [] number = None
+room_of_chunk (chunk ∷ chunks) number = or_else (room_if_made chunk number) (room_of_chunk chunks number)
 
 abbrev pub room_of : Own → Object → Option Room
-room_of own (objects.Declared node made) = room_of_variable (slice_get own.variables node) made
-room_of own (objects.Chunk made) = room_of_chunk own.chunks made
+room_of own (objects.Declared node number) = room_of_variable (slice_get own.variables node) number
+room_of own (objects.Chunk number) = room_of_chunk own.chunks number
 
 -- ---- whether an access is right: `Dead`, `OutOfObject` and `Misaligned`, the first in this order. A pointer before its object has an offset of
 -- nearly 2 ^ 64, which is outside
@@ -109,6 +109,6 @@ abbrev pub store : State → Pointer → (size align word : ℕ) → Result Stat
 store s p size align word = stored_in s (access s.own p size align) word
 
 -- what a call left, where it answered that it did it
-abbrev pub left : {A : Type 0} → {S : Type 0} → Result A Reason → S → Result S Reason
-left (Ok done) s = Ok s
-left (Err reason) s = Err reason
+abbrev pub leaves : {A : Type 0} → {S : Type 0} → Result A Reason → S → Result S Reason
+leaves (Ok done) s = Ok s
+leaves (Err reason) s = Err reason

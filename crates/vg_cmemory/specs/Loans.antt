@@ -6,27 +6,27 @@ use Rattle.vg_cmemory.specs.declared.object.Object.{Object}
 use Rattle.vg_cmemory.specs.declared.object.Object.TheVariants as objects
 use Rattle.vg_cmemory.specs.declared.object.Pointer.{Pointer}
 use Rattle.vg_cmemory.specs.declared.object.Chunk.{Chunk}
-use Rattle.vg_cmemory.specs.State.{Own}
+use Rattle.vg_cmemory.specs.State.{Own, next_number}
 
 -- at least one byte, no more than are left of the frame, and fewer than 16 chunks lent
 abbrev pub can_borrow : Own → (frame_length count : ℕ) → Bool
-can_borrow own frame_length count = nat_lt 0 count && (nat_le (own.place + count) frame_length && nat_lt (length own.chunks) 16)
+can_borrow own frame_length count = nat_lt 0 count && (nat_le (own.lent + count) frame_length && nat_lt (length own.chunks) 16)
 
 -- the chunk of the next bytes of the frame
 abbrev pub next_chunk : Own → ℕ → Chunk
-next_chunk own count = record { made = own.steps; from = own.place; size = count }
+next_chunk own count = record { number = own.born; from = own.lent; size = count }
 
 abbrev pub with_loan : Own → ℕ → Own
-with_loan own count = record own { chunks = own.chunks ++ next_chunk own count ∷ []; place = own.place + count }
+with_loan own count = record own { chunks = own.chunks ++ next_chunk own count ∷ []; lent = own.lent + count; born = next_number own.born }
 
 abbrev pub is_chunk : Object → ℕ → Bool
-is_chunk (objects.Declared node made) m = false
-is_chunk (objects.Chunk made) m = nat_eq made m
+is_chunk (objects.Declared node number) m = false
+is_chunk (objects.Chunk number) m = nat_eq number m
 
 -- whether a pointer is the start of a chunk
 abbrev pub is_start : Pointer → Option Chunk → Bool
 is_start p None = false
-is_start p (Some chunk) = is_chunk p.object chunk.made && nat_eq p.offset 0
+is_start p (Some chunk) = is_chunk p.object chunk.number && nat_eq p.offset 0
 
 abbrev pub last_chunk : Own → Option Chunk
 last_chunk own = slice_get own.chunks (length own.chunks - 1)
@@ -37,14 +37,14 @@ start_of_chunk (Some chunk) = chunk.from
 
 -- the frame is lent up to the start of the chunk that was lent last, which isn't lent any more
 abbrev pub without_loan : Own → Own
-without_loan own = record own { chunks = take (length own.chunks - 1) own.chunks; place = start_of_chunk (last_chunk own) }
+without_loan own = record own { chunks = take (length own.chunks - 1) own.chunks; lent = start_of_chunk (last_chunk own) }
 
 -- `packet_borrow`
 abbrev pub borrow : Own → (frame_length count : ℕ) → Result Own Reason
 borrow own frame_length count = if can_borrow own frame_length count then Ok (with_loan own count) else Err (reasons.Before 2)
 
 abbrev pub start_of_loan : Own → Pointer
-start_of_loan own = record { object = objects.Chunk own.steps; offset = 0 }
+start_of_loan own = record { object = objects.Chunk own.born; offset = 0 }
 
 -- `packet_return`
 abbrev pub give_back : Own → Pointer → Result Own Reason

@@ -1,19 +1,19 @@
 //! Reads and writes of objects.
 ghost use Rattle.std.specs.Prelude.{◌≡◌, ◌≤◌, ◌<◌, ◌+◌, ◌-◌, ◌*◌, ◌^◌, OnErr, IfOk, IfSome, Some};
 ghost use Rattle.vg_cmemory.specs.Access as accesses;
-ghost use Rattle.vg_cmemory.specs.State.{room};
-ghost use Rattle.vg_cmemory.specs.Access.{room_of, access, byte_at, word_at, load, store, left};
+ghost use Rattle.vg_cmemory.specs.State.{sizes};
+ghost use Rattle.vg_cmemory.specs.Access.{room_of, access, byte_at, word_at, load, store, leaves};
 
 use crate::bytes::{set_bytes, write_bytes};
 use crate::memory::FrameMemory;
 use crate::object::{Chunk, Object, Pointer, Region, Room, Variable};
 use vg_core::Reason;
 
-fn room_of_variable(variable: Variable, made: u32) -> Option<Room>
-    ensures value { result ≡ accesses.room_of_variable (Some variable) made }
+fn room_of_variable(variable: Variable, number: u64) -> Option<Room>
+    ensures value { result ≡ accesses.room_of_variable (Some variable) number }
     ensures from { IfSome result (λ room. room.from < 2 ^ 32) }
 {
-    if variable.made? == made {
+    if variable.number? == number {
         return Some(Room {
             region: Region::Variables,
             from: u64::from(variable.from),
@@ -23,23 +23,23 @@ fn room_of_variable(variable: Variable, made: u32) -> Option<Room>
     None
 }
 
-fn room_of_chunk(chunks: &[Chunk], made: u32) -> Option<Room>
-    ensures value { result ≡ accesses.room_of_chunk chunks.now made }
+fn room_of_chunk(chunks: &[Chunk], number: u64) -> Option<Room>
+    ensures value { result ≡ accesses.room_of_chunk chunks.now number }
     ensures from { IfSome result (λ room. room.from < 2 ^ 32) }
 {
     for chunk in chunks {
-        if let Some(room) = room_if_made(chunk, made) {
+        if let Some(room) = room_if_made(chunk, number) {
             return Some(room);
         }
     }
     None
 }
 
-fn room_if_made(chunk: &Chunk, made: u32) -> Option<Room>
-    ensures value { result ≡ accesses.room_if_made chunk.now made }
+fn room_if_made(chunk: &Chunk, number: u64) -> Option<Room>
+    ensures value { result ≡ accesses.room_if_made chunk.now number }
     ensures from { IfSome result (λ room. room.from < 2 ^ 32) }
 {
-    if chunk.made != made {
+    if chunk.number != number {
         return None;
     }
     Some(Room {
@@ -87,11 +87,11 @@ impl FrameMemory {
         ensures from { IfSome result (λ room. room.from < 2 ^ 32) }
     {
         match object {
-            Object::Declared { node, made } => {
+            Object::Declared { node, number } => {
                 let variable = self.variable_list.get(node as usize).copied()?;
-                room_of_variable(variable, made)
+                room_of_variable(variable, number)
             }
-            Object::Chunk { made } => room_of_chunk(self.chunk_list.as_slice(), made),
+            Object::Chunk { number } => room_of_chunk(self.chunk_list.as_slice(), number),
         }
     }
 
@@ -152,7 +152,7 @@ impl FrameMemory {
     ///
     /// The first that holds, and then nothing is written: `Dead`: the object lives no longer. `OutOfObject`: not all of the bytes are in it.
     /// `Misaligned`: the offset isn't a multiple of `align`.
-    #[tactic(auto, unfolding(crate::specs::State::room))]
+    #[tactic(auto, unfolding(crate::specs::State::sizes))]
     pub fn store(
         &mut self,
         frame: &mut [u8],
@@ -163,10 +163,10 @@ impl FrameMemory {
     ) -> Result<(), Reason>
         requires at_most_a_word { size ≤ 8 }
         requires aligned { 0 < align }
-        ensures value { left result (record { own = self.new; frame = frame.new }) ≡ store (record { own = self.old; frame = frame.old }) pointer size align word }
+        ensures value { leaves result (record { own = self.new; frame = frame.new }) ≡ store (record { own = self.old; frame = frame.old }) pointer size align word }
         ensures kept { OnErr result (self.new ≡ self.old) }
         ensures frame_kept { OnErr result (frame.new ≡ frame.old) }
-        ensures room { room self.new ≡ room self.old }
+        ensures sizes { sizes self.new ≡ sizes self.old }
     {
         let room = self.access(pointer, size, align)?;
         match room.region {

@@ -1,7 +1,7 @@
 //! Chunks of the frame, borrowed and given back.
 ghost use Rattle.std.specs.Prelude.{◌≡◌, length, OnErr, IfOk, Ok, slice_get};
-ghost use Rattle.vg_cmemory.specs.Access.{left};
-ghost use Rattle.vg_cmemory.specs.State.{room};
+ghost use Rattle.vg_cmemory.specs.Access.{leaves};
+ghost use Rattle.vg_cmemory.specs.State.{sizes};
 ghost use Rattle.vg_cmemory.specs.Loans as loans;
 ghost use Rattle.vg_cmemory.specs.Loans.{can_borrow, start_of_loan, is_start, last_chunk};
 
@@ -14,7 +14,7 @@ fn is_start(pointer: Pointer, chunk: Option<Chunk>) -> bool
     ensures { result ≡ is_start pointer chunk }
 {
     match (pointer.object, chunk) {
-        (Object::Chunk { made }, Some(chunk)) => made == chunk.made && pointer.offset == 0,
+        (Object::Chunk { number }, Some(chunk)) => number == chunk.number && pointer.offset == 0,
         _ => false,
     }
 }
@@ -42,23 +42,24 @@ impl FrameMemory {
     /// Lends the next bytes of a frame of `frame_length` bytes, and answers a pointer to the first.
     ///
     /// `Before(2)`: no byte is asked for, or more than are left, or 16 chunks are lent. Then nothing changes.
-    #[tactic(auto, unfolding(crate::specs::State::room))]
+    #[tactic(auto, unfolding(crate::specs::State::sizes))]
     pub fn borrow(&mut self, frame_length: u32, count: u64) -> Result<Pointer, Reason>
-        ensures value { left result self.new ≡ loans.borrow self.old frame_length count }
+        ensures value { leaves result self.new ≡ loans.borrow self.old frame_length count }
         ensures start { IfOk result (λ p. p ≡ start_of_loan self.old) }
         ensures kept { OnErr result (self.new ≡ self.old) }
-        ensures room { room self.new ≡ room self.old }
+        ensures sizes { sizes self.new ≡ sizes self.old }
     {
         if !self.can_borrow(frame_length, count) {
             return Err(Reason::Before(2));
         }
-        let made = self.taken;
+        let number = self.next_object;
         let from = self.next;
         let size = count as u32;
-        self.chunk_list.push(Chunk { made, from, size });
+        self.chunk_list.push(Chunk { number, from, size });
         self.next = from + size;
+        self.next_object = number.wrapping_add(1);
         Ok(Pointer {
-            object: Object::Chunk { made },
+            object: Object::Chunk { number },
             offset: 0,
         })
     }
@@ -66,11 +67,11 @@ impl FrameMemory {
     /// Takes back the chunk that was lent last.
     ///
     /// `Before(3)`: the pointer isn't its start, or no chunk is lent. Then nothing changes.
-    #[tactic(auto, unfolding(crate::specs::State::room))]
+    #[tactic(auto, unfolding(crate::specs::State::sizes))]
     pub fn give_back(&mut self, pointer: Pointer) -> Result<(), Reason>
-        ensures value { left result self.new ≡ loans.give_back self.old pointer }
+        ensures value { leaves result self.new ≡ loans.give_back self.old pointer }
         ensures kept { OnErr result (self.new ≡ self.old) }
-        ensures room { room self.new ≡ room self.old }
+        ensures sizes { sizes self.new ≡ sizes self.old }
     {
         let last = self.last_chunk();
         if !is_start(pointer, last) {

@@ -1,6 +1,6 @@
 //! What a run has beside the frame.
 ghost use Rattle.std.specs.Prelude.{◌≡◌, [], length};
-ghost use Rattle.vg_cmemory.specs.State.{room, tick, declare, end_life, hold, start_of, variable, with_variable, made_or_never};
+ghost use Rattle.vg_cmemory.specs.State.{sizes, tick, declare, end_life, hold, start_of, variable, with_variable, number_or_none};
 
 use crate::bytes::unset;
 use crate::object::{Chunk, Object, Pointer, Variable};
@@ -15,6 +15,7 @@ pub struct FrameMemory {
     pub(crate) chunk_list: ArrayVec<Chunk, 16>,
     pub(crate) next: u32,
     pub(crate) taken: u32,
+    pub(crate) next_object: u64,
 }
 
 impl Model for FrameMemory {
@@ -22,31 +23,31 @@ impl Model for FrameMemory {
 
     ghost Value = { Own };
 
-    ghost view = { λ m. record { variables = m.variable_list.items; bytes = m.byte_list.items; chunks = m.chunk_list.items; place = m.next; steps = m.taken } };
+    ghost view = { λ m. record { variables = m.variable_list.items; bytes = m.byte_list.items; chunks = m.chunk_list.items; lent = m.next; steps = m.taken; born = m.next_object } };
 }
 
 const NO_VARIABLE: Variable = Variable {
     from: 0,
     size: 0,
-    made: None,
+    number: None,
     points: None,
 };
 
-fn made_or_never(made: Option<u32>) -> u32
-    ensures { result ≡ made_or_never made }
+fn number_or_none(number: Option<u64>) -> u64
+    ensures { result ≡ number_or_none number }
 {
-    match made {
-        Some(made) => made,
-        None => u32::MAX,
+    match number {
+        Some(number) => number,
+        None => 0,
     }
 }
 
 impl FrameMemory {
     /// The memory that a run begins with, by what its declarations make and by their bytes: nothing lives, is set or is lent.
-    #[tactic(auto, unfolding(crate::specs::State::room))]
+    #[tactic(auto, unfolding(crate::specs::State::sizes))]
     pub fn new(variables: Vec<Variable>, bytes: Vec<Option<u8>>) -> FrameMemory
-        ensures value { result ≡ record { variables = variables.items; bytes = bytes.items; chunks = []; place = 0; steps = 0 } }
-        ensures room { room result ≡ (length variables.items, length bytes.items) }
+        ensures value { result ≡ record { variables = variables.items; bytes = bytes.items; chunks = []; lent = 0; steps = 0; born = 1 } }
+        ensures sizes { sizes result ≡ (length variables.items, length bytes.items) }
     {
         FrameMemory {
             variable_list: variables,
@@ -54,37 +55,39 @@ impl FrameMemory {
             chunk_list: ArrayVec::new(),
             next: 0,
             taken: 0,
+            next_object: 1,
         }
     }
 
     /// Begins a run anew, with these variables and bytes: nothing is lent, and no step is taken.
-    #[tactic(auto, unfolding(crate::specs::State::room))]
+    #[tactic(auto, unfolding(crate::specs::State::sizes))]
     pub fn restart(&mut self, variables: &[Variable], bytes: &[Option<u8>])
-        requires fits { room self.old ≡ (length variables.now, length bytes.now) }
-        ensures value { self.new ≡ record { variables = variables.now; bytes = bytes.now; chunks = []; place = 0; steps = 0 } }
-        ensures room { room self.new ≡ room self.old }
+        requires fits { sizes self.old ≡ (length variables.now, length bytes.now) }
+        ensures value { self.new ≡ record { variables = variables.now; bytes = bytes.now; chunks = []; lent = 0; steps = 0; born = 1 } }
+        ensures sizes { sizes self.new ≡ sizes self.old }
     {
         self.variable_list.copy_from_slice(variables);
         self.byte_list.copy_from_slice(bytes);
         self.chunk_list.clear();
         self.next = 0;
         self.taken = 0;
+        self.next_object = 1;
     }
 
     /// Takes back all chunks that are lent.
-    #[tactic(auto, unfolding(crate::specs::State::room))]
+    #[tactic(auto, unfolding(crate::specs::State::sizes))]
     pub fn take_back_all(&mut self)
         ensures value { self.new ≡ record self.old { chunks = [] } }
-        ensures room { room self.new ≡ room self.old }
+        ensures sizes { sizes self.new ≡ sizes self.old }
     {
         self.chunk_list.clear();
     }
 
     /// Counts a step.
-    #[tactic(auto, unfolding(crate::specs::State::room))]
+    #[tactic(auto, unfolding(crate::specs::State::sizes))]
     pub fn tick(&mut self)
         ensures value { self.new ≡ tick self.old }
-        ensures room { room self.new ≡ room self.old }
+        ensures sizes { sizes self.new ≡ sizes self.old }
     {
         self.taken = self.taken.wrapping_add(1);
     }
@@ -113,10 +116,10 @@ impl FrameMemory {
             .unwrap_or(NO_VARIABLE)
     }
 
-    #[tactic(auto, unfolding(crate::specs::State::room))]
+    #[tactic(auto, unfolding(crate::specs::State::sizes))]
     fn set_variable(&mut self, node: u32, to: Variable)
         ensures value { self.new ≡ with_variable self.old node to }
-        ensures room { room self.new ≡ room self.old }
+        ensures sizes { sizes self.new ≡ sizes self.old }
     {
         if (node as usize) < self.variable_list.len() {
             self.variable_list[node as usize] = to;
@@ -124,17 +127,18 @@ impl FrameMemory {
     }
 
     /// A new object of the declaration with this node, of which nothing is set (C11 6.2.4, 6.7.9).
-    #[tactic(auto, unfolding(crate::specs::State::room))]
+    #[tactic(auto, unfolding(crate::specs::State::sizes))]
     pub fn declare(&mut self, node: u32)
         ensures value { self.new ≡ declare node self.old }
-        ensures room { room self.new ≡ room self.old }
+        ensures sizes { sizes self.new ≡ sizes self.old }
     {
         let variable = self.variable(node);
-        let made = Some(self.taken);
+        let number = Some(self.next_object);
+        self.next_object = self.next_object.wrapping_add(1);
         self.set_variable(
             node,
             Variable {
-                made,
+                number,
                 points: None,
                 ..variable
             },
@@ -143,16 +147,16 @@ impl FrameMemory {
     }
 
     /// The object of the declaration with this node lives no longer.
-    #[tactic(auto, unfolding(crate::specs::State::room))]
+    #[tactic(auto, unfolding(crate::specs::State::sizes))]
     pub fn end_life(&mut self, node: u32)
         ensures value { self.new ≡ end_life node self.old }
-        ensures room { room self.new ≡ room self.old }
+        ensures sizes { sizes self.new ≡ sizes self.old }
     {
         let variable = self.variable(node);
         self.set_variable(
             node,
             Variable {
-                made: None,
+                number: None,
                 points: None,
                 ..variable
             },
@@ -160,10 +164,10 @@ impl FrameMemory {
     }
 
     /// Sets the pointer variable that a node declares.
-    #[tactic(auto, unfolding(crate::specs::State::room))]
+    #[tactic(auto, unfolding(crate::specs::State::sizes))]
     pub fn hold(&mut self, node: u32, pointer: Pointer)
         ensures value { self.new ≡ hold node pointer self.old }
-        ensures room { room self.new ≡ room self.old }
+        ensures sizes { sizes self.new ≡ sizes self.old }
     {
         let variable = self.variable(node);
         let points = Some(pointer);
@@ -181,9 +185,9 @@ impl FrameMemory {
     pub fn start_of(&self, node: u32) -> Pointer
         ensures { result ≡ start_of self.now node }
     {
-        let made = made_or_never(self.variable(node).made);
+        let number = number_or_none(self.variable(node).number);
         Pointer {
-            object: Object::Declared { node, made },
+            object: Object::Declared { node, number },
             offset: 0,
         }
     }

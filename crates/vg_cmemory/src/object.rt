@@ -1,13 +1,12 @@
 //! Objects, and pointers into them.
 
-/// An object (C11 6.2.4), told by the number of steps that the run had taken when it was made. Each turn of a loop and each call takes a step, so no
-/// two objects of a run are told alike.
+/// An object (C11 6.2.4). The objects of a run are numbered from 1, as they are made, so that a new one is never taken for one that lives no longer.
 #[derive(Clone, Copy, Debug, PartialEq, Eq)]
 pub enum Object {
     /// A variable, parameter or counter, with the number of the node that declares it.
-    Declared { node: u32, made: u32 },
+    Declared { node: u32, number: u64 },
     /// A chunk of the frame that was borrowed.
-    Chunk { made: u32 },
+    Chunk { number: u64 },
 }
 
 /// A pointer that is set: so many bytes behind the start of an object. The offset is a word of 64 bits in two's complement, since a pointer may stand
@@ -25,8 +24,8 @@ pub struct Variable {
     pub from: u32,
     /// How many bytes it has. A pointer variable has none: its pointer stands in `points`.
     pub size: u32,
-    /// The steps taken when the object was made that lives.
-    pub made: Option<u32>,
+    /// The number of the object that lives.
+    pub number: Option<u64>,
     /// What a pointer variable was set to.
     pub points: Option<Pointer>,
 }
@@ -34,8 +33,8 @@ pub struct Variable {
 /// A chunk of the frame that is lent.
 #[derive(Clone, Copy, Debug, Default, PartialEq, Eq)]
 pub struct Chunk {
-    /// The steps taken when it was lent.
-    pub made: u32,
+    /// Its number as an object.
+    pub number: u64,
     /// Where it begins in the frame.
     pub from: u32,
     /// How many bytes it has.

@@ -8,7 +8,7 @@ fn memory(alloc: Global) -> Result<FrameMemory, Fail> {
     let number = Variable {
         from: 0,
         size: 4,
-        made: None,
+        number: None,
         points: None,
     };
     let pointer = Variable {

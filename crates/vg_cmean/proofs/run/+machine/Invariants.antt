@@ -1,6 +1,6 @@
 use Rattle.std.proofs.Common.{◌≡◌, ◌+◌, ◌-◌, ◌*◌, ◌^◌, length, drop}
 use Rattle.vg_cmean.specs.Outcomes.{full}
-use Rattle.vg_cmemory.specs.State.{room}
+use Rattle.vg_cmemory.specs.State.{sizes}
 use Rattle.vg_cmean.specs.Meaning as meaning
 use Rattle.vg_cmean.specs.Meaning.{meaning_below}
 use Rattle.vg_cmean.proofs.run.+machine.Given as goal
@@ -64,9 +64,9 @@ decreases-part_value l = 2 ^ 33 * (3 * l.n) + 1
 
 abbrev pub invariant-run_all-loop-p : goal.invariant-run_all-loop-p
 invariant-run_all-loop-p l =
-    (room l.memory ≡ room l.initial.memory) × (meaning.run_all (meaning_below l.unit l.n) (drop l.p-index l.list) (full l.memory l.frame) ≡ meaning.run_all (meaning_below l.unit l.n) l.list (full l.initial.memory l.initial.frame))
+    (sizes l.memory ≡ sizes l.initial.memory) × (meaning.run_all (meaning_below l.unit l.n) (drop l.p-index l.list) (full l.memory l.frame) ≡ meaning.run_all (meaning_below l.unit l.n) l.list (full l.initial.memory l.initial.frame))
 
 abbrev pub invariant-turns-loop-turn : goal.invariant-turns-loop-turn
 invariant-turns-loop-turn l =
-    (room l.memory ≡ room l.initial.memory) × (meaning.turns l.unit (4096 - l._turn) l.n (meaning_below l.unit l.n l.body) l.counter l.bound l.step (full l.memory l.frame)
+    (sizes l.memory ≡ sizes l.initial.memory) × (meaning.turns l.unit (4096 - l._turn) l.n (meaning_below l.unit l.n l.body) l.counter l.bound l.step (full l.memory l.frame)
     ≡ meaning.turns l.unit 4096 l.n (meaning_below l.unit l.n l.body) l.fn.first l.bound l.step (full l.initial.memory l.initial.frame))
