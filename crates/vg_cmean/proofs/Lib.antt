@@ -4,3 +4,4 @@ mod Turns
 mod Lists
 mod Strict
 mod Declarations
+mod Behind

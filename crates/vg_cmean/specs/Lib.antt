@@ -4,3 +4,4 @@ pub mod Values
 pub mod Places
 pub mod Meaning
 pub mod Runs
+pub mod Apart

@@ -4,6 +4,7 @@
 mod calls;
 mod datum;
 mod fault;
+mod laws;
 mod machine;
 mod operators;
 mod places;
@@ -11,4 +12,5 @@ mod run;
 mod typings;
 mod values;
 
+pub use laws::variables_apart;
 pub use machine::{Done, Machine, has_externs};

@@ -22,7 +22,7 @@ pub written_none : {A : Type 0} (mark : ℕ → A) (from word : ℕ) (bytes : Li
 unfolding written
 written_none mark from word bytes = refl
 
-written_suc : {A : Type 0} (mark : ℕ → A) (from size word : ℕ) (bytes : List A) →
+pub written_suc : {A : Type 0} (mark : ℕ → A) (from size word : ℕ) (bytes : List A) →
     written mark from (suc size) word bytes ≡ written mark (from + 1) size (word / 256) (slice_set bytes from (mark (word % 256)))
 unfolding written
 written_suc mark from size word bytes = refl

@@ -1,3 +1,4 @@
 pub mod State
 pub mod Access
 pub mod Loans
+pub mod Apart

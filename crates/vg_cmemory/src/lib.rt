@@ -4,10 +4,12 @@
 
 mod access;
 mod bytes;
+mod laws;
 mod loans;
 mod memory;
 mod object;
 
+pub use laws::{declarations_stay_inside, writes_stay_inside};
 pub use memory::FrameMemory;
 pub use object::{Chunk, Object, Pointer, Region, Room, Variable};
 
