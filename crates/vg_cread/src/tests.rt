@@ -199,6 +199,9 @@ fn statements_and_declarations(rt: HostRuntime) -> Result<(), Fail> {
 // Where the blocks of a text begin and end, the inner before the outer.
 fn ends_of_blocks(alloc: Global, text: &[u8]) -> Result<Vec<(u32, u32)>, Fail> {
     let mut ends = Vec::new(alloc);
+    if text.len() >= 65536 {
+        return Ok(ends);
+    }
     let Ok(toks) = tokens(alloc, text) else {
         return Ok(ends);
     };
