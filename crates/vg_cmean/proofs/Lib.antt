@@ -5,3 +5,4 @@ mod Lists
 mod Strict
 mod Declarations
 mod Behind
+mod Heights

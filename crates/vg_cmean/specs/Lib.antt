@@ -5,3 +5,4 @@ pub mod Places
 pub mod Meaning
 pub mod Runs
 pub mod Apart
+pub mod Nesting

@@ -6,6 +6,7 @@ mod datum;
 mod fault;
 mod laws;
 mod machine;
+mod nesting;
 mod operators;
 mod places;
 mod run;

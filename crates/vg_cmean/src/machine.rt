@@ -1,14 +1,16 @@
 //! Runs of `nf_process` on frames.
-ghost use Rattle.std.specs.Prelude.{◌≡◌, ◌≤◌, ◌<◌, ◌^◌, [], false, List, ℕ, IfOk, None, length, replicate};
+ghost use Rattle.std.specs.Prelude.{◌≡◌, ◌≤◌, ◌<◌, ◌^◌, [], false, List, ℕ, IfOk, OnOk, None, length, replicate};
 ghost use Rattle.vg_cmean.specs.Outcomes.{gives, goes, full};
 ghost use Rattle.vg_cmean.specs.Runs as runs;
 ghost use Rattle.vg_cmean.specs.Runs.{has_extern, IsMadeFor, run, run_at, done_of, frame_of, variables_below, bytes_below};
+ghost use Rattle.vg_cmean.specs.Nesting.{nesting};
 ghost use Rattle.vg_cmean.specs.Typings as typings;
 ghost use Rattle.vg_cmemory.specs.State.{sizes};
 
 use crate::calls::{answer_as, end_all, end_of, parameter};
 use crate::datum::Datum;
 use crate::fault::Fault;
+use crate::nesting::{MOST_NESTED, height, heights};
 use crate::run::statement;
 use crate::typings::{kind_at, type_at};
 use crate::values::word_of;
@@ -77,11 +79,16 @@ fn is_extern(node: &Node) -> bool
 impl Machine {
     /// A machine for a typed text.
     ///
-    /// `Memory`: memory ran out, or the variables of the text have more bytes than numbers of 32 bits count.
+    /// `Memory`: memory ran out, or the variables of the text have more bytes than numbers of 32 bits count, or a run of it nests more than 1,000 nodes
+    /// and calls in one another.
     #[tactic(auto, using(crate::proofs::Declarations::variables_next, crate::proofs::Declarations::bytes_next, crate::proofs::Declarations::variables_none, crate::proofs::Declarations::bytes_none))]
     pub fn new(alloc: Global, unit: &Unit) -> Result<Machine, Memory>
-        ensures { IfOk result (λ m. IsMadeFor m unit.now) }
+        ensures made { IfOk result (λ m. IsMadeFor m unit.now) }
+        ensures shallow { OnOk result (nesting unit.now ≤ 1000) }
     {
+        if nesting_of(alloc, unit)? > MOST_NESTED {
+            return Err(Memory);
+        }
         let mut variables = Vec::new(alloc);
         let mut others = Vec::new(alloc);
         let mut total = 0;
@@ -122,6 +129,17 @@ impl Machine {
         let done = told(&self.memory, answer);
         self.memory.take_back_all();
         done
+    }
+}
+
+// How deep a run of a text nests.
+fn nesting_of(alloc: Global, unit: &Unit) -> Result<u32, Memory>
+    ensures { IfOk result (λ n. n ≡ nesting unit.now) }
+{
+    let heights = heights(alloc, unit)?;
+    match process_of(unit) {
+        Some(function) => Ok(height(&heights, function)),
+        None => Ok(0),
     }
 }
 
