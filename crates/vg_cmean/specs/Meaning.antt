@@ -89,7 +89,7 @@ index_of u part n array index s =
 abbrev pub parameter : Typed → ℕ → Datum → State → Outcome
 parameter u p d s = write (declared u p (place_at u p) (declare p s.own)) d (on_own (declare p) s)
 
--- the call itself is a step
+-- all arguments, the first one first; then the call itself, which is a step; then the parameters, whose order nothing can tell
 abbrev pub given : Typed → Parts_mean → (arguments parameters : List ℕ) → State → Outcome
 given u part [] ps s = Next (tick s)
 given u part (argument ∷ arguments) [] s = Next (tick s)
@@ -231,6 +231,7 @@ counted u n counter s = write (declared u n (place_at u n) s.own) (data_of.Word 
 abbrev pub turn : Typed → ℕ → Meaning → Value → State → Outcome
 turn u n body counter s = after (counted u n counter (tick s)) body.does
 
+-- so many turns are left
 unfoldable pub turns : Typed → (left : ℕ) → (n : ℕ) → Meaning → (counter bound : Value) → (step : ℕ) → State → Outcome
 turns u zero n body counter bound step s = Next s
 turns u (suc left) n body counter bound step s =
@@ -251,7 +252,8 @@ abbrev pub loop_of : Typed → Parts_mean → ℕ → IntType → (start bound :
 loop_of u part n type start bound step body s =
     turns u 4096 n (part body) (first_of u type start) (constant u bound) (step_of u step) (on_own (declare n) s)
 
--- ---- what a node does as a statement. Each but a block and a declaration is a step, and so is each tested condition
+-- ---- what a node does as a statement. Each but a block and a declaration is a step, and so is each tested condition. A call as a statement goes on
+-- behind the call, whatever it gave
 
 abbrev pub statement : Typed → Parts_mean → ℕ → Kind → State → Outcome
 statement u part n (nodes.Block statements end) s = closing (listed u.tree.items statements) (run_all part (listed u.tree.items statements) s)
