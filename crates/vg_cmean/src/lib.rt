@@ -13,3 +13,6 @@ mod values;
 
 pub use machine::{Done, Machine};
 
+
+#[cfg(test)]
+mod tests;

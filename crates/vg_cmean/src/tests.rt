@@ -1,0 +1,109 @@
+//! Runs of C texts on frames, with what C11 and the profile's rules say of each, worked out by hand.
+
+use super::*;
+use std::alloc::Global;
+use std::test::Fail;
+use vg_core::{Reason, Unit};
+use vg_cread::read_unit;
+use vg_ctok::tokens;
+use vg_ctyper::type_unit;
+
+mod values;
+
+// The head of `nf_process`.
+const HEAD: &str = "int nf_process(uint16_t port, uint64_t now) {";
+
+// The port and the time of every run.
+const PORT: u16 = 3;
+
+const NOW: u64 = 5_000_000_000;
+
+// The typed text, or why there is none.
+fn unit_of(alloc: Global, text: &str) -> Result<Result<Unit, String>, Fail> {
+    if text.len() >= 65536 {
+        return Err(Fail::from("too long"));
+    }
+    let toks = match tokens(alloc, text.as_bytes()) {
+        Ok(toks) => toks,
+        Err(fault) => return Ok(Err(format!(in alloc; "{fault}")?)),
+    };
+    let tree = match read_unit(alloc, &toks) {
+        Ok(tree) => tree,
+        Err(fault) => return Ok(Err(format!(in alloc; "{fault}")?)),
+    };
+    match type_unit(alloc, text.as_bytes(), tree) {
+        Ok(unit) => Ok(Ok(unit)),
+        Err(fault) => Ok(Err(format!(in alloc; "{fault}")?)),
+    }
+}
+
+fn shown_reason(alloc: Global, reason: Reason) -> Result<String, Fail> {
+    let name = match reason {
+        Reason::Overflow => "overflow",
+        Reason::DivZero => "div-zero",
+        Reason::Shift => "shift",
+        Reason::Unset => "unset",
+        Reason::OutOfObject => "out-of-object",
+        Reason::Dead => "dead",
+        Reason::Misaligned => "misaligned",
+        Reason::Before(row) => return Ok(format!(in alloc; "before {row}")?),
+        _ => "judged",
+    };
+    Ok(format!(in alloc; "{name}")?)
+}
+
+fn shown(alloc: Global, done: Done) -> Result<String, Fail> {
+    match done {
+        Done::Ret { value, steps, left } => {
+            Ok(format!(in alloc; "ret {value} steps {steps} left {left}")?)
+        }
+        Done::Wrong { at, reason } => {
+            let reason = shown_reason(alloc, reason)?;
+            Ok(format!(in alloc; "wrong {at} {reason}")?)
+        }
+    }
+}
+
+// What comes of a frame, as text, or why the text isn't run.
+fn run(alloc: Global, text: &str, frame: &mut [u8]) -> Result<String, Fail> {
+    let unit = match unit_of(alloc, text)? {
+        Ok(unit) => unit,
+        Err(refusal) => return Ok(refusal),
+    };
+    if frame.len() > 262144 {
+        return Err(Fail::from("too long"));
+    }
+    let mut machine = Machine::new(alloc, &unit)?;
+    shown(alloc, machine.frame(&unit, PORT, frame, NOW))
+}
+
+// A text with a body of `nf_process`.
+fn with_body(alloc: Global, before: &str, body: &str) -> Result<String, Fail> {
+    Ok(format!(in alloc; "{before}{HEAD}{body}}}")?)
+}
+
+// The frame of the tables: the bytes 1 to 16.
+const FRAME: [u8; 16] = [1, 2, 3, 4, 5, 6, 7, 8, 9, 10, 11, 12, 13, 14, 15, 16];
+
+// What comes of a body on the frame of the tables.
+fn run_body(alloc: Global, before: &str, body: &str) -> Result<String, Fail> {
+    let mut frame = FRAME;
+    run(alloc, &with_body(alloc, before, body)?, &mut frame)
+}
+
+// What comes of a text in which `@` stands before the place where the run goes wrong, and what should come of it.
+fn run_marked(
+    alloc: Global,
+    before: &str,
+    body: &str,
+    reason: Reason,
+) -> Result<(String, String), Fail> {
+    let marked = with_body(alloc, before, body)?;
+    let (front, back) = marked.split_once('@').ok_or("no mark")?;
+    let at = front.len();
+    let reason = shown_reason(alloc, reason)?;
+    let wanted = format!(in alloc; "wrong {at} {reason}")?;
+    let text = format!(in alloc; "{front}{back}")?;
+    let mut frame = FRAME;
+    Ok((run(alloc, &text, &mut frame)?, wanted))
+}
