@@ -8,6 +8,9 @@ use vg_cread::read_unit;
 use vg_ctok::tokens;
 use vg_ctyper::type_unit;
 
+mod accesses;
+mod frames;
+mod statements;
 mod values;
 
 // The head of `nf_process`.
@@ -91,19 +94,37 @@ fn run_body(alloc: Global, before: &str, body: &str) -> Result<String, Fail> {
     run(alloc, &with_body(alloc, before, body)?, &mut frame)
 }
 
-// What comes of a text in which `@` stands before the place where the run goes wrong, and what should come of it.
+fn returned(alloc: Global, value: i32, steps: u32) -> Result<String, Fail> {
+    shown(alloc, Done::Ret { value, steps, left: 0 })
+}
+
+// What comes of a frame, and what should come of it: `wanted`, or where that is a reason, a run that goes wrong where `@` stands in the text.
+fn run_as_marked(
+    alloc: Global,
+    before: &str,
+    body: &str,
+    wanted: &str,
+    frame: &mut [u8],
+) -> Result<(String, String), Fail> {
+    let marked = with_body(alloc, before, body)?;
+    let (front, back) = marked.split_once('@').unwrap_or((marked.as_str(), ""));
+    let text = format!(in alloc; "{front}{back}")?;
+    let found = run(alloc, &text, frame)?;
+    if wanted.starts_with("ret ") {
+        return Ok((found, format!(in alloc; "{wanted}")?));
+    }
+    let at = front.len();
+    Ok((found, format!(in alloc; "wrong {at} {wanted}")?))
+}
+
+// What comes of a body on the frame of the tables, and what should come of it: it goes wrong where `@` stands.
 fn run_marked(
     alloc: Global,
     before: &str,
     body: &str,
     reason: Reason,
 ) -> Result<(String, String), Fail> {
-    let marked = with_body(alloc, before, body)?;
-    let (front, back) = marked.split_once('@').ok_or("no mark")?;
-    let at = front.len();
-    let reason = shown_reason(alloc, reason)?;
-    let wanted = format!(in alloc; "wrong {at} {reason}")?;
-    let text = format!(in alloc; "{front}{back}")?;
     let mut frame = FRAME;
-    Ok((run(alloc, &text, &mut frame)?, wanted))
+    let wanted = shown_reason(alloc, reason)?;
+    run_as_marked(alloc, before, body, &wanted, &mut frame)
 }
