@@ -13,6 +13,5 @@ mod values;
 
 pub use machine::{Done, Machine};
 
-
 #[cfg(test)]
 mod tests;

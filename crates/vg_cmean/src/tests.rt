@@ -10,6 +10,7 @@ use vg_ctyper::type_unit;
 
 mod accesses;
 mod frames;
+mod objects;
 mod statements;
 mod values;
 
@@ -20,6 +21,19 @@ const HEAD: &str = "int nf_process(uint16_t port, uint64_t now) {";
 const PORT: u16 = 3;
 
 const NOW: u64 = 5_000_000_000;
+
+// Structs before `nf_process`.
+const BYTES: &str = "struct s { uint8_t a; uint8_t b; uint16_t c; uint32_t d; }; ";
+
+const PACKED: &str = "struct p { uint8_t a; uint32_t b; uint16_t c[2]; } __attribute__((packed)); ";
+
+const NESTED: &str =
+    "struct in { uint16_t x; uint16_t y; }; struct out { uint32_t h; struct in i; uint8_t t[4]; }; ";
+
+const LOOSE: &str =
+    "struct in { uint16_t x; uint16_t y; }; struct w { uint8_t k; struct in i; } __attribute__((packed)); ";
+
+const BIG: &str = "struct big { uint8_t b[65536]; }; ";
 
 // The typed text, or why there is none.
 fn unit_of(alloc: Global, text: &str) -> Result<Result<Unit, String>, Fail> {
@@ -95,7 +109,14 @@ fn run_body(alloc: Global, before: &str, body: &str) -> Result<String, Fail> {
 }
 
 fn returned(alloc: Global, value: i32, steps: u32) -> Result<String, Fail> {
-    shown(alloc, Done::Ret { value, steps, left: 0 })
+    shown(
+        alloc,
+        Done::Ret {
+            value,
+            steps,
+            left: 0,
+        },
+    )
 }
 
 // What comes of a frame, and what should come of it: `wanted`, or where that is a reason, a run that goes wrong where `@` stands in the text.

@@ -1,70 +1,9 @@
-//! Reads and writes of objects: arrays, structs, pointers and chunks of the frame of the tables, whose bytes are 1 to 16 (C11 6.2.4, 6.3.2.3, 6.5.2).
+//! Reads and writes that go wrong (C11 6.2.4, 6.3.2.3, 6.5.2.1, 6.5.3.2).
 
 use super::*;
 
-const BYTES: &str = "struct s { uint8_t a; uint8_t b; uint16_t c; uint32_t d; }; ";
-
-const PACKED: &str = "struct p { uint8_t a; uint32_t b; uint16_t c[2]; } __attribute__((packed)); ";
-
-const NESTED: &str = "struct in { uint16_t x; uint16_t y; }; struct out { uint32_t h; struct in i; uint8_t t[4]; }; ";
-
-const LOOSE: &str = "struct in { uint16_t x; uint16_t y; }; struct w { uint8_t k; struct in i; } __attribute__((packed)); ";
-
-const BIG: &str = "struct big { uint8_t b[65536]; }; ";
-
-const VARIABLES: [(&str, &str, i32, u32); 24] = [
-    ("", "int a[3]; a[2] = 7; int *q = a; return q[2] + *(&a[2]);", 14, 2),
-    ("", "int a[3]; *a = 4; return a[0];", 4, 2),
-    ("", "int a[3]; a[0] = 4; int *q = &a[2]; return q[-2];", 4, 2),
-    ("", "int a[2]; int *q = &a[2]; q[-1] = 6; return a[1];", 6, 2),
-    ("", "int a[2]; a[port - 2] = 6; uint8_t i = 1; return a[i];", 6, 2),
-    ("", "int a[2]; int *q = &a[262144]; return 1;", 1, 1),
-    ("", "int a[2]; int *q = &a[-262144]; return 1;", 1, 1),
-    ("", "int x = 3; int *q = &x; int *r = &*q; *r = 4; return x;", 4, 2),
-    ("", "int x = 258; uint8_t *q = (uint8_t *)&x; return q[0] + 10 * q[1];", 12, 1),
-    ("", "int x = 0; uint8_t *q = (uint8_t *)&x; q[1] = 1; return x;", 256, 2),
-    ("", "int x = -1; uint16_t *q = (uint16_t *)&x; *q = 0; return x;", -65536, 2),
-    ("", "uint16_t x; uint8_t *q = (uint8_t *)&x; q[0] = 1; q[1] = 2; return x;", 513, 3),
-    ("", "int8_t a[2]; a[0] = 200; a[0] += 100; return a[0];", 44, 3),
-    ("", "{ int x = 1; } { int y = 2; int *q = &y; return *q; }", 2, 1),
-    (BYTES, "return sizeof(struct s);", 8, 1),
-    (BYTES, "struct s v; v.c = 0x0201; uint8_t *q = (uint8_t *)&v; return q[2] + 10 * q[3];", 21, 2),
-    (BYTES, "struct s v; struct s *q = &v; q->a = 255; q->a++; (*q).b = q->a + 2; return v.b;", 2, 4),
-    (BYTES, "struct s v[2]; v[1].d = 7; struct s *q = v; q = &q[1]; return q->d + v[1].d;", 14, 3),
-    (PACKED, "return sizeof(struct p);", 9, 1),
-    (PACKED, "struct p v; v.b = 7; v.c[0] = 1; v.c[1] = 2; return v.b * 100 + v.c[0] * 10 + v.c[1];", 712, 4),
-    (NESTED, "return sizeof(struct out);", 12, 1),
-    (NESTED, "struct out v; v.i.y = 300; v.t[3] = 9; struct in *q = &v.i; return q->y + v.t[3];", 309, 3),
-    (LOOSE, "struct w v; v.i.y = 300; return v.i.y;", 300, 2),
-    (BIG, "uint8_t x; struct big *q = (struct big *)&x; for (int i = 0; i < 65; i++) q = &q[262144]; return 1;", 1, 132),
-];
-
-// Chunks that are given back.
-const CHUNKS: [(&str, &str, i32, u32); 9] = [
-    ("", "uint8_t *q = packet_borrow(8); uint32_t *r = (uint32_t *)&q[4]; int v = *r == 0x08070605; packet_return(q); return v;", 1, 4),
-    ("", "uint8_t *a = packet_borrow(1); uint32_t *b = packet_borrow(4); int v = *b == 0x05040302; packet_return(b); packet_return(a); return v;", 1, 7),
-    (BYTES, "struct s *q = packet_borrow(8); int v = q->c; packet_return(q); return v;", 1027, 4),
-    (BYTES, "struct s *q = packet_borrow(8); uint32_t v = q->d; packet_return(q); return v == 0x08070605;", 1, 4),
-    (PACKED, "struct p *q = packet_borrow(9); int v = q->b == 0x05040302; packet_return(q); return v;", 1, 4),
-    (PACKED, "struct p *q = packet_borrow(9); int v = q->c[1]; packet_return(q); return v;", 2312, 4),
-    (PACKED, "uint8_t *q = packet_borrow(12); struct p *r = (struct p *)&q[3]; int v = r->c[0]; packet_return(q); return v;", 2569, 4),
-    (NESTED, "struct out *q = packet_borrow(12); int v = q->i.y + q->t[2]; packet_return(q); return v;", 2066, 4),
-    ("uint8_t f(void) { uint8_t *q = packet_borrow(1); uint8_t v = q[0]; packet_return(q); return v; } ", "return f() + f();", 2, 11),
-];
-
-#[test]
-fn objects(rt: HostRuntime) -> Result<(), Fail> {
-    for (before, body, value, steps) in VARIABLES {
-        assert_eq!(rt; run_body(rt.alloc(), before, body)?, returned(rt.alloc(), value, steps)?, "{body}");
-    }
-    for (before, body, value, steps) in CHUNKS {
-        assert_eq!(rt; run_body(rt.alloc(), before, body)?, returned(rt.alloc(), value, steps)?, "{body}");
-    }
-    Ok(())
-}
-
 // `@` stands before the lvalue, or before the index where the index alone is too far.
-const OUTSIDE: [(&str, &str); 20] = [
+const OUTSIDE: [(&str, &str); 25] = [
     ("", "int a[2]; a[0] = 1; return @a[2];"),
     ("", "int a[2]; return @a[-1];"),
     ("", "int a[2]; @a[2] = 5; return 0;"),
@@ -76,15 +15,50 @@ const OUTSIDE: [(&str, &str); 20] = [
     ("", "int a[2]; int *q = &a[@-262145]; return 0;"),
     ("", "int a[2]; int i = -262145; return a[@i];"),
     ("", "int a[2]; uint32_t i = -1; return a[@i];"),
-    ("", "int a[2]; a[0] = 1; int *q = &a[1]; uint64_t i = 0xffffffffffffffff; return q[@i];"),
+    (
+        "",
+        "int a[2]; a[0] = 1; int *q = &a[1]; uint64_t i = 0xffffffffffffffff; return q[@i];",
+    ),
     ("", "uint8_t *q = packet_borrow(4); return @q[4];"),
     ("", "uint8_t *q = packet_borrow(4); return @q[-1];"),
-    ("", "uint8_t *q = packet_borrow(4); uint32_t *r = (uint32_t *)&q[1]; return @*r;"),
-    ("", "uint8_t *q = packet_borrow(4); uint8_t *r = packet_borrow(4); return @q[4];"),
-    (BYTES, "struct s v; struct s *q = &v; q = &q[1]; return @q->a;"),
-    (BYTES, "uint8_t *q = packet_borrow(7); struct s *r = (struct s *)q; return r->c + @r->d;"),
-    (BIG, "uint8_t x; struct big *q = (struct big *)&x; for (int i = 0; i < 66; i++) q = &q[@262144]; return 1;"),
-    (BIG, "uint8_t x; struct big *q = (struct big *)&x; for (int i = 0; i < 66; i++) q = &q[@-262144]; return 1;"),
+    (
+        "",
+        "uint8_t *q = packet_borrow(4); uint32_t *r = (uint32_t *)&q[1]; return @*r;",
+    ),
+    (
+        "",
+        "uint8_t *q = packet_borrow(4); uint8_t *r = packet_borrow(4); return @q[4];",
+    ),
+    (
+        BYTES,
+        "struct s v; struct s *q = &v; q = &q[1]; return @q->a;",
+    ),
+    (
+        BYTES,
+        "uint8_t *q = packet_borrow(7); struct s *r = (struct s *)q; return r->c + @r->d;",
+    ),
+    (
+        BIG,
+        "uint8_t x; struct big *q = (struct big *)&x; for (int i = 0; i < 66; i++) q = &q[@262144]; return 1;",
+    ),
+    (
+        BIG,
+        "uint8_t x; struct big *q = (struct big *)&x; for (int i = 0; i < 66; i++) q = &q[@-262144]; return 1;",
+    ),
+    ("", "int a[2]; int *q = &a[-1]; return @*q;"),
+    ("", "uint8_t a[65536]; return @a[65536];"),
+    (
+        "",
+        "uint8_t *q = packet_borrow(4); packet_return(q); return q[@262145];",
+    ),
+    (
+        BIG,
+        "uint8_t x; struct big *q = (struct big *)&x; for (int i = 0; i < 64; i++) q = &q[262144]; return @q->b[0];",
+    ),
+    (
+        BIG,
+        "uint8_t x; struct big *q = (struct big *)&x; for (int i = 0; i < 65; i++) q = &q[262144]; return q->b[@0];",
+    ),
 ];
 
 // `@` stands before the lvalue.
@@ -94,30 +68,100 @@ const DEAD: [(&str, &str); 14] = [
     ("", "int *q; { int a[2]; a[0] = 1; q = a; } return @q[0];"),
     ("", "int *q; if (port) { int x = 1; q = &x; } return @q[0];"),
     ("", "int *q; { { int x = 1; q = &x; } @*q = 2; } return 0;"),
-    ("", "int y = 0; int *q = &y; for (int i = 0; i < 2; i++) { int x = 5; if (i == 1) return @*q; q = &x; } return 0;"),
-    ("", "int *q; for (int i = 0; i < 2; i++) { int x = i; q = &x; } return @*q;"),
-    (BYTES, "uint16_t *q; { struct s v; v.c = 1; q = &v.c; } return @*q;"),
-    (BYTES, "struct s *q; { struct s v; v.c = 1; q = &v; } return @q->c;"),
-    ("", "uint8_t *q = packet_borrow(4); packet_return(q); return @q[0];"),
-    ("", "uint8_t *q = packet_borrow(4); packet_return(q); @q[0] = 1; return 0;"),
-    ("", "uint8_t *q = packet_borrow(4); packet_return(q); return @q[9];"),
-    ("", "uint8_t *q = packet_borrow(4); packet_return(q); uint8_t *r = packet_borrow(4); return r[0] + @q[0];"),
-    ("", "uint8_t *q = packet_borrow(4); uint32_t *r = (uint32_t *)&q[1]; packet_return(q); return @*r;"),
+    (
+        "",
+        "int y = 0; int *q = &y; for (int i = 0; i < 2; i++) { int x = 5; if (i == 1) return @*q; q = &x; } return 0;",
+    ),
+    (
+        "",
+        "int *q; for (int i = 0; i < 2; i++) { int x = i; q = &x; } return @*q;",
+    ),
+    (
+        BYTES,
+        "uint16_t *q; { struct s v; v.c = 1; q = &v.c; } return @*q;",
+    ),
+    (
+        BYTES,
+        "struct s *q; { struct s v; v.c = 1; q = &v; } return @q->c;",
+    ),
+    (
+        "",
+        "uint8_t *q = packet_borrow(4); packet_return(q); return @q[0];",
+    ),
+    (
+        "",
+        "uint8_t *q = packet_borrow(4); packet_return(q); @q[0] = 1; return 0;",
+    ),
+    (
+        "",
+        "uint8_t *q = packet_borrow(4); packet_return(q); return @q[9];",
+    ),
+    (
+        "",
+        "uint8_t *q = packet_borrow(4); packet_return(q); uint8_t *r = packet_borrow(4); return r[0] + @q[0];",
+    ),
+    (
+        "",
+        "uint8_t *q = packet_borrow(4); uint32_t *r = (uint32_t *)&q[1]; packet_return(q); return @*r;",
+    ),
 ];
 
-const MISALIGNED: [(&str, &str); 12] = [
-    ("", "uint8_t *q = packet_borrow(8); uint32_t *r = (uint32_t *)&q[1]; return @*r;"),
-    ("", "uint8_t *q = packet_borrow(8); uint32_t *r = (uint32_t *)&q[2]; @*r = 1; return 0;"),
-    ("", "uint8_t *q = packet_borrow(8); uint16_t *r = (uint16_t *)&q[1]; return @r[1];"),
-    ("", "uint8_t *q = packet_borrow(12); uint64_t *r = (uint64_t *)&q[4]; return @*r;"),
-    ("", "uint32_t x = 1; uint8_t *q = (uint8_t *)&x; uint16_t *r = (uint16_t *)&q[1]; return @*r;"),
-    ("", "int a[2]; uint8_t *q = (uint8_t *)a; int *r = (int *)&q[2]; return @*r;"),
-    (BYTES, "uint8_t *q = packet_borrow(12); struct s *r = (struct s *)&q[1]; return r->a + @r->c;"),
-    (PACKED, "struct p v; v.b = 7; uint32_t *r = &v.b; return @*r;"),
-    (PACKED, "struct p *q = packet_borrow(9); uint16_t *r = &q->c[1]; @*r = 3; return 0;"),
-    (PACKED, "struct p v; v.c[1] = 2; uint16_t *r = v.c; return @r[1];"),
+const MISALIGNED: [(&str, &str); 16] = [
+    (
+        "",
+        "uint8_t *q = packet_borrow(8); uint32_t *r = (uint32_t *)&q[1]; return @*r;",
+    ),
+    (
+        "",
+        "uint8_t *q = packet_borrow(8); uint32_t *r = (uint32_t *)&q[2]; @*r = 1; return 0;",
+    ),
+    (
+        "",
+        "uint8_t *q = packet_borrow(8); uint16_t *r = (uint16_t *)&q[1]; return @r[1];",
+    ),
+    (
+        "",
+        "uint8_t *q = packet_borrow(12); uint64_t *r = (uint64_t *)&q[4]; return @*r;",
+    ),
+    (
+        "",
+        "uint32_t x = 1; uint8_t *q = (uint8_t *)&x; uint16_t *r = (uint16_t *)&q[1]; return @*r;",
+    ),
+    (
+        "",
+        "int a[2]; uint8_t *q = (uint8_t *)a; int *r = (int *)&q[2]; return @*r;",
+    ),
+    (
+        BYTES,
+        "uint8_t *q = packet_borrow(12); struct s *r = (struct s *)&q[1]; return r->a + @r->c;",
+    ),
+    (
+        PACKED,
+        "struct p v; v.b = 7; uint32_t *r = &v.b; return @*r;",
+    ),
+    (
+        PACKED,
+        "struct p *q = packet_borrow(9); uint16_t *r = &q->c[1]; @*r = 3; return 0;",
+    ),
+    (
+        PACKED,
+        "struct p v; v.c[1] = 2; uint16_t *r = v.c; return @r[1];",
+    ),
     (PACKED, "struct p v; v.c[0] = 2; return @*v.c;"),
-    (LOOSE, "struct w v; v.i.y = 300; struct in *r = &v.i; return @r->y;"),
+    (
+        LOOSE,
+        "struct w v; v.i.y = 300; struct in *r = &v.i; return @r->y;",
+    ),
+    (PACKED, "struct p v; v.b = 7; return @*&v.b;"),
+    (
+        PACKED,
+        "struct p v; v.c[1] = 7; return @((uint16_t *)v.c)[1];",
+    ),
+    (LOOSE, "struct w v; v.i.y = 300; return @(&v.i)->y;"),
+    (
+        "struct p { uint8_t a; uint32_t b; } __attribute__((packed)); int f(uint32_t *q) { return @*q; } ",
+        "struct p v; v.b = 7; return f(&v.b);",
+    ),
 ];
 
 #[test]
@@ -142,7 +186,7 @@ const ONE: &str = "int f(int *p) { return 1; } ";
 const LATER: &str = "int f(int n) { int x; if (n) x = n; return @x; } ";
 
 // `@` stands before the lvalue, or before the pointer variable that isn't set.
-const UNSET: [(&str, &str); 25] = [
+const UNSET: [(&str, &str); 27] = [
     ("", "int x; return @x;"),
     ("", "int x = @x; return x;"),
     ("", "int x; @x++; return x;"),
@@ -150,15 +194,27 @@ const UNSET: [(&str, &str); 25] = [
     ("", "int x; if (@x) return 1; return 0;"),
     ("", "int x; return 1 + -@x;"),
     ("", "uint8_t a[2]; a[0] = 1; return @a[1];"),
-    ("", "uint8_t a[4]; a[0] = 1; a[1] = 1; a[3] = 1; int *q = (int *)a; return @*q;"),
-    ("", "uint16_t x; uint8_t *q = (uint8_t *)&x; q[0] = 1; return @x;"),
+    (
+        "",
+        "uint8_t a[4]; a[0] = 1; a[1] = 1; a[3] = 1; int *q = (int *)a; return @*q;",
+    ),
+    (
+        "",
+        "uint16_t x; uint8_t *q = (uint8_t *)&x; q[0] = 1; return @x;",
+    ),
     ("", "int x; int *q = &x; return @*q;"),
     ("", "{ int x = 1; } { int x; return @x; }"),
-    ("", "for (int i = 0; i < 2; i++) { int x; if (i == 1) return @x; x = 5; } return 0;"),
+    (
+        "",
+        "for (int i = 0; i < 2; i++) { int x; if (i == 1) return @x; x = 5; } return 0;",
+    ),
     (LATER, "f(5); return f(0);"),
     ("int f(int a) { return a; } ", "int x; return f(@x);"),
     (BYTES, "struct s v; v.a = 1; return v.a + @v.b;"),
-    (NESTED, "struct out v; v.i.x = 1; struct out *q = &v; return q->i.x + @q->i.y;"),
+    (
+        NESTED,
+        "struct out v; v.i.x = 1; struct out *q = &v; return q->i.x + @q->i.y;",
+    ),
     ("", "int *q; return *@q;"),
     ("", "int *q; return @q[0];"),
     ("", "int *q; int *r = @q; return 0;"),
@@ -168,6 +224,11 @@ const UNSET: [(&str, &str); 25] = [
     (BYTES, "struct s *q; uint8_t *r = &@q->b; return 0;"),
     (ONE, "int *q; return f(@q);"),
     ("", "uint8_t *q; packet_return(@q); return 0;"),
+    ("", "int *q; q = @q; return 0;"),
+    (
+        PACKED,
+        "struct p v; uint8_t *q = (uint8_t *)&v; q[1] = 1; q[2] = 1; q[3] = 1; return @v.b;",
+    ),
 ];
 
 #[test]

@@ -111,13 +111,25 @@ const LOOPS: [(&str, i32, u32); 14] = [
 #[test]
 fn choices_branches_and_loops(rt: HostRuntime) -> Result<(), Fail> {
     for (body, value, steps) in CHOICES {
-        assert_eq!(rt; run_body(rt.alloc(), "", body)?, returned(rt.alloc(), value, steps)?, "{body}");
+        assert_eq!(rt;
+            run_body(rt.alloc(), "", body)?,
+            returned(rt.alloc(), value, steps)?,
+            "{body}"
+        );
     }
     for (body, value, steps) in BRANCHES {
-        assert_eq!(rt; run_body(rt.alloc(), "", body)?, returned(rt.alloc(), value, steps)?, "{body}");
+        assert_eq!(rt;
+            run_body(rt.alloc(), "", body)?,
+            returned(rt.alloc(), value, steps)?,
+            "{body}"
+        );
     }
     for (body, value, steps) in LOOPS {
-        assert_eq!(rt; run_body(rt.alloc(), "", body)?, returned(rt.alloc(), value, steps)?, "{body}");
+        assert_eq!(rt;
+            run_body(rt.alloc(), "", body)?,
+            returned(rt.alloc(), value, steps)?,
+            "{body}"
+        );
     }
     Ok(())
 }
@@ -127,11 +139,14 @@ const TENFOLD: &str = "int f(int a, int b) { return 10 * a + b; } ";
 
 const TWICE: &str = "int f(int n) { int x = n; x *= 2; return x; } ";
 
-const GROW: &str = "int f(int *p) { *p = *p * 10; return *p; } int g(int a, int b) { return a - b; } ";
+const GROW: &str =
+    "int f(int *p) { *p = *p * 10; return *p; } int g(int a, int b) { return a - b; } ";
+
+const ONE: &str = "int f(int *p) { *p = 1; return 7; } ";
 
 const SET: &str = "void f(int *p) { if (*p) return; *p = 9; } ";
 
-const CALLS: [(&str, &str, i32, u32); 20] = [
+const CALLS: [(&str, &str, i32, u32); 24] = [
     (TENFOLD, "return f(1, f(2, 3));", 33, 5),
     (TENFOLD, "return f(f(1, 2), f(3, 4));", 154, 7),
     (TWICE, "return f(f(f(1)));", 8, 10),
@@ -177,12 +192,35 @@ const CALLS: [(&str, &str, i32, u32); 20] = [
         1,
         12,
     ),
+    (
+        ONE,
+        "int a[2]; a[0] = 0; a[1] = 5; int i = 0; a[i] = f(&i); return a[0] * 10 + a[1];",
+        75,
+        7,
+    ),
+    (
+        ONE,
+        "int a[2]; a[0] = 2; a[1] = 5; int i = 0; a[i] += f(&i); return a[0] * 10 + a[1];",
+        95,
+        7,
+    ),
+    ("void f(void) { } ", "f(); return 1;", 1, 3),
+    (
+        "int g(int *p) { *p += 1; return *p; } int f(int a) { return g(&a) + a; } ",
+        "return f(3);",
+        8,
+        6,
+    ),
 ];
 
 #[test]
 fn calls(rt: HostRuntime) -> Result<(), Fail> {
     for (before, body, value, steps) in CALLS {
-        assert_eq!(rt; run_body(rt.alloc(), before, body)?, returned(rt.alloc(), value, steps)?, "{before}{body}");
+        assert_eq!(rt;
+            run_body(rt.alloc(), before, body)?,
+            returned(rt.alloc(), value, steps)?,
+            "{before}{body}"
+        );
     }
     Ok(())
 }
@@ -200,11 +238,23 @@ const ORDER: [(&str, &str, Reason); 18] = [
     ("", "return @1 / 0 ? 1 << 31 : 2;", Reason::DivZero),
     (TENFOLD, "return f(@1 / 0, 1 << 31);", Reason::DivZero),
     (TENFOLD, "return f(2147483647, @1 << 31);", Reason::Shift),
-    ("", "int a[2]; a[@1 / 0] = 1 << 31; return 0;", Reason::DivZero),
+    (
+        "",
+        "int a[2]; a[@1 / 0] = 1 << 31; return 0;",
+        Reason::DivZero,
+    ),
     ("", "int a[2]; a[5] = @1 << 31; return 0;", Reason::Shift),
-    ("", "int a[2]; int i; a[@i] = 1 / 0; return 0;", Reason::Unset),
+    (
+        "",
+        "int a[2]; int i; a[@i] = 1 / 0; return 0;",
+        Reason::Unset,
+    ),
     ("", "int *p; return @p[1 / 0];", Reason::Unset),
-    ("", "int a[2]; @a[5] += 1 / 0; return 0;", Reason::OutOfObject),
+    (
+        "",
+        "int a[2]; @a[5] += 1 / 0; return 0;",
+        Reason::OutOfObject,
+    ),
     ("", "uint8_t x; @x += 1 / 0; return x;", Reason::Unset),
     (
         "int f(int a, int b) { return @a / b; } ",
@@ -227,11 +277,7 @@ const ENDS: [(&str, &str, Reason); 6] = [
         "f(0); return 1;",
         Reason::Unset,
     ),
-    (
-        "int f(void) { { ; } @} ",
-        "return 0 * f();",
-        Reason::Unset,
-    ),
+    ("int f(void) { { ; } @} ", "return 0 * f();", Reason::Unset),
     (
         "int f(int a) { for (int i = 0; i < 2; i++) { if (i == a) return i; } @} ",
         "return f(1) + f(2);",

@@ -5,19 +5,11 @@ use super::*;
 const SUMS: [(&str, i32, u32); 24] = [
     ("uint8_t a = 200; uint8_t b = 100; return a + b;", 300, 1),
     ("uint16_t a = 1; return a - 2;", -1, 1),
-    (
-        "uint16_t a = 46340; return a * a == 2147395600;",
-        1,
-        1,
-    ),
+    ("uint16_t a = 46340; return a * a == 2147395600;", 1, 1),
     ("uint32_t a = 65536; return a * a;", 0, 1),
     ("return 1u - 2 > 0;", 1, 1),
     ("return 2147483647 + 1u == 2147483648;", 1, 1),
-    (
-        "int64_t a = 2147483647; return a + 1 == 2147483648;",
-        1,
-        1,
-    ),
+    ("int64_t a = 2147483647; return a + 1 == 2147483648;", 1, 1),
     ("return 0x80000000 / 2 == 1073741824;", 1, 1),
     ("return -2147483648 < 0;", 1, 1),
     ("return -2147483648u < 0;", 0, 1),
@@ -54,8 +46,16 @@ const COMPARISONS: [(&str, i32, u32); 15] = [
     ("return -1 < sizeof(int);", 0, 1),
     ("return port < -1;", 0, 1),
     ("int8_t a = -1; uint8_t b = 255; return a == b;", 0, 1),
-    ("int8_t a = -1; unsigned b = 4294967295; return a == b;", 1, 1),
-    ("int64_t a = -1; unsigned b = 4294967295; return a == b;", 0, 1),
+    (
+        "int8_t a = -1; unsigned b = 4294967295; return a == b;",
+        1,
+        1,
+    ),
+    (
+        "int64_t a = -1; unsigned b = 4294967295; return a == b;",
+        0,
+        1,
+    ),
     (
         "return (5 > 3) + (5 >= 5) + (3 <= 2) + (2 < 2) + (4 == 4) + (4 != 4);",
         3,
@@ -140,10 +140,18 @@ const UPDATES: [(&str, i32, u32); 23] = [
 #[test]
 fn sums_and_comparisons(rt: HostRuntime) -> Result<(), Fail> {
     for (body, value, steps) in SUMS {
-        assert_eq!(rt; run_body(rt.alloc(), "", body)?, returned(rt.alloc(), value, steps)?, "{body}");
+        assert_eq!(rt;
+            run_body(rt.alloc(), "", body)?,
+            returned(rt.alloc(), value, steps)?,
+            "{body}"
+        );
     }
     for (body, value, steps) in COMPARISONS {
-        assert_eq!(rt; run_body(rt.alloc(), "", body)?, returned(rt.alloc(), value, steps)?, "{body}");
+        assert_eq!(rt;
+            run_body(rt.alloc(), "", body)?,
+            returned(rt.alloc(), value, steps)?,
+            "{body}"
+        );
     }
     Ok(())
 }
@@ -151,13 +159,25 @@ fn sums_and_comparisons(rt: HostRuntime) -> Result<(), Fail> {
 #[test]
 fn quotients_shifts_and_conversions(rt: HostRuntime) -> Result<(), Fail> {
     for (body, value, steps) in QUOTIENTS {
-        assert_eq!(rt; run_body(rt.alloc(), "", body)?, returned(rt.alloc(), value, steps)?, "{body}");
+        assert_eq!(rt;
+            run_body(rt.alloc(), "", body)?,
+            returned(rt.alloc(), value, steps)?,
+            "{body}"
+        );
     }
     for (body, value, steps) in SHIFTS {
-        assert_eq!(rt; run_body(rt.alloc(), "", body)?, returned(rt.alloc(), value, steps)?, "{body}");
+        assert_eq!(rt;
+            run_body(rt.alloc(), "", body)?,
+            returned(rt.alloc(), value, steps)?,
+            "{body}"
+        );
     }
     for (body, value, steps) in CONVERSIONS {
-        assert_eq!(rt; run_body(rt.alloc(), "", body)?, returned(rt.alloc(), value, steps)?, "{body}");
+        assert_eq!(rt;
+            run_body(rt.alloc(), "", body)?,
+            returned(rt.alloc(), value, steps)?,
+            "{body}"
+        );
     }
     Ok(())
 }
@@ -165,7 +185,11 @@ fn quotients_shifts_and_conversions(rt: HostRuntime) -> Result<(), Fail> {
 #[test]
 fn updates_of_narrow_types(rt: HostRuntime) -> Result<(), Fail> {
     for (body, value, steps) in UPDATES {
-        assert_eq!(rt; run_body(rt.alloc(), "", body)?, returned(rt.alloc(), value, steps)?, "{body}");
+        assert_eq!(rt;
+            run_body(rt.alloc(), "", body)?,
+            returned(rt.alloc(), value, steps)?,
+            "{body}"
+        );
     }
     Ok(())
 }
@@ -178,27 +202,15 @@ const WRONG: [(&str, Reason); 36] = [
     ("return @-7 % (port - 3);", Reason::DivZero),
     ("int x = 7; @x /= 0; return x;", Reason::DivZero),
     ("int x = 7; @x %= 0; return x;", Reason::DivZero),
-    (
-        "int x = -2147483647 - 1; return @x / 0;",
-        Reason::DivZero,
-    ),
+    ("int x = -2147483647 - 1; return @x / 0;", Reason::DivZero),
     ("int x = 2147483647; return @x + 1;", Reason::Overflow),
     (
         "int x = -2147483647; return (1 + x) + (@x - 2);",
         Reason::Overflow,
     ),
-    (
-        "int x = 2147483647; return @(1 - x) - 3;",
-        Reason::Overflow,
-    ),
-    (
-        "int x = -2147483647 - 1; return @x / -1;",
-        Reason::Overflow,
-    ),
-    (
-        "int x = -2147483647 - 1; return @x % -1;",
-        Reason::Overflow,
-    ),
+    ("int x = 2147483647; return @(1 - x) - 3;", Reason::Overflow),
+    ("int x = -2147483647 - 1; return @x / -1;", Reason::Overflow),
+    ("int x = -2147483647 - 1; return @x % -1;", Reason::Overflow),
     ("int x = -2147483647 - 1; return @-x;", Reason::Overflow),
     (
         "int64_t x = -9223372036854775807 - 1; return @-x != 0;",
@@ -224,10 +236,7 @@ const WRONG: [(&str, Reason); 36] = [
     ("uint16_t a = 65535; @a *= a; return a;", Reason::Overflow),
     ("int x = 65536; @x *= 32768; return x;", Reason::Overflow),
     ("int x = 2147483647; @x++; return x;", Reason::Overflow),
-    (
-        "int x = -2147483647 - 1; @x--; return x;",
-        Reason::Overflow,
-    ),
+    ("int x = -2147483647 - 1; @x--; return x;", Reason::Overflow),
     (
         "int x = -2147483647 - 1; @x /= -1; return x;",
         Reason::Overflow,
@@ -239,10 +248,7 @@ const WRONG: [(&str, Reason); 36] = [
     ("unsigned x = 1; return @x << 32;", Reason::Shift),
     ("uint8_t a = 255; return @a << 24;", Reason::Shift),
     ("uint8_t a = 1; return @a >> 32;", Reason::Shift),
-    (
-        "int64_t x = 1; return (@x << 63) < 0;",
-        Reason::Shift,
-    ),
+    ("int64_t x = 1; return (@x << 63) < 0;", Reason::Shift),
     ("uint64_t n = 64; return @now >> n;", Reason::Shift),
     ("return @port >> -1;", Reason::Shift),
     ("int x = 1; @x <<= 31; return x;", Reason::Shift),
