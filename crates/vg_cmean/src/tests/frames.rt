@@ -25,7 +25,7 @@ const SQUARE: &str =
     "uint16_t *q = packet_borrow(2); uint16_t a = *q; packet_return(q); int x = @a * a; return 1;";
 
 // A body that may be marked, a frame, and what comes of it.
-const RUNS: [(&str, &str, &[u8], &str); 43] = [
+const RUNS: [(&str, &str, &[u8], &str); 44] = [
     ("", "return packet_length();", &[], "ret 0 steps 2 left 0"),
     (
         "",
@@ -219,6 +219,7 @@ const RUNS: [(&str, &str, &[u8], &str); 43] = [
         &[1],
         "ret 0 steps 5 left 1",
     ),
+    ("", "uint8_t a[2]; @packet_return(a); return 0;", &[1, 2], "before 3"),
 ];
 
 #[test]

@@ -2,7 +2,7 @@
 
 use super::*;
 
-const VARIABLES: [(&str, &str, i32, u32); 32] = [
+const VARIABLES: [(&str, &str, i32, u32); 33] = [
     (
         "",
         "int a[3]; a[2] = 7; int *q = a; return q[2] + *(&a[2]);",
@@ -150,10 +150,11 @@ const VARIABLES: [(&str, &str, i32, u32); 32] = [
         10,
         2,
     ),
+    ("", "int a[2]; int b[2]; a[1] = 1; b[0] = 2; b[1] = 3; a[0] = 4; return a[0] * 1000 + a[1] * 100 + b[0] * 10 + b[1];", 4123, 5),
 ];
 
 // Chunks that are given back.
-const CHUNKS: [(&str, &str, i32, u32); 10] = [
+const CHUNKS: [(&str, &str, i32, u32); 11] = [
     (
         "",
         "uint8_t *q = packet_borrow(8); uint32_t *r = (uint32_t *)&q[4]; int v = *r == 0x08070605; packet_return(q); return v;",
@@ -214,6 +215,7 @@ const CHUNKS: [(&str, &str, i32, u32); 10] = [
         1,
         4,
     ),
+    (BYTES, "struct s *q; q = packet_borrow(sizeof(struct s)); int v = q->a; packet_return(q); return v;", 1, 5),
 ];
 
 #[test]

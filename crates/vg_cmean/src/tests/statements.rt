@@ -146,7 +146,7 @@ const ONE: &str = "int f(int *p) { *p = 1; return 7; } ";
 
 const SET: &str = "void f(int *p) { if (*p) return; *p = 9; } ";
 
-const CALLS: [(&str, &str, i32, u32); 24] = [
+const CALLS: [(&str, &str, i32, u32); 26] = [
     (TENFOLD, "return f(1, f(2, 3));", 33, 5),
     (TENFOLD, "return f(f(1, 2), f(3, 4));", 154, 7),
     (TWICE, "return f(f(f(1)));", 8, 10),
@@ -211,6 +211,8 @@ const CALLS: [(&str, &str, i32, u32); 24] = [
         8,
         6,
     ),
+    ("int f(int *p) { p = &p[1]; return *p; } ", "int a[2]; a[1] = 6; int *q = a; return f(q) + q[1];", 12, 5),
+    ("int f(int a) { for (int i = 0; i < 5; i++) if (i == a) return i * i; return -1; } ", "int s = 0; for (int j = 1; j < 3; j++) s += f(j); return s;", 5, 27),
 ];
 
 #[test]

@@ -107,7 +107,7 @@ const CONVERSIONS: [(&str, i32, u32); 11] = [
     ("return now;", 705032704, 1),
 ];
 
-const UPDATES: [(&str, i32, u32); 23] = [
+const UPDATES: [(&str, i32, u32); 26] = [
     ("uint8_t a = 200; a += 100; return a;", 44, 2),
     ("uint8_t a = 10; a -= 20; return a;", 246, 2),
     ("int8_t a = 100; a += 100; return a;", -56, 2),
@@ -135,6 +135,9 @@ const UPDATES: [(&str, i32, u32); 23] = [
     ("uint32_t a = 4294967295; a++; return a;", 0, 2),
     ("unsigned a = 0; a--; return a == 4294967295u;", 1, 2),
     ("uint64_t a = 0; a--; return a == 0xffffffffffffffff;", 1, 2),
+    ("port -= 4; return port;", 65535, 2),
+    ("now++; return now == 5000000001;", 1, 2),
+    ("(port) = 7; return port;", 7, 2),
 ];
 
 #[test]
