@@ -15,3 +15,6 @@ mod values;
 
 pub use laws::variables_apart;
 pub use machine::{Done, Machine, has_externs};
+
+#[cfg(test)]
+mod tests;
