@@ -410,6 +410,10 @@ fn texts_that_nest_too_deep_get_no_machine(rt: HostRuntime) -> Result<(), Fail> 
     let mut frame = FRAME;
     let deep = run(alloc, &sum_of_ones(alloc, 990)?, &mut frame)?;
     assert_eq!(rt; deep.as_str(), "ret 990 steps 1 left 0");
-    assert!(rt; run(alloc, &sum_of_ones(alloc, 2000)?, &mut frame).is_err());
+    let text = sum_of_ones(alloc, 2000)?;
+    let Ok(unit) = unit_of(alloc, text.as_str())? else {
+        return Err(Fail::from("not typed"));
+    };
+    assert!(rt; Machine::new(alloc, &unit).is_err());
     Ok(())
 }
