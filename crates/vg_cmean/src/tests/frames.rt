@@ -24,45 +24,8 @@ const HEADER: &str = "uint8_t *q = @packet_borrow(14); packet_return(q); return 
 const SQUARE: &str =
     "uint16_t *q = packet_borrow(2); uint16_t a = *q; packet_return(q); int x = @a * a; return 1;";
 
-// A body that may be marked, a frame, and what comes of it.
-const RUNS: [(&str, &str, &[u8], &str); 44] = [
-    ("", "return packet_length();", &[], "ret 0 steps 2 left 0"),
-    (
-        "",
-        "return packet_length();",
-        &[1, 2, 3, 4, 5],
-        "ret 5 steps 2 left 0",
-    ),
-    (
-        "",
-        "return packet_length() - 1 > 0;",
-        &[],
-        "ret 1 steps 2 left 0",
-    ),
-    (
-        "",
-        "return packet_length() < -1;",
-        &[1],
-        "ret 1 steps 2 left 0",
-    ),
-    (
-        "",
-        "uint8_t *q = @packet_borrow(1); return 0;",
-        &[],
-        "before 2",
-    ),
-    (
-        "",
-        "uint8_t *a = packet_borrow(4); uint8_t *b = packet_borrow(4); packet_return(b); packet_return(a); return -1;",
-        &[0, 0, 0, 0, 0, 0, 0, 0],
-        "ret -1 steps 7 left 0",
-    ),
-    (
-        "",
-        "uint8_t *a = packet_borrow(4); uint8_t *b = packet_borrow(4); @packet_return(a); return -1;",
-        &[0, 0, 0, 0, 0, 0, 0, 0],
-        "before 3",
-    ),
+// What stands before `nf_process`, a body that may be marked, a frame, and what comes of it.
+const NUMBERS: [(&str, &str, &[u8], &str); 15] = [
     ("", SUM, &[0xff, 1], "ret 1 steps 9 left 0"),
     ("", SUM, &[0xfe, 1], "ret -1 steps 9 left 0"),
     ("", SUM, &[0xff], "ret -1 steps 4 left 0"),
@@ -91,20 +54,47 @@ const RUNS: [(&str, &str, &[u8], &str); 44] = [
     ("", SHIFT, &[32], "ret -1 steps 6 left 0"),
     ("", UNSIGNED_SHIFT, &[31], "ret 1 steps 6 left 0"),
     ("", UNSIGNED_SHIFT, &[30], "ret 0 steps 6 left 0"),
-    (
-        "",
-        HEADER,
-        &[0, 0, 0, 0, 0, 0, 0, 0, 0, 0, 0, 0, 0],
-        "before 2",
-    ),
-    (
-        "",
-        HEADER,
-        &[0, 0, 0, 0, 0, 0, 0, 0, 0, 0, 0, 0, 0, 0],
-        "ret -1 steps 4 left 0",
-    ),
     ("", SQUARE, &[0x04, 0xb5], "ret 1 steps 4 left 0"),
     ("", SQUARE, &[0x05, 0xb5], "overflow"),
+];
+
+#[test]
+fn numbers_of_a_frame(rt: HostRuntime) -> Result<(), Fail> {
+    for (before, body, bytes, wanted) in NUMBERS {
+        let mut frame = Vec::from_slice(rt.alloc(), bytes)?;
+        let (found, wanted) = run_as_marked(rt.alloc(), before, body, wanted, &mut frame)?;
+        assert_eq!(rt; found, wanted, "{body}");
+    }
+    Ok(())
+}
+
+// Lengths of frames, and chunks that are borrowed.
+const BORROWED: [(&str, &str, &[u8], &str); 14] = [
+    ("", "return packet_length();", &[], "ret 0 steps 2 left 0"),
+    (
+        "",
+        "return packet_length();",
+        &[1, 2, 3, 4, 5],
+        "ret 5 steps 2 left 0",
+    ),
+    (
+        "",
+        "return packet_length() - 1 > 0;",
+        &[],
+        "ret 1 steps 2 left 0",
+    ),
+    (
+        "",
+        "return packet_length() < -1;",
+        &[1],
+        "ret 1 steps 2 left 0",
+    ),
+    (
+        "",
+        "uint8_t *q = @packet_borrow(1); return 0;",
+        &[],
+        "before 2",
+    ),
     (
         "",
         "uint8_t *q = packet_borrow(4); return -1;",
@@ -125,12 +115,6 @@ const RUNS: [(&str, &str, &[u8], &str); 44] = [
     ),
     (
         "",
-        "uint8_t *q = packet_borrow(2); packet_return(q); return @*q;",
-        &[1, 2],
-        "dead",
-    ),
-    (
-        "",
         "uint8_t *q = @packet_borrow(0); return 0;",
         &[1, 2],
         "before 2",
@@ -140,6 +124,74 @@ const RUNS: [(&str, &str, &[u8], &str); 44] = [
         "packet_borrow(1); uint8_t *q = @packet_borrow(4294967295); return 0;",
         &[1, 2],
         "before 2",
+    ),
+    (
+        "",
+        "for (int i = 0; i < 16; i++) packet_borrow(1); return 0;",
+        &[0; 17],
+        "ret 0 steps 50 left 16",
+    ),
+    (
+        "",
+        "for (int i = 0; i < 17; i++) @packet_borrow(1); return 0;",
+        &[0; 17],
+        "before 2",
+    ),
+    (
+        "",
+        "for (int i = 0; i < 20; i++) packet_return(packet_borrow(1)); return 0;",
+        &[0],
+        "ret 0 steps 82 left 0",
+    ),
+    (
+        "void f(void) { packet_borrow(1); } ",
+        "f(); return 0;",
+        &[1],
+        "ret 0 steps 5 left 1",
+    ),
+];
+
+#[test]
+fn borrowed_chunks(rt: HostRuntime) -> Result<(), Fail> {
+    for (before, body, bytes, wanted) in BORROWED {
+        let mut frame = Vec::from_slice(rt.alloc(), bytes)?;
+        let (found, wanted) = run_as_marked(rt.alloc(), before, body, wanted, &mut frame)?;
+        assert_eq!(rt; found, wanted, "{body}");
+    }
+    Ok(())
+}
+
+// Chunks that are given back.
+const RETURNED: [(&str, &str, &[u8], &str); 15] = [
+    (
+        "",
+        "uint8_t *a = packet_borrow(4); uint8_t *b = packet_borrow(4); packet_return(b); packet_return(a); return -1;",
+        &[0, 0, 0, 0, 0, 0, 0, 0],
+        "ret -1 steps 7 left 0",
+    ),
+    (
+        "",
+        "uint8_t *a = packet_borrow(4); uint8_t *b = packet_borrow(4); @packet_return(a); return -1;",
+        &[0, 0, 0, 0, 0, 0, 0, 0],
+        "before 3",
+    ),
+    (
+        "",
+        HEADER,
+        &[0, 0, 0, 0, 0, 0, 0, 0, 0, 0, 0, 0, 0],
+        "before 2",
+    ),
+    (
+        "",
+        HEADER,
+        &[0, 0, 0, 0, 0, 0, 0, 0, 0, 0, 0, 0, 0, 0],
+        "ret -1 steps 4 left 0",
+    ),
+    (
+        "",
+        "uint8_t *q = packet_borrow(2); packet_return(q); return @*q;",
+        &[1, 2],
+        "dead",
     ),
     (
         "",
@@ -197,34 +249,15 @@ const RUNS: [(&str, &str, &[u8], &str); 44] = [
     ),
     (
         "",
-        "for (int i = 0; i < 16; i++) packet_borrow(1); return 0;",
-        &[0; 17],
-        "ret 0 steps 50 left 16",
+        "uint8_t a[2]; @packet_return(a); return 0;",
+        &[1, 2],
+        "before 3",
     ),
-    (
-        "",
-        "for (int i = 0; i < 17; i++) @packet_borrow(1); return 0;",
-        &[0; 17],
-        "before 2",
-    ),
-    (
-        "",
-        "for (int i = 0; i < 20; i++) packet_return(packet_borrow(1)); return 0;",
-        &[0],
-        "ret 0 steps 82 left 0",
-    ),
-    (
-        "void f(void) { packet_borrow(1); } ",
-        "f(); return 0;",
-        &[1],
-        "ret 0 steps 5 left 1",
-    ),
-    ("", "uint8_t a[2]; @packet_return(a); return 0;", &[1, 2], "before 3"),
 ];
 
 #[test]
-fn frames_and_chunks(rt: HostRuntime) -> Result<(), Fail> {
-    for (before, body, bytes, wanted) in RUNS {
+fn returned_chunks(rt: HostRuntime) -> Result<(), Fail> {
+    for (before, body, bytes, wanted) in RETURNED {
         let mut frame = Vec::from_slice(rt.alloc(), bytes)?;
         let (found, wanted) = run_as_marked(rt.alloc(), before, body, wanted, &mut frame)?;
         assert_eq!(rt; found, wanted, "{body}");

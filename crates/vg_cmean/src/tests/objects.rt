@@ -150,7 +150,12 @@ const VARIABLES: [(&str, &str, i32, u32); 33] = [
         10,
         2,
     ),
-    ("", "int a[2]; int b[2]; a[1] = 1; b[0] = 2; b[1] = 3; a[0] = 4; return a[0] * 1000 + a[1] * 100 + b[0] * 10 + b[1];", 4123, 5),
+    (
+        "",
+        "int a[2]; int b[2]; a[1] = 1; b[0] = 2; b[1] = 3; a[0] = 4; return a[0] * 1000 + a[1] * 100 + b[0] * 10 + b[1];",
+        4123,
+        5,
+    ),
 ];
 
 // Chunks that are given back.
@@ -215,7 +220,12 @@ const CHUNKS: [(&str, &str, i32, u32); 11] = [
         1,
         4,
     ),
-    (BYTES, "struct s *q; q = packet_borrow(sizeof(struct s)); int v = q->a; packet_return(q); return v;", 1, 5),
+    (
+        BYTES,
+        "struct s *q; q = packet_borrow(sizeof(struct s)); int v = q->a; packet_return(q); return v;",
+        1,
+        5,
+    ),
 ];
 
 #[test]

@@ -211,8 +211,18 @@ const CALLS: [(&str, &str, i32, u32); 26] = [
         8,
         6,
     ),
-    ("int f(int *p) { p = &p[1]; return *p; } ", "int a[2]; a[1] = 6; int *q = a; return f(q) + q[1];", 12, 5),
-    ("int f(int a) { for (int i = 0; i < 5; i++) if (i == a) return i * i; return -1; } ", "int s = 0; for (int j = 1; j < 3; j++) s += f(j); return s;", 5, 27),
+    (
+        "int f(int *p) { p = &p[1]; return *p; } ",
+        "int a[2]; a[1] = 6; int *q = a; return f(q) + q[1];",
+        12,
+        5,
+    ),
+    (
+        "int f(int a) { for (int i = 0; i < 5; i++) if (i == a) return i * i; return -1; } ",
+        "int s = 0; for (int j = 1; j < 3; j++) s += f(j); return s;",
+        5,
+        27,
+    ),
 ];
 
 #[test]
