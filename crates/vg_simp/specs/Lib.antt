@@ -1,0 +1,4 @@
+pub mod Sameness
+pub mod Closed
+pub mod Marking
+pub mod Passing

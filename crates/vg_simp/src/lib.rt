@@ -1,0 +1,9 @@
+// Terms simplified under facts.
+#![tactic(auto)]
+
+mod knowledge;
+mod lists;
+mod marking;
+mod simplifying;
+
+pub use simplifying::simplify;
