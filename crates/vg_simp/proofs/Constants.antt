@@ -160,3 +160,15 @@ pushed_constant first old new marks goal others longer id other was marked befor
 pub goal_constant : (first new : List Term) (marks : List Bool) (others : List TermId) (goal other d : TermId) → AreMarks first goal 0 marks → AreConstants first new marks others → length others ≡ goal.0 + 1 → other ≡ get_or others goal.0 d → KeepsClosed first new goal (Ok other)
 goal_constant first new marks others goal other d marked constants long is =
     record { constant = λ closed. subst (IsConstantOf new goal) (sym (is ∙ get_or_default others goal.0 d (record { 0 = 0 }) (omega (arith, long)))) (constants.each goal (omega (arith, long)) marked.start closed) }
+
+pub keeps_on : (old mid new : List Term) (others : List TermId) (id other : TermId) (result : Result TermId TermStop) → KeepsConstant old mid others id (Ok other) → (IsConstant mid other → (result ≡ Ok other) × (new ≡ mid)) → KeepsConstant old new others id result
+keeps_on old mid new others id other result first stays_so = record {
+  constant = λ is all.
+      let here : IsConstantOf mid id other = first.constant is all in
+      let so = stays_so (here.word, here.constant) in
+      subst (λ (r : Result TermId TermStop). IfOk r (λ x. IsConstantOf new id x)) (sym so.0) (subst (λ (ts : List Term). IsConstantOf ts id other) (sym so.1) here);
+}
+
+pub closed_later : {old new : List Term} {id : TermId} → Grows old new → IsClosed old id → IsClosed new id
+closed_later {old} {new} grows (operation id op parts w here below) =
+    operation id op parts w (ap (λ (ts : List Term). slice_get ts id.0) grows.1 ∙ stays old grows.0 id.0 (slice_get_within old id.0 (nodes.Op op parts, w) here) ∙ here) (λ part there. closed_later grows (below part there))

@@ -1,3 +1,5 @@
 pub mod Sames
 pub mod Marks
 pub mod Constants
+pub mod Knowing
+pub mod Telling

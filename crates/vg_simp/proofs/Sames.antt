@@ -140,3 +140,14 @@ pushed_same first old new facts others longer id other before same grown stand l
 pub goal_same : (old new : List Term) (facts others : List TermId) (goal other d : TermId) → Grown old new → AreSame new facts others → length others ≡ goal.0 + 1 → other ≡ get_or others goal.0 d → Simplifies old new facts goal (Ok other)
 goal_same old new facts others goal other d grown same long is =
     record { grown = grown; same = subst (IsSame new facts goal) (sym (is ∙ get_or_default others goal.0 d (record { 0 = 0 }) (omega (arith, long)))) (same.each goal (omega (arith, long))) }
+
+-- one step after another
+pub simplifies_on : (old mid new : List Term) (facts : List TermId) (id other : TermId) (result : Result TermId TermStop) → All (Stands old) facts → Stands old id → Grown old mid → IsSame mid facts id other → Simplifies mid new facts other result → Simplifies old new facts id result
+simplifies_on old mid new facts id other (Ok last) stand stands grown same next = record {
+  grown = grown_on old mid new grown next.grown;
+  same = same_on new facts id other last (same_later mid new facts id other grown.made next.grown.grows (all_stand_later old mid grown.grows facts stand) (stands_later old mid grown.grows id stands) same) next.same;
+}
+simplifies_on old mid new facts id other (Err stop) stand stands grown same next = record { grown = grown_on old mid new grown next.grown; same = tt }
+
+pub flags_later : (old new : List Term) (facts : List TermId) (i : ℕ) (d : TermId) → Grown old new → All (Stands old) facts → All (λ fact. width_at old fact ≡ 1) facts → i < length facts → width_at new (get_or facts i d) ≡ 1
+flags_later old new facts i d grown stand flags below = width_later old new grown.grows (get_or facts i d) (stand i d below) ∙ flags i d below

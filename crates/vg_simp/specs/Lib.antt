@@ -2,3 +2,4 @@ pub mod Sameness
 pub mod Closed
 pub mod Marking
 pub mod Passing
+pub mod Knowing

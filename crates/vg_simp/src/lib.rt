@@ -2,6 +2,7 @@
 #![tactic(auto)]
 
 mod knowledge;
+mod learning;
 mod lists;
 mod marking;
 mod simplifying;

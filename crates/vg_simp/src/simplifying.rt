@@ -7,6 +7,7 @@ ghost use Rattle.vg_term.specs.Folding.{Folds, IsFolded};
 ghost use Rattle.vg_term.specs.Wiring.{Grown};
 ghost use Rattle.vg_simp.specs.Closed.{IsClosed, IsConstantOf};
 ghost use Rattle.vg_simp.specs.Sameness.{IsSame};
+ghost use Rattle.vg_simp.specs.Knowing.{IsKnown};
 ghost use Rattle.vg_simp.specs.Passing.{AreSame, KeepsClosed, KeepsConstant, Simplifies, replaced};
 
 use crate::knowledge::Knowledge;
@@ -49,8 +50,48 @@ fn built(terms: &mut Terms, op: Op, parts: Parts) -> Result<TermId, TermStop>
 }
 
 impl Knowledge {
+    // A term on what its parts became.
+    #[tactic(auto, using(crate::proofs::Sames::itself_simplifies, crate::proofs::Sames::entries_stand, crate::proofs::Sames::entries_fit, crate::proofs::Sames::entries_within, crate::proofs::Sames::built_same, crate::proofs::Constants::variable_constant))]
+    fn rebuilt(
+        &self,
+        terms: &mut Terms,
+        id: TermId,
+        others: &[TermId],
+    ) -> Result<TermId, TermStop>
+        requires made { AreTerms terms.old }
+        requires stands { Stands terms.old id }
+        requires long { length others.now ≡ id.0 }
+        requires same { AreSame terms.old self.now.facts.items others.now }
+        requires facts { All (Stands terms.old) self.now.facts.items }
+        ensures simplifies { Simplifies terms.old terms.new self.now.facts.items id result }
+        ensures constant { KeepsConstant terms.old terms.new others.now id result }
+    {
+        match terms.node(id) {
+            Node::Var { .. } => Ok(id),
+            Node::Op(op, parts) => {
+                let simpler = entries(parts, others);
+                built(terms, op, simpler)
+            }
+        }
+    }
+
+    // What the facts say of a term alone. A constant stays.
+    #[tactic(auto, using(crate::proofs::Sames::itself_simplifies))]
+    fn finished(&self, terms: &mut Terms, id: TermId) -> Result<TermId, TermStop>
+        requires made { AreTerms terms.old }
+        requires stands { Stands terms.old id }
+        requires known { IsKnown terms.old self.now }
+        ensures simplifies { Simplifies terms.old terms.new self.now.facts.items id result }
+        ensures constant { IsConstant terms.old id → (result ≡ Ok id) × (terms.new ≡ terms.old) }
+    {
+        if terms.constant(id).is_some() {
+            return Ok(id);
+        }
+        Ok(self.replaced(terms, id))
+    }
+
     // What a term becomes, where what the terms before it become is known. One that isn't reached stays as it is.
-    #[tactic(auto, using(crate::proofs::Sames::itself_simplifies, crate::proofs::Sames::entries_stand, crate::proofs::Sames::entries_fit, crate::proofs::Sames::entries_within, crate::proofs::Sames::built_same, crate::proofs::Constants::built_constant, crate::proofs::Constants::variable_constant))]
+    #[tactic(auto, using(crate::proofs::Sames::itself_simplifies))]
     fn simpler(
         &self,
         terms: &mut Terms,
@@ -62,20 +103,15 @@ impl Knowledge {
         requires stands { Stands terms.old id }
         requires long { length others.now ≡ id.0 }
         requires same { AreSame terms.old self.now.facts.items others.now }
-        requires facts { All (Stands terms.old) self.now.facts.items }
+        requires known { IsKnown terms.old self.now }
         ensures simplifies { Simplifies terms.old terms.new self.now.facts.items id result }
         ensures constant { IsTrue is_reached → KeepsConstant terms.old terms.new others.now id result }
     {
         if !is_reached {
             return Ok(id);
         }
-        match terms.node(id) {
-            Node::Var { .. } => Ok(id),
-            Node::Op(op, parts) => {
-                let simpler = entries(parts, others);
-                built(terms, op, simpler)
-            }
-        }
+        let other = self.rebuilt(terms, id, others)?;
+        self.finished(terms, other)
     }
 
     /// A term of the same value wherever the facts are true.
@@ -87,7 +123,7 @@ impl Knowledge {
     ) -> Result<TermId, TermStop>
         requires made { AreTerms terms.old }
         requires stands { Stands terms.old goal }
-        requires facts { All (Stands terms.old) self.now.facts.items }
+        requires known { IsKnown terms.old self.now }
         ensures simplifies { Simplifies terms.old terms.new self.now.facts.items goal result }
         ensures closed { KeepsClosed terms.old terms.new goal result }
     {
@@ -104,6 +140,7 @@ impl Knowledge {
 
 /// A term of the same value under every assignment that makes the facts true. A fact is a term of width 1, and it is true where its value is 1.
 /// For a term without variables it is the constant of its value. A refusal may leave terms that were made on the way; those that stood stay.
+#[tactic(auto, using(crate::proofs::Sames::grown_none))]
 pub fn simplify(
     alloc: Global,
     terms: &mut Terms,
@@ -117,10 +154,9 @@ pub fn simplify(
     ensures kept { IfOk result (λ other. IsSame terms.new facts.now term other) }
     ensures constant { IsClosed terms.old term → IfOk result (λ other. IsConstantOf terms.new term other) }
 {
-    let _count = terms.len();
-    let mut knowledge = Knowledge::new(alloc);
+    let mut knowledge = Knowledge::new(alloc, terms);
     for fact in facts {
-        push(&mut knowledge.facts, *fact)?;
+        knowledge.learn(alloc, terms, *fact)?;
     }
     knowledge.simplified(alloc, terms, term)
 }

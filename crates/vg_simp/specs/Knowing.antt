@@ -1,0 +1,35 @@
+-- What is known under facts. No public clause rests on this file.
+use Rattle.std.specs.Prelude.{◌≡◌, ◌≤◌, ℕ, Bool, List, ◌++◌, ◌∷◌, [], All, Result, OnOk}
+use Rattle.vg_bits.specs.Words.{bit}
+use Rattle.vg_bits.specs.declared.word.Word.{Word}
+use Rattle.vg_term.specs.Terms.{Term, Stands, width_at}
+use Rattle.vg_term.specs.Value.{value_of, Assigns}
+use Rattle.vg_term.specs.Wiring.{Grown}
+use Rattle.vg_term.specs.declared.node.TermId.{TermId}
+use Rattle.vg_term.specs.declared.stops.TermStop.{TermStop}
+use Rattle.vg_simp.specs.Sameness.{AreTrue, IsSame}
+use Rattle.vg_simp.specs.declared.knowledge.Knowledge.{Knowledge}
+use Rattle.vg_simp.specs.declared.knowledge.Replacement.{Replacement}
+use Rattle.vg_simp.specs.declared.knowledge.Literal.{Literal}
+
+-- a term and one that is the same
+pub record Replaces (terms : List Term) (facts : List TermId) (replacement : Replacement) : Type 0 where
+  pub stands : Stands terms replacement.term
+  pub same : IsSame terms facts replacement.term replacement.other
+
+-- the term says the truth, as it is told, wherever the facts are true
+pub record IsTold (terms : List Term) (facts : List TermId) (literal : Literal) : Type 0 where
+  pub stands : Stands terms literal.term
+  pub width : width_at terms literal.term ≡ 1
+  pub value : (words : List Word) → Assigns words terms → AreTrue terms words facts → value_of terms words literal.term ≡ bit literal.holds
+
+-- all that is kept follows from the facts
+pub record IsKnown (terms : List Term) (knowledge : Knowledge) : Type 0 where
+  pub facts : All (Stands terms) knowledge.facts.items
+  pub same : All (Replaces terms knowledge.facts.items) knowledge.same.items
+
+-- knowledge grew, under the same facts
+pub record Learns (old new : List Term) (before after : Knowledge) (result : Result Unit TermStop) : Type 0 where
+  pub grown : Grown old new
+  pub facts : OnOk result (after.facts.items ≡ before.facts.items)
+  pub known : OnOk result (IsKnown new after)
