@@ -3,3 +3,4 @@ pub mod Marks
 pub mod Constants
 pub mod Knowing
 pub mod Telling
+pub mod Ranges

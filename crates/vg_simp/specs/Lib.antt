@@ -2,4 +2,5 @@ pub mod Sameness
 pub mod Closed
 pub mod Marking
 pub mod Passing
+pub mod Ranges
 pub mod Knowing
