@@ -10,10 +10,13 @@ use Rattle.vg_term.specs.Folding.{Grows}
 use Rattle.vg_term.specs.declared.node.TermId.{TermId}
 use Rattle.vg_term.proofs.Wires.{stands_later, width_later, value_later, assigns_later}
 use Rattle.vg_simp.specs.Sameness.{AreTrue, IsSame}
-use Rattle.vg_simp.specs.Knowing.{Replaces, IsTold, IsKnown, Learns}
+use Rattle.vg_simp.specs.Ranges.{IsIn, IsWithin}
+use Rattle.vg_simp.specs.Knowing.{Replaces, Bounds, IsTold, IsKnown, Learns}
 use Rattle.vg_simp.specs.declared.knowledge.Knowledge.{Knowledge}
 use Rattle.vg_simp.specs.declared.knowledge.Replacement.{Replacement}
 use Rattle.vg_simp.specs.declared.knowledge.Literal.{Literal}
+use Rattle.vg_simp.specs.declared.knowledge.Bound.{Bound}
+use Rattle.vg_simp.specs.declared.range.Range.{Range}
 use Rattle.vg_simp.proofs.Sames.{same_on, same_later, true_before, all_stand_later}
 
 pub all_left : {X : Type 0} (P : X → Type 0) (xs ys : List X) → All P (xs ++ ys) → All P xs
@@ -22,10 +25,11 @@ all_left P xs ys all k d below = subst P (get_or_append_left xs ys d k below) (a
 pub all_last : {X : Type 0} (P : X → Type 0) (xs : List X) (x : X) → All P (xs ++ x ∷ []) → P x
 all_last P xs x all = subst P (get_or-append_seam xs x [] x) (all (length xs) x (omega (arith, length-append xs (x ∷ []))))
 
-pub nothing_known : (terms : List Term) (knowledge : Knowledge) → knowledge.facts.items ≡ [] → knowledge.same.items ≡ [] → IsKnown terms knowledge
-nothing_known terms knowledge e f = record {
+pub nothing_known : (terms : List Term) (knowledge : Knowledge) → knowledge.facts.items ≡ [] → knowledge.same.items ≡ [] → knowledge.bounds.items ≡ [] → IsKnown terms knowledge
+nothing_known terms knowledge e f g = record {
   facts = subst (All (Stands terms)) (sym e) (All-nil (Stands terms));
   same = subst (All (Replaces terms knowledge.facts.items)) (sym f) (All-nil (Replaces terms knowledge.facts.items));
+  bounds = subst (All (Bounds terms knowledge.facts.items)) (sym g) (All-nil (Bounds terms knowledge.facts.items));
 }
 
 -- an entry leads on
@@ -36,20 +40,47 @@ found_same terms knowledge id last other known same there =
 pub all_push : {X : Type 0} (P : X → Type 0) (xs : List X) (x : X) → All P xs → P x → All P (xs ++ x ∷ [])
 all_push P xs x all p = All-append P xs (x ∷ []) all (All-cons P x [] p (All-nil P))
 
+same_kept : (terms : List Term) (before after : Knowledge) → after.facts.items ≡ before.facts.items → after.same.items ≡ before.same.items → All (Replaces terms before.facts.items) before.same.items → All (Replaces terms after.facts.items) after.same.items
+same_kept terms before after facts is all = subst (λ (fs : List TermId). All (Replaces terms fs) after.same.items) (sym facts) (subst (All (Replaces terms before.facts.items)) (sym is) all)
+
+bounds_kept : (terms : List Term) (before after : Knowledge) → after.facts.items ≡ before.facts.items → after.bounds.items ≡ before.bounds.items → All (Bounds terms before.facts.items) before.bounds.items → All (Bounds terms after.facts.items) after.bounds.items
+bounds_kept terms before after facts is all = subst (λ (fs : List TermId). All (Bounds terms fs) after.bounds.items) (sym facts) (subst (All (Bounds terms before.facts.items)) (sym is) all)
+
 pub replacement_known : (terms : List Term) (before after : Knowledge) (term other : TermId) → IsKnown terms before → Stands terms term → IsSame terms before.facts.items term other → after.facts.items ≡ before.facts.items →
-    after.same.items ≡ before.same.items ++ (record { term = term; other = other }) ∷ [] → IsKnown terms after
-replacement_known terms before after term other known stands same facts more =
+    after.same.items ≡ before.same.items ++ (record { term = term; other = other }) ∷ [] → after.bounds.items ≡ before.bounds.items → IsKnown terms after
+replacement_known terms before after term other known stands same facts more bounds =
     let replaces : Replaces terms before.facts.items (record { term = term; other = other }) = record { stands = stands; same = same } in
     record {
       facts = subst (All (Stands terms)) (sym facts) known.facts;
       same = subst (λ (fs : List TermId). All (Replaces terms fs) after.same.items) (sym facts)
       (subst (All (Replaces terms before.facts.items)) (sym more) (all_push (Replaces terms before.facts.items) before.same.items (record { term = term; other = other }) known.same replaces));
+      bounds = bounds_kept terms before after facts bounds known.bounds;
+    }
+
+pub bound_known : (terms : List Term) (before after : Knowledge) (term : TermId) (range : Range) → IsKnown terms before → Stands terms term → IsWithin terms before.facts.items term range → after.facts.items ≡ before.facts.items →
+    after.same.items ≡ before.same.items → after.bounds.items ≡ before.bounds.items ++ (record { term = term; range = range }) ∷ [] → IsKnown terms after
+bound_known terms before after term range known stands within facts same more =
+    let bounds : Bounds terms before.facts.items (record { term = term; range = range }) = record { stands = stands; within = within } in
+    record {
+      facts = subst (All (Stands terms)) (sym facts) known.facts;
+      same = same_kept terms before after facts same known.same;
+      bounds = subst (λ (fs : List TermId). All (Bounds terms fs) after.bounds.items) (sym facts)
+      (subst (All (Bounds terms before.facts.items)) (sym more) (all_push (Bounds terms before.facts.items) before.bounds.items (record { term = term; range = range }) known.bounds bounds));
     }
 
 -- ---- more terms
 
 replaces_later : (old new : List Term) (facts : List TermId) → AreTerms old → Grows old new → All (Stands old) facts → (r : Replacement) → Replaces old facts r → Replaces new facts r
 replaces_later old new facts made grows stand r is = record { stands = stands_later old new grows r.term is.stands; same = same_later old new facts r.term r.other made grows stand is.stands is.same }
+
+bounds_later : (old new : List Term) (facts : List TermId) → AreTerms old → Grows old new → All (Stands old) facts → (b : Bound) → Bounds old facts b → Bounds new facts b
+bounds_later old new facts made grows stand b is = record {
+  stands = stands_later old new grows b.term is.stands;
+  within = record {
+    value = λ words assigns true.
+        subst (IsIn b.range) (sym (value_later old new made grows words b.term is.stands)) (is.within.value words (assigns_later old new grows words assigns) (true_before old new made grows words facts stand true));
+  };
+}
 
 pub told_later : (old new : List Term) (facts : List TermId) → AreTerms old → Grows old new → All (Stands old) facts → (l : Literal) → IsTold old facts l → IsTold new facts l
 told_later old new facts made grows stand l is = record {
@@ -62,6 +93,7 @@ pub known_later : (old new : List Term) (knowledge : Knowledge) → AreTerms old
 known_later old new knowledge made grows known = record {
   facts = all_stand_later old new grows knowledge.facts.items known.facts;
   same = All-weaker (Replaces old knowledge.facts.items) (Replaces new knowledge.facts.items) (replaces_later old new knowledge.facts.items made grows known.facts) knowledge.same.items known.same;
+  bounds = All-weaker (Bounds old knowledge.facts.items) (Bounds new knowledge.facts.items) (bounds_later old new knowledge.facts.items made grows known.facts) knowledge.bounds.items known.bounds;
 }
 
 -- ---- more facts
@@ -75,12 +107,18 @@ same_more terms facts more id other is = record { stands = is.stands; width = is
 replaces_more : (terms : List Term) (facts more : List TermId) (r : Replacement) → Replaces terms facts r → Replaces terms (facts ++ more) r
 replaces_more terms facts more r is = record { stands = is.stands; same = same_more terms facts more r.term r.other is.same }
 
-pub known_more : (terms : List Term) (before after : Knowledge) (fact : TermId) → IsKnown terms before → Stands terms fact → after.facts.items ≡ before.facts.items ++ fact ∷ [] → after.same.items ≡ before.same.items → IsKnown terms after
-known_more terms before after fact known stands facts same = record {
+bounds_more : (terms : List Term) (facts more : List TermId) (b : Bound) → Bounds terms facts b → Bounds terms (facts ++ more) b
+bounds_more terms facts more b is = record { stands = is.stands; within = record { value = λ words assigns true. is.within.value words assigns (true_fewer terms words facts more true) } }
+
+pub known_more : (terms : List Term) (before after : Knowledge) (fact : TermId) → IsKnown terms before → Stands terms fact → after.facts.items ≡ before.facts.items ++ fact ∷ [] → after.same.items ≡ before.same.items → after.bounds.items ≡ before.bounds.items → IsKnown terms after
+known_more terms before after fact known stands facts same bounds = record {
   facts = subst (All (Stands terms)) (sym facts) (all_push (Stands terms) before.facts.items fact known.facts stands);
   same = subst (λ (fs : List TermId). All (Replaces terms fs) after.same.items) (sym facts)
   (subst (All (Replaces terms (before.facts.items ++ fact ∷ []))) (sym same)
   (All-weaker (Replaces terms before.facts.items) (Replaces terms (before.facts.items ++ fact ∷ [])) (replaces_more terms before.facts.items (fact ∷ [])) before.same.items known.same));
+  bounds = subst (λ (fs : List TermId). All (Bounds terms fs) after.bounds.items) (sym facts)
+  (subst (All (Bounds terms (before.facts.items ++ fact ∷ []))) (sym bounds)
+  (All-weaker (Bounds terms before.facts.items) (Bounds terms (before.facts.items ++ fact ∷ [])) (bounds_more terms before.facts.items (fact ∷ [])) before.bounds.items known.bounds));
 }
 
 -- a fact is told true, and so is what is the same

@@ -4,3 +4,6 @@ pub mod Constants
 pub mod Knowing
 pub mod Telling
 pub mod Ranges
+pub mod Within
+pub mod Judgements
+pub mod Bounded

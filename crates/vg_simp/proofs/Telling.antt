@@ -166,3 +166,24 @@ here_is terms id op other parts shape w here e f = here ∙ (λ j. Some (nodes.O
 
 pub told_so : (terms : List Term) (facts : List TermId) (l : Literal) (holds : Bool) → l.holds ≡ holds → IsTold terms facts l → IsTold terms facts (literal l.term holds)
 told_so terms facts l holds is told = subst (λ (h : Bool). IsTold terms facts (literal l.term h)) is told
+
+-- ---- the parts stand
+
+module _ {terms : List Term} (made : AreTerms terms) (id : TermId) (op : Op) (parts : Parts) (w : ℕ) (here : slice_get terms id.0 ≡ Some (nodes.Op op parts, w)) where
+  listed_stand : (shape : Parts) → parts ≡ shape → All (Stands terms) (listed shape)
+  listed_stand shape is = subst (λ (p : Parts). All (Stands terms) (listed p)) is (part_stands made id op parts w here)
+
+  pub lone_stands : (a : TermId) → parts ≡ kinds.One a → Stands terms a
+  lone_stands a is = All-head (Stands terms) a [] (listed_stand (kinds.One a) is)
+
+  pub left_stands : (a b : TermId) → parts ≡ kinds.Two a b → Stands terms a
+  left_stands a b is = All-head (Stands terms) a (b ∷ []) (listed_stand (kinds.Two a b) is)
+
+  pub right_stands : (a b : TermId) → parts ≡ kinds.Two a b → Stands terms b
+  right_stands a b is = All-head (Stands terms) b [] (All-tail (Stands terms) a (b ∷ []) (listed_stand (kinds.Two a b) is))
+
+  pub then_stands : (c a b : TermId) → parts ≡ kinds.Three c a b → Stands terms a
+  then_stands c a b is = All-head (Stands terms) a (b ∷ []) (All-tail (Stands terms) c (a ∷ b ∷ []) (listed_stand (kinds.Three c a b) is))
+
+  pub else_stands : (c a b : TermId) → parts ≡ kinds.Three c a b → Stands terms b
+  else_stands c a b is = All-head (Stands terms) b [] (All-tail (Stands terms) a (b ∷ []) (All-tail (Stands terms) c (a ∷ b ∷ []) (listed_stand (kinds.Three c a b) is)))

@@ -1,5 +1,6 @@
 -- Ranges of numbers, and what operations make of them. No public clause rests on this file.
-use Rattle.std.specs.Prelude.{◌≡◌, ◌≤◌, ◌<◌, ◌^◌, ℕ, List}
+use Rattle.std.specs.Prelude.{◌≡◌, ◌≤◌, ◌<◌, ◌^◌, ℕ, Bool, List, Option, IfSome}
+use Rattle.vg_bits.specs.Words.{bit}
 use Rattle.vg_bits.specs.declared.word.Word.{Word}
 use Rattle.vg_term.specs.Operations.{Bits, value_one, value_two}
 use Rattle.vg_term.specs.Terms.{Term}
@@ -17,6 +18,10 @@ pub record IsIn (range : Range) (n : ℕ) : Type 0 where
 -- whatever lies in both lies in the other
 pub record IsMeet (x y result : Range) : Type 0 where
   pub each : (n : ℕ) → IsIn x n → IsIn y n → IsIn result n
+
+-- the same, where there may be no second one
+pub record IsMet (x : Range) (y : Option Range) (result : Range) : Type 0 where
+  pub each : (n : ℕ) → IsIn x n → IfSome y (λ r. IsIn r n) → IsIn result n
 
 -- whatever lies in either lies in the other
 pub record IsHull (x y result : Range) : Type 0 where
@@ -42,6 +47,14 @@ pub record CoversOne (op : Op) (width : ℕ) (x result : Range) : Type 0 where
 -- what the operation makes of words of this width in the ranges lies in the other
 pub record CoversTwo (op : Op) (width : ℕ) (x y result : Range) : Type 0 where
   pub each : (m n : ℕ) → IsIn x m → IsIn y n → IsIn result (value_two op (word width m) (word width n))
+
+-- the function says the same truth, as a bit, of all numbers in the ranges
+pub record Decides (f : ℕ → ℕ → ℕ) (x y : Range) (holds : Bool) : Type 0 where
+  pub each : (m n : ℕ) → IsIn x m → IsIn y n → f m n ≡ bit holds
+
+-- wherever the facts are true, the term has this value
+pub record IsFixed (terms : List Term) (facts : List TermId) (id : TermId) (value : ℕ) : Type 0 where
+  pub each : (words : List Word) → Assigns words terms → AreTrue terms words facts → value_of terms words id ≡ value
 
 -- wherever the facts are true, the value lies in the range
 pub record IsWithin (terms : List Term) (facts : List TermId) (id : TermId) (range : Range) : Type 0 where

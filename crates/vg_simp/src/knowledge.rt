@@ -3,8 +3,10 @@
 ghost use Rattle.std.specs.Prelude.{◌≡◌, [], Contains, IfSome, OnOk};
 ghost use Rattle.vg_term.specs.Terms.{AreTerms, Stands};
 ghost use Rattle.vg_simp.specs.Sameness.{IsSame};
+ghost use Rattle.vg_simp.specs.Ranges.{IsWithin};
 ghost use Rattle.vg_simp.specs.Knowing.{IsKnown};
 
+use crate::range::Range;
 use std::alloc::Global;
 use vg_term::{TermId, TermStop, Terms};
 
@@ -22,6 +24,13 @@ pub(crate) struct Literal {
     pub(crate) holds: bool,
 }
 
+/// A term and a range that its value keeps to under the facts.
+#[derive(Clone, Copy, PartialEq, Eq, Debug)]
+pub(crate) struct Bound {
+    pub(crate) term: TermId,
+    pub(crate) range: Range,
+}
+
 /// What is known under facts.
 #[derive(Drop)]
 pub(crate) struct Knowledge {
@@ -29,6 +38,8 @@ pub(crate) struct Knowledge {
     pub(crate) facts: Vec<TermId>,
     /// Terms, and what stands for each.
     pub(crate) same: Vec<Replacement>,
+    /// Terms, and the ranges of their values.
+    pub(crate) bounds: Vec<Bound>,
 }
 
 impl Knowledge {
@@ -43,6 +54,7 @@ impl Knowledge {
         Knowledge {
             facts: Vec::new(alloc),
             same: Vec::new(alloc),
+            bounds: Vec::new(alloc),
         }
     }
 
@@ -90,6 +102,22 @@ impl Knowledge {
     {
         let _count = terms.len();
         match self.same.push(Replacement { term, other }) {
+            Ok(_) => Ok(()),
+            Err(_) => Err(TermStop::Memory),
+        }
+    }
+
+    /// Notes a range that a term's value keeps to.
+    #[tactic(auto, using(crate::proofs::Knowing::bound_known))]
+    pub(crate) fn bound(&mut self, terms: &Terms, term: TermId, range: Range) -> Result<(), TermStop>
+        requires known { IsKnown terms.now self.old }
+        requires stands { Stands terms.now term }
+        requires within { IsWithin terms.now self.old.facts.items term range }
+        ensures facts { OnOk result (self.new.facts.items ≡ self.old.facts.items) }
+        ensures known { OnOk result (IsKnown terms.now self.new) }
+    {
+        let _count = terms.len();
+        match self.bounds.push(Bound { term, range }) {
             Ok(_) => Ok(()),
             Err(_) => Err(TermStop::Memory),
         }

@@ -4,7 +4,7 @@ ghost use Rattle.std.specs.Prelude.{◌≡◌, ◌++◌, ◌∷◌, [], All, OnO
 ghost use Rattle.vg_term.specs.Terms.{AreTerms, Stands, width_at};
 ghost use Rattle.vg_term.specs.Wiring.{Grown};
 ghost use Rattle.vg_simp.specs.Sameness.{IsSame};
-ghost use Rattle.vg_simp.specs.Knowing.{IsKnown, IsTold, Learns};
+ghost use Rattle.vg_simp.specs.Knowing.{IsKnown, IsOther, IsTold, Learns};
 
 use crate::knowledge::{Knowledge, Literal};
 use crate::lists::{push, push_literal};
@@ -75,6 +75,21 @@ impl Knowledge {
         }
     }
 
+    // Two terms differ: each is bounded by the other.
+    #[tactic(auto, using(crate::proofs::Bounded::other_back))]
+    fn part(&mut self, terms: &Terms, a: TermId, b: TermId) -> Result<(), TermStop>
+        requires made { AreTerms terms.now }
+        requires known { IsKnown terms.now self.old }
+        requires first { Stands terms.now a }
+        requires second { Stands terms.now b }
+        requires other { IsOther terms.now self.old.facts.items a b }
+        ensures facts { OnOk result (self.new.facts.items ≡ self.old.facts.items) }
+        ensures known { OnOk result (IsKnown terms.now self.new) }
+    {
+        self.bound_other(terms, a, b)?;
+        self.bound_other(terms, b, a)
+    }
+
     // Notes what a truth says of the parts of its term.
     fn relate(&mut self, terms: &Terms, literal: Literal) -> Result<(), TermStop>
         requires made { AreTerms terms.now }
@@ -88,6 +103,9 @@ impl Knowledge {
         };
         match (op, parts, literal.holds) {
             (Op::Eq, Parts::Two(a, b), true) => self.equate(terms, a, b),
+            (Op::Eq, Parts::Two(a, b), false) => self.part(terms, a, b),
+            (Op::Ult, Parts::Two(a, b), true) => self.bound_apart(terms, a, 1, b),
+            (Op::Ult, Parts::Two(a, b), false) => self.bound_apart(terms, b, 0, a),
             _ => Ok(()),
         }
     }

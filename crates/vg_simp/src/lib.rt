@@ -1,12 +1,15 @@
 // Terms simplified under facts.
 #![tactic(auto)]
 
+mod bounding;
 mod covering;
+mod judging;
 mod knowledge;
 mod learning;
 mod lists;
 mod marking;
 mod range;
+mod ranging;
 mod simplifying;
 
 pub use simplifying::simplify;

@@ -87,7 +87,11 @@ impl Knowledge {
         if terms.constant(id).is_some() {
             return Ok(id);
         }
-        Ok(self.replaced(terms, id))
+        let other = self.replaced(terms, id);
+        if terms.constant(other).is_some() {
+            return Ok(other);
+        }
+        self.judged(terms, other)
     }
 
     // What a term becomes, where what the terms before it become is known. One that isn't reached stays as it is.
