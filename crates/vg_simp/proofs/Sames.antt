@@ -34,6 +34,21 @@ same_on terms facts a b c f g = record {
   value = λ words assigns true. g.value words assigns true ∙ f.value words assigns true;
 }
 
+-- what stands for two that are the same
+pub joined_same : (terms : List Term) (facts : List TermId) (a b x y : TermId) → IsSame terms facts a x → IsSame terms facts b y → IsSame terms facts a b → IsSame terms facts x y
+joined_same terms facts a b x y f g same = record {
+  stands = g.stands;
+  width = g.width ∙ same.width ∙ sym f.width;
+  value = λ words assigns true. g.value words assigns true ∙ same.value words assigns true ∙ sym (f.value words assigns true);
+}
+
+pub joined_back : (terms : List Term) (facts : List TermId) (a b x y : TermId) → IsSame terms facts a x → IsSame terms facts b y → IsSame terms facts a b → IsSame terms facts y x
+joined_back terms facts a b x y f g same = record {
+  stands = f.stands;
+  width = f.width ∙ sym same.width ∙ sym g.width;
+  value = λ words assigns true. f.value words assigns true ∙ sym (same.value words assigns true) ∙ sym (g.value words assigns true);
+}
+
 -- ---- where terms are added
 
 pub grown_none : (terms : List Term) → AreTerms terms → Grown terms terms

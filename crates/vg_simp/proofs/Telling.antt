@@ -124,13 +124,6 @@ module _ {terms : List Term} (made : AreTerms terms) (facts : List TermId) (id a
       value = λ words assigns all. sym (values_equal words assigns all);
     }
 
-    pub equal_back : IsSame terms facts b a
-    equal_back = record {
-      stands = equal_first;
-      width = (is_made made id.0 ops.Eq (kinds.Two a b) w here).fits;
-      value = λ words assigns all. values_equal words assigns all;
-    }
-
 -- of a bit turned
 not_bit : (v : ℕ) (holds other : Bool) → v ≤ 1 → formulas.not 1 v ≡ formulas.bit holds → (holds ≡ true → other ≡ false) → (holds ≡ false → other ≡ true) → v ≡ formulas.bit other
 not_bit v true other below e t f = let ones : formulas.all_ones 1 ≡ 1 = refl in let zero : v ≡ 0 = omega (arith, below, e, ones) in zero ∙ sym (ap formulas.bit (t refl))

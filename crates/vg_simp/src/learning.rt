@@ -33,7 +33,7 @@ impl Knowledge {
         push_literal(todo, term, holds)
     }
 
-    // Adds the truths of a term's parts that follow from its own.
+    // Adds the truths of a term's parts that follow from its own, so that the first is noted next.
     fn open(&self, terms: &Terms, literal: Literal, todo: &mut Vec<Literal>) -> Result<(), TermStop>
         requires made { AreTerms terms.now }
         requires told { IsTold terms.now self.now.facts.items literal }
@@ -45,33 +45,38 @@ impl Knowledge {
         };
         match (op, parts, literal.holds) {
             (Op::And, Parts::Two(a, b), true) => {
-                self.follow(terms, todo, a, true)?;
-                self.follow(terms, todo, b, true)
+                self.follow(terms, todo, b, true)?;
+                self.follow(terms, todo, a, true)
             }
             (Op::Or, Parts::Two(a, b), false) => {
-                self.follow(terms, todo, a, false)?;
-                self.follow(terms, todo, b, false)
+                self.follow(terms, todo, b, false)?;
+                self.follow(terms, todo, a, false)
             }
             (Op::Not, Parts::One(a), holds) => self.follow(terms, todo, a, !holds),
             _ => Ok(()),
         }
     }
 
-    // Two terms are the same: the later one is replaced, or the one that is no constant.
+    // Two terms are the same: what stands for the later one is replaced, or what is no constant.
+    #[tactic(auto, using(crate::proofs::Sames::joined_same, crate::proofs::Sames::joined_back))]
     fn equate(&mut self, terms: &Terms, a: TermId, b: TermId) -> Result<(), TermStop>
         requires made { AreTerms terms.now }
         requires known { IsKnown terms.now self.old }
         requires first { Stands terms.now a }
         requires second { Stands terms.now b }
         requires same { IsSame terms.now self.old.facts.items a b }
-        requires back { IsSame terms.now self.old.facts.items b a }
         ensures facts { OnOk result (self.new.facts.items ≡ self.old.facts.items) }
         ensures known { OnOk result (IsKnown terms.now self.new) }
     {
-        if terms.constant(b).is_some() || terms.constant(a).is_none() && b.0 < a.0 {
-            self.replace(terms, a, b)
+        let x = self.replaced(terms, a);
+        let y = self.replaced(terms, b);
+        if x.0 == y.0 {
+            return Ok(());
+        }
+        if terms.constant(y).is_some() || terms.constant(x).is_none() && y.0 < x.0 {
+            self.replace(terms, x, y)
         } else {
-            self.replace(terms, b, a)
+            self.replace(terms, y, x)
         }
     }
 

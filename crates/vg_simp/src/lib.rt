@@ -11,5 +11,7 @@ mod marking;
 mod range;
 mod ranging;
 mod simplifying;
+#[cfg(test)]
+mod tests;
 
 pub use simplifying::simplify;

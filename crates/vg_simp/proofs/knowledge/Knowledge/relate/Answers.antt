@@ -2,7 +2,7 @@ use Rattle.std.proofs.Common.{true, false}
 use Rattle.vg_term.specs.Terms.{width_at}
 use Rattle.vg_term.specs.declared.node.Op.TheVariants as ops
 use Rattle.vg_term.specs.declared.node.Parts.TheVariants as kinds
-use Rattle.vg_simp.proofs.Telling.{here_is, told_so, left_stands, right_stands, equal_first, equal_second, equal_same, equal_back}
+use Rattle.vg_simp.proofs.Telling.{here_is, told_so, left_stands, right_stands, equal_first, equal_second, equal_same}
 use Rattle.vg_simp.proofs.Bounded.{less_apart, most_apart, apart_other}
 use Rattle.vg_simp.proofs.knowledge.Knowledge.relate.Goals as goal
 
@@ -17,10 +17,6 @@ equate-requires-clause-second c =
 pub equate-requires-clause-same : goal.equate-requires-clause-same
 equate-requires-clause-same c =
     equal_same c.requires.made c.args.self.now.facts.items c.args.literal.term c.in-Eq-Two-true.a c.in-Eq-Two-true.b (width_at c.args.terms.now c.args.literal.term) (here_is c.args.terms.now c.args.literal.term c.in-Op.op ops.Eq c.in-Op.parts (kinds.Two c.in-Eq-Two-true.a c.in-Eq-Two-true.b) (width_at c.args.terms.now c.args.literal.term) c.in-Op.ensures.node c.in-Eq-Two-true.is-0 c.in-Eq-Two-true.is-1) (told_so c.args.terms.now c.args.self.now.facts.items c.args.literal true c.in-Eq-Two-true.is-2 c.requires.told)
-
-pub equate-requires-clause-back : goal.equate-requires-clause-back
-equate-requires-clause-back c =
-    equal_back c.requires.made c.args.self.now.facts.items c.args.literal.term c.in-Eq-Two-true.a c.in-Eq-Two-true.b (width_at c.args.terms.now c.args.literal.term) (here_is c.args.terms.now c.args.literal.term c.in-Op.op ops.Eq c.in-Op.parts (kinds.Two c.in-Eq-Two-true.a c.in-Eq-Two-true.b) (width_at c.args.terms.now c.args.literal.term) c.in-Op.ensures.node c.in-Eq-Two-true.is-0 c.in-Eq-Two-true.is-1) (told_so c.args.terms.now c.args.self.now.facts.items c.args.literal true c.in-Eq-Two-true.is-2 c.requires.told)
 
 pub part-requires-clause-first : goal.part-requires-clause-first
 part-requires-clause-first c = left_stands c.requires.made c.args.literal.term c.in-Op.op c.in-Op.parts (width_at c.args.terms.now c.args.literal.term) c.in-Op.ensures.node c.in-Eq-Two-false.a c.in-Eq-Two-false.b c.in-Eq-Two-false.is-1
