@@ -7,3 +7,4 @@ pub mod Ranges
 pub mod Within
 pub mod Judgements
 pub mod Bounded
+pub mod Summed

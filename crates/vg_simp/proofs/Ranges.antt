@@ -26,10 +26,10 @@ hull_each x y r low high = record {
 
 -- ---- sums and differences
 
-add_plain : (w m n : ℕ) → m + n < 2 ^ w → words.add w m n ≡ m + n
+pub add_plain : (w m n : ℕ) → m + n < 2 ^ w → words.add w m n ≡ m + n
 add_plain w m n below = mod-eq_of_lt below
 
-wrapped_once : (p s : ℕ) → p ≤ s → s < p + p → s % p ≡ s - p
+pub wrapped_once : (p s : ℕ) → p ≤ s → s < p + p → s % p ≡ s - p
 wrapped_once p s le below =
     let e : s ≡ (s - p) + p * 1 = omega (arith, le) in
     ap (λ n. n % p) e ∙ add-mul-mod_self_left (s - p) p 1 ∙ mod-eq_of_lt (omega (arith, le, below))

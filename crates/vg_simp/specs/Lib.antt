@@ -3,4 +3,5 @@ pub mod Closed
 pub mod Marking
 pub mod Passing
 pub mod Ranges
+pub mod Sums
 pub mod Knowing

@@ -10,6 +10,7 @@ ghost use Rattle.vg_simp.specs.Passing.{Simplifies};
 
 use crate::knowledge::Knowledge;
 use crate::range::Range;
+use crate::summing::build_sum;
 use vg_bits::Word;
 use vg_term::{Node, Op, Parts, TermId, TermStop, Terms};
 
@@ -115,7 +116,7 @@ impl Knowledge {
     }
 
     /// What the ranges say of a term alone.
-    #[tactic(auto, using(crate::proofs::Sames::itself_simplifies))]
+    #[tactic(auto, using(crate::proofs::Sames::itself_simplifies, crate::proofs::Summed::wide_sum_simplifies))]
     pub(crate) fn judged(&self, terms: &mut Terms, term: TermId) -> Result<TermId, TermStop>
         requires made { AreTerms terms.old }
         requires stands { Stands terms.old term }
@@ -131,6 +132,9 @@ impl Knowledge {
         }
         if let Some(other) = self.uncut(terms, term) {
             return Ok(other);
+        }
+        if let Some(sum) = self.wide_sum_of(terms, term) {
+            return build_sum(terms, sum);
         }
         Ok(term)
     }

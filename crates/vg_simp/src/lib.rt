@@ -11,6 +11,7 @@ mod marking;
 mod range;
 mod ranging;
 mod simplifying;
+mod summing;
 #[cfg(test)]
 mod tests;
 

@@ -162,3 +162,59 @@ fn narrowed(alloc: Global) -> Option<bool> {
 fn bounds_that_leave_one_number(rt: HostRuntime) {
     assert!(rt; narrowed(rt.alloc()) != Some(false));
 }
+
+// Where x is from 20 to 999, the extension of x + 5 or x - 20 is that of x and a constant of its width.
+fn extended(alloc: Global) -> Option<bool> {
+    let mut terms = Terms::new(alloc).ok()?;
+    let x = terms.var(16).ok()?;
+    let least = word(&mut terms, 16, 20)?;
+    let most = word(&mut terms, 16, 1000)?;
+    let five = word(&mut terms, 16, 5)?;
+    let below = two(&mut terms, Op::Ult, x, most)?;
+    let short = two(&mut terms, Op::Ult, x, least)?;
+    let long = one(&mut terms, Op::Not, short)?;
+    let fact = two(&mut terms, Op::And, below, long)?;
+    let more = two(&mut terms, Op::Add, x, five)?;
+    let less = two(&mut terms, Op::Sub, x, least)?;
+    let wide_more = one(&mut terms, Op::Zext(32), more)?;
+    let wide_less = one(&mut terms, Op::Zext(32), less)?;
+    let wide = one(&mut terms, Op::Zext(32), x)?;
+    let up = word(&mut terms, 32, 5)?;
+    let down = word(&mut terms, 32, 4_294_967_276)?;
+    let first = two(&mut terms, Op::Add, wide, up)?;
+    let second = two(&mut terms, Op::Add, wide, down)?;
+    let simple_more = under(alloc, &mut terms, wide_more, fact)?;
+    let simple_less = under(alloc, &mut terms, wide_less, fact)?;
+    Some(simple_more == first && simple_less == second)
+}
+
+#[test]
+fn sums_that_do_not_wrap(rt: HostRuntime) {
+    assert!(rt; extended(rt.alloc()) != Some(false));
+}
+
+// Where x + 8 is at most y, and doesn't wrap, x + 7 is below y, and y is not x.
+fn apart(alloc: Global) -> Option<bool> {
+    let mut terms = Terms::new(alloc).ok()?;
+    let x = terms.var(32).ok()?;
+    let y = terms.var(32).ok()?;
+    let most = word(&mut terms, 32, 4096)?;
+    let eight = word(&mut terms, 32, 8)?;
+    let seven = word(&mut terms, 32, 7)?;
+    let small = two(&mut terms, Op::Ult, x, most)?;
+    let end = two(&mut terms, Op::Add, x, eight)?;
+    let last = two(&mut terms, Op::Add, x, seven)?;
+    let past = two(&mut terms, Op::Ult, y, end)?;
+    let within = one(&mut terms, Op::Not, past)?;
+    let fact = two(&mut terms, Op::And, small, within)?;
+    let inside = two(&mut terms, Op::Ult, last, y)?;
+    let same = two(&mut terms, Op::Eq, x, y)?;
+    let first = under(alloc, &mut terms, inside, fact)?;
+    let second = under(alloc, &mut terms, same, fact)?;
+    Some(is_word(&terms, first, 1) && is_word(&terms, second, 0))
+}
+
+#[test]
+fn differences_decide_comparisons(rt: HostRuntime) {
+    assert!(rt; apart(rt.alloc()) != Some(false));
+}
