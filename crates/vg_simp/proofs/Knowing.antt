@@ -11,11 +11,12 @@ use Rattle.vg_term.specs.declared.node.TermId.{TermId}
 use Rattle.vg_term.proofs.Wires.{stands_later, width_later, value_later, assigns_later}
 use Rattle.vg_simp.specs.Sameness.{AreTrue, IsSame}
 use Rattle.vg_simp.specs.Ranges.{IsIn, IsWithin}
-use Rattle.vg_simp.specs.Knowing.{Replaces, Bounds, IsTold, IsKnown, Learns}
+use Rattle.vg_simp.specs.Knowing.{Replaces, Bounds, IsGap, IsTold, IsKnown, Learns}
 use Rattle.vg_simp.specs.declared.knowledge.Knowledge.{Knowledge}
 use Rattle.vg_simp.specs.declared.knowledge.Replacement.{Replacement}
 use Rattle.vg_simp.specs.declared.knowledge.Literal.{Literal}
 use Rattle.vg_simp.specs.declared.knowledge.Bound.{Bound}
+use Rattle.vg_simp.specs.declared.knowledge.Gap.{Gap}
 use Rattle.vg_simp.specs.declared.range.Range.{Range}
 use Rattle.vg_simp.proofs.Sames.{same_on, same_later, true_before, all_stand_later}
 
@@ -25,11 +26,12 @@ all_left P xs ys all k d below = subst P (get_or_append_left xs ys d k below) (a
 pub all_last : {X : Type 0} (P : X → Type 0) (xs : List X) (x : X) → All P (xs ++ x ∷ []) → P x
 all_last P xs x all = subst P (get_or-append_seam xs x [] x) (all (length xs) x (omega (arith, length-append xs (x ∷ []))))
 
-pub nothing_known : (terms : List Term) (knowledge : Knowledge) → knowledge.facts.items ≡ [] → knowledge.same.items ≡ [] → knowledge.bounds.items ≡ [] → IsKnown terms knowledge
-nothing_known terms knowledge e f g = record {
+pub nothing_known : (terms : List Term) (knowledge : Knowledge) → knowledge.facts.items ≡ [] → knowledge.same.items ≡ [] → knowledge.bounds.items ≡ [] → knowledge.gaps.items ≡ [] → IsKnown terms knowledge
+nothing_known terms knowledge e f g h = record {
   facts = subst (All (Stands terms)) (sym e) (All-nil (Stands terms));
   same = subst (All (Replaces terms knowledge.facts.items)) (sym f) (All-nil (Replaces terms knowledge.facts.items));
   bounds = subst (All (Bounds terms knowledge.facts.items)) (sym g) (All-nil (Bounds terms knowledge.facts.items));
+  gaps = subst (All (IsGap terms knowledge.facts.items)) (sym h) (All-nil (IsGap terms knowledge.facts.items));
 }
 
 -- an entry leads on
@@ -46,27 +48,42 @@ same_kept terms before after facts is all = subst (λ (fs : List TermId). All (R
 bounds_kept : (terms : List Term) (before after : Knowledge) → after.facts.items ≡ before.facts.items → after.bounds.items ≡ before.bounds.items → All (Bounds terms before.facts.items) before.bounds.items → All (Bounds terms after.facts.items) after.bounds.items
 bounds_kept terms before after facts is all = subst (λ (fs : List TermId). All (Bounds terms fs) after.bounds.items) (sym facts) (subst (All (Bounds terms before.facts.items)) (sym is) all)
 
+gaps_kept : (terms : List Term) (before after : Knowledge) → after.facts.items ≡ before.facts.items → after.gaps.items ≡ before.gaps.items → All (IsGap terms before.facts.items) before.gaps.items → All (IsGap terms after.facts.items) after.gaps.items
+gaps_kept terms before after facts is all = subst (λ (fs : List TermId). All (IsGap terms fs) after.gaps.items) (sym facts) (subst (All (IsGap terms before.facts.items)) (sym is) all)
+
 pub replacement_known : (terms : List Term) (before after : Knowledge) (term other : TermId) → IsKnown terms before → Stands terms term → IsSame terms before.facts.items term other → after.facts.items ≡ before.facts.items →
-    after.same.items ≡ before.same.items ++ (record { term = term; other = other }) ∷ [] → after.bounds.items ≡ before.bounds.items → IsKnown terms after
-replacement_known terms before after term other known stands same facts more bounds =
+    after.same.items ≡ before.same.items ++ (record { term = term; other = other }) ∷ [] → after.bounds.items ≡ before.bounds.items → after.gaps.items ≡ before.gaps.items → IsKnown terms after
+replacement_known terms before after term other known stands same facts more bounds gaps =
     let replaces : Replaces terms before.facts.items (record { term = term; other = other }) = record { stands = stands; same = same } in
     record {
       facts = subst (All (Stands terms)) (sym facts) known.facts;
       same = subst (λ (fs : List TermId). All (Replaces terms fs) after.same.items) (sym facts)
       (subst (All (Replaces terms before.facts.items)) (sym more) (all_push (Replaces terms before.facts.items) before.same.items (record { term = term; other = other }) known.same replaces));
       bounds = bounds_kept terms before after facts bounds known.bounds;
+      gaps = gaps_kept terms before after facts gaps known.gaps;
     }
 
 pub bound_known : (terms : List Term) (before after : Knowledge) (term : TermId) (range : Range) → IsKnown terms before → Stands terms term → IsWithin terms before.facts.items term range → after.facts.items ≡ before.facts.items →
-    after.same.items ≡ before.same.items → after.bounds.items ≡ before.bounds.items ++ (record { term = term; range = range }) ∷ [] → IsKnown terms after
-bound_known terms before after term range known stands within facts same more =
+    after.same.items ≡ before.same.items → after.bounds.items ≡ before.bounds.items ++ (record { term = term; range = range }) ∷ [] → after.gaps.items ≡ before.gaps.items → IsKnown terms after
+bound_known terms before after term range known stands within facts same more gaps =
     let bounds : Bounds terms before.facts.items (record { term = term; range = range }) = record { stands = stands; within = within } in
     record {
       facts = subst (All (Stands terms)) (sym facts) known.facts;
       same = same_kept terms before after facts same known.same;
       bounds = subst (λ (fs : List TermId). All (Bounds terms fs) after.bounds.items) (sym facts)
       (subst (All (Bounds terms before.facts.items)) (sym more) (all_push (Bounds terms before.facts.items) before.bounds.items (record { term = term; range = range }) known.bounds bounds));
+      gaps = gaps_kept terms before after facts gaps known.gaps;
     }
+
+pub gap_known : (terms : List Term) (before after : Knowledge) (gap : Gap) → IsKnown terms before → IsGap terms before.facts.items gap → after.facts.items ≡ before.facts.items → after.same.items ≡ before.same.items → after.bounds.items ≡ before.bounds.items →
+    after.gaps.items ≡ before.gaps.items ++ gap ∷ [] → IsKnown terms after
+gap_known terms before after gap known is facts same bounds more = record {
+  facts = subst (All (Stands terms)) (sym facts) known.facts;
+  same = same_kept terms before after facts same known.same;
+  bounds = bounds_kept terms before after facts bounds known.bounds;
+  gaps = subst (λ (fs : List TermId). All (IsGap terms fs) after.gaps.items) (sym facts)
+  (subst (All (IsGap terms before.facts.items)) (sym more) (all_push (IsGap terms before.facts.items) before.gaps.items gap known.gaps is));
+}
 
 -- ---- more terms
 
@@ -82,6 +99,17 @@ bounds_later old new facts made grows stand b is = record {
   };
 }
 
+gap_later : (old new : List Term) (facts : List TermId) → AreTerms old → Grows old new → All (Stands old) facts → (g : Gap) → IsGap old facts g → IsGap new facts g
+gap_later old new facts made grows stand g is = record {
+  low = stands_later old new grows g.low is.low;
+  high = stands_later old new grows g.high is.high;
+  each = λ words assigns true.
+      let a = value_later old new made grows words g.low is.low in
+      let b = value_later old new made grows words g.high is.high in
+      let before = is.each words (assigns_later old new grows words assigns) (true_before old new made grows words facts stand true) in
+      omega (arith, a, b, before);
+}
+
 pub told_later : (old new : List Term) (facts : List TermId) → AreTerms old → Grows old new → All (Stands old) facts → (l : Literal) → IsTold old facts l → IsTold new facts l
 told_later old new facts made grows stand l is = record {
   stands = stands_later old new grows l.term is.stands;
@@ -94,6 +122,7 @@ known_later old new knowledge made grows known = record {
   facts = all_stand_later old new grows knowledge.facts.items known.facts;
   same = All-weaker (Replaces old knowledge.facts.items) (Replaces new knowledge.facts.items) (replaces_later old new knowledge.facts.items made grows known.facts) knowledge.same.items known.same;
   bounds = All-weaker (Bounds old knowledge.facts.items) (Bounds new knowledge.facts.items) (bounds_later old new knowledge.facts.items made grows known.facts) knowledge.bounds.items known.bounds;
+  gaps = All-weaker (IsGap old knowledge.facts.items) (IsGap new knowledge.facts.items) (gap_later old new knowledge.facts.items made grows known.facts) knowledge.gaps.items known.gaps;
 }
 
 -- ---- more facts
@@ -110,8 +139,11 @@ replaces_more terms facts more r is = record { stands = is.stands; same = same_m
 bounds_more : (terms : List Term) (facts more : List TermId) (b : Bound) → Bounds terms facts b → Bounds terms (facts ++ more) b
 bounds_more terms facts more b is = record { stands = is.stands; within = record { value = λ words assigns true. is.within.value words assigns (true_fewer terms words facts more true) } }
 
-pub known_more : (terms : List Term) (before after : Knowledge) (fact : TermId) → IsKnown terms before → Stands terms fact → after.facts.items ≡ before.facts.items ++ fact ∷ [] → after.same.items ≡ before.same.items → after.bounds.items ≡ before.bounds.items → IsKnown terms after
-known_more terms before after fact known stands facts same bounds = record {
+gap_more : (terms : List Term) (facts more : List TermId) (g : Gap) → IsGap terms facts g → IsGap terms (facts ++ more) g
+gap_more terms facts more g is = record { low = is.low; high = is.high; each = λ words assigns true. is.each words assigns (true_fewer terms words facts more true) }
+
+pub known_more : (terms : List Term) (before after : Knowledge) (fact : TermId) → IsKnown terms before → Stands terms fact → after.facts.items ≡ before.facts.items ++ fact ∷ [] → after.same.items ≡ before.same.items → after.bounds.items ≡ before.bounds.items → after.gaps.items ≡ before.gaps.items → IsKnown terms after
+known_more terms before after fact known stands facts same bounds gaps = record {
   facts = subst (All (Stands terms)) (sym facts) (all_push (Stands terms) before.facts.items fact known.facts stands);
   same = subst (λ (fs : List TermId). All (Replaces terms fs) after.same.items) (sym facts)
   (subst (All (Replaces terms (before.facts.items ++ fact ∷ []))) (sym same)
@@ -119,6 +151,9 @@ known_more terms before after fact known stands facts same bounds = record {
   bounds = subst (λ (fs : List TermId). All (Bounds terms fs) after.bounds.items) (sym facts)
   (subst (All (Bounds terms (before.facts.items ++ fact ∷ []))) (sym bounds)
   (All-weaker (Bounds terms before.facts.items) (Bounds terms (before.facts.items ++ fact ∷ [])) (bounds_more terms before.facts.items (fact ∷ [])) before.bounds.items known.bounds));
+  gaps = subst (λ (fs : List TermId). All (IsGap terms fs) after.gaps.items) (sym facts)
+  (subst (All (IsGap terms (before.facts.items ++ fact ∷ []))) (sym gaps)
+  (All-weaker (IsGap terms before.facts.items) (IsGap terms (before.facts.items ++ fact ∷ [])) (gap_more terms before.facts.items (fact ∷ [])) before.gaps.items known.gaps));
 }
 
 -- a fact is told true, and so is what is the same

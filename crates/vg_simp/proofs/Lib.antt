@@ -8,3 +8,4 @@ pub mod Within
 pub mod Judgements
 pub mod Bounded
 pub mod Summed
+pub mod Placed

@@ -13,6 +13,7 @@ use Rattle.vg_simp.specs.declared.knowledge.Knowledge.{Knowledge}
 use Rattle.vg_simp.specs.declared.knowledge.Replacement.{Replacement}
 use Rattle.vg_simp.specs.declared.knowledge.Literal.{Literal}
 use Rattle.vg_simp.specs.declared.knowledge.Bound.{Bound}
+use Rattle.vg_simp.specs.declared.knowledge.Gap.{Gap}
 
 -- a term and one that is the same
 pub record Replaces (terms : List Term) (facts : List TermId) (replacement : Replacement) : Type 0 where
@@ -38,11 +39,18 @@ pub record IsTold (terms : List Term) (facts : List TermId) (literal : Literal) 
   pub width : width_at terms literal.term ≡ 1
   pub value : (words : List Word) → Assigns words terms → AreTrue terms words facts → value_of terms words literal.term ≡ bit literal.holds
 
+-- wherever the facts are true, the two terms lie so far apart
+pub record IsGap (terms : List Term) (facts : List TermId) (gap : Gap) : Type 0 where
+  pub low : Stands terms gap.low
+  pub high : Stands terms gap.high
+  pub each : (words : List Word) → Assigns words terms → AreTrue terms words facts → value_of terms words gap.low + gap.up ≤ value_of terms words gap.high + gap.down
+
 -- all that is kept follows from the facts
 pub record IsKnown (terms : List Term) (knowledge : Knowledge) : Type 0 where
   pub facts : All (Stands terms) knowledge.facts.items
   pub same : All (Replaces terms knowledge.facts.items) knowledge.same.items
   pub bounds : All (Bounds terms knowledge.facts.items) knowledge.bounds.items
+  pub gaps : All (IsGap terms knowledge.facts.items) knowledge.gaps.items
 
 -- knowledge grew, under the same facts
 pub record Learns (old new : List Term) (before after : Knowledge) (result : Result Unit TermStop) : Type 0 where

@@ -4,4 +4,5 @@ pub mod Marking
 pub mod Passing
 pub mod Ranges
 pub mod Sums
+pub mod Places
 pub mod Knowing

@@ -71,6 +71,19 @@ impl Knowledge {
         }
     }
 
+    // The truth of a comparison, where it is known.
+    fn compared(&self, terms: &Terms, term: TermId) -> Option<bool>
+        requires made { AreTerms terms.now }
+        requires stands { Stands terms.now term }
+        requires known { IsKnown terms.now self.now }
+        ensures { IfSome result (λ holds. IsTold terms.now self.now.facts.items (record { term = term; holds = holds })) }
+    {
+        match self.decided(terms, term) {
+            Some(holds) => Some(holds),
+            None => self.spaced(terms, term),
+        }
+    }
+
     // The value of a term, where what is noted of it leaves one.
     #[tactic(auto, using(crate::proofs::Judgements::point_fixed))]
     fn fixed(&self, terms: &Terms, term: TermId) -> Option<u64>
@@ -123,7 +136,7 @@ impl Knowledge {
         requires known { IsKnown terms.old self.now }
         ensures { Simplifies terms.old terms.new self.now.facts.items term result }
     {
-        if let Some(holds) = self.decided(terms, term) {
+        if let Some(holds) = self.compared(terms, term) {
             return terms.build(Op::Const(Word::from_bool(holds)), &[]);
         }
         if let Some(value) = self.fixed(terms, term) {

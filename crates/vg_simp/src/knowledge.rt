@@ -4,7 +4,7 @@ ghost use Rattle.std.specs.Prelude.{◌≡◌, [], Contains, IfSome, OnOk};
 ghost use Rattle.vg_term.specs.Terms.{AreTerms, Stands};
 ghost use Rattle.vg_simp.specs.Sameness.{IsSame};
 ghost use Rattle.vg_simp.specs.Ranges.{IsWithin};
-ghost use Rattle.vg_simp.specs.Knowing.{IsKnown};
+ghost use Rattle.vg_simp.specs.Knowing.{IsGap, IsKnown};
 
 use crate::range::Range;
 use std::alloc::Global;
@@ -31,6 +31,15 @@ pub(crate) struct Bound {
     pub(crate) range: Range,
 }
 
+/// Two terms, of which the one's value and `up` are at most the other's value and `down` under the facts, as whole numbers.
+#[derive(Clone, Copy, PartialEq, Eq, Debug)]
+pub(crate) struct Gap {
+    pub(crate) low: TermId,
+    pub(crate) up: u64,
+    pub(crate) high: TermId,
+    pub(crate) down: u64,
+}
+
 /// What is known under facts.
 #[derive(Drop)]
 pub(crate) struct Knowledge {
@@ -40,6 +49,8 @@ pub(crate) struct Knowledge {
     pub(crate) same: Vec<Replacement>,
     /// Terms, and the ranges of their values.
     pub(crate) bounds: Vec<Bound>,
+    /// How far terms lie apart.
+    pub(crate) gaps: Vec<Gap>,
 }
 
 impl Knowledge {
@@ -55,6 +66,7 @@ impl Knowledge {
             facts: Vec::new(alloc),
             same: Vec::new(alloc),
             bounds: Vec::new(alloc),
+            gaps: Vec::new(alloc),
         }
     }
 
@@ -118,6 +130,21 @@ impl Knowledge {
     {
         let _count = terms.len();
         match self.bounds.push(Bound { term, range }) {
+            Ok(_) => Ok(()),
+            Err(_) => Err(TermStop::Memory),
+        }
+    }
+
+    /// Notes how far two terms lie apart.
+    #[tactic(auto, using(crate::proofs::Knowing::gap_known))]
+    pub(crate) fn separate(&mut self, terms: &Terms, gap: Gap) -> Result<(), TermStop>
+        requires known { IsKnown terms.now self.old }
+        requires gap { IsGap terms.now self.old.facts.items gap }
+        ensures facts { OnOk result (self.new.facts.items ≡ self.old.facts.items) }
+        ensures known { OnOk result (IsKnown terms.now self.new) }
+    {
+        let _count = terms.len();
+        match self.gaps.push(gap) {
             Ok(_) => Ok(()),
             Err(_) => Err(TermStop::Memory),
         }

@@ -4,7 +4,7 @@ ghost use Rattle.std.specs.Prelude.{◌≡◌, ◌++◌, ◌∷◌, [], All, OnO
 ghost use Rattle.vg_term.specs.Terms.{AreTerms, Stands, width_at};
 ghost use Rattle.vg_term.specs.Wiring.{Grown};
 ghost use Rattle.vg_simp.specs.Sameness.{IsSame};
-ghost use Rattle.vg_simp.specs.Knowing.{IsKnown, IsOther, IsTold, Learns};
+ghost use Rattle.vg_simp.specs.Knowing.{IsApart, IsKnown, IsOther, IsTold, Learns};
 
 use crate::knowledge::{Knowledge, Literal};
 use crate::lists::{push, push_literal};
@@ -80,6 +80,20 @@ impl Knowledge {
         }
     }
 
+    // One term and so much are at most another: both are bounded, and how far they lie apart is noted.
+    fn set_apart(&mut self, terms: &Terms, low: TermId, by: u64, high: TermId) -> Result<(), TermStop>
+        requires made { AreTerms terms.now }
+        requires known { IsKnown terms.now self.old }
+        requires first { Stands terms.now low }
+        requires second { Stands terms.now high }
+        requires apart { IsApart terms.now self.old.facts.items low by high }
+        ensures facts { OnOk result (self.new.facts.items ≡ self.old.facts.items) }
+        ensures known { OnOk result (IsKnown terms.now self.new) }
+    {
+        self.bound_apart(terms, low, by, high)?;
+        self.separate_places(terms, low, by, high)
+    }
+
     // Two terms differ: each is bounded by the other.
     #[tactic(auto, using(crate::proofs::Bounded::other_back))]
     fn part(&mut self, terms: &Terms, a: TermId, b: TermId) -> Result<(), TermStop>
@@ -109,8 +123,8 @@ impl Knowledge {
         match (op, parts, literal.holds) {
             (Op::Eq, Parts::Two(a, b), true) => self.equate(terms, a, b),
             (Op::Eq, Parts::Two(a, b), false) => self.part(terms, a, b),
-            (Op::Ult, Parts::Two(a, b), true) => self.bound_apart(terms, a, 1, b),
-            (Op::Ult, Parts::Two(a, b), false) => self.bound_apart(terms, b, 0, a),
+            (Op::Ult, Parts::Two(a, b), true) => self.set_apart(terms, a, 1, b),
+            (Op::Ult, Parts::Two(a, b), false) => self.set_apart(terms, b, 0, a),
             _ => Ok(()),
         }
     }
@@ -151,7 +165,6 @@ impl Knowledge {
     }
 
     // Adds a fact to those that hold.
-    #[tactic(auto, using(crate::proofs::Knowing::known_more))]
     fn accept(&mut self, terms: &Terms, fact: TermId) -> Result<(), TermStop>
         requires known { IsKnown terms.now self.old }
         requires stands { Stands terms.now fact }
@@ -159,7 +172,8 @@ impl Knowledge {
         ensures known { OnOk result (IsKnown terms.now self.new) }
     {
         let _count = terms.len();
-        push(&mut self.facts, fact)
+        push(&mut self.facts, fact)?;
+        Ok(())
     }
 
     /// Learns a fact, in its simplified form.

@@ -8,6 +8,7 @@ mod knowledge;
 mod learning;
 mod lists;
 mod marking;
+mod placing;
 mod range;
 mod ranging;
 mod simplifying;
