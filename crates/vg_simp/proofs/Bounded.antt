@@ -1,6 +1,5 @@
 -- Bounds that follow from comparisons.
-use Rattle.std.proofs.Common.{◌≡◌, ℕ, ◌+◌, ◌-◌, ◌<◌, ◌≤◌, Bool, true, false, List, slice_get, Some, refl, sym, ap, ◌∙◌, inl, inr, arith}
-use Rattle.std.specs.Prelude.{nat_eq, nat_lt}
+use Rattle.std.proofs.Common.{◌≡◌, ℕ, ◌+◌, ◌-◌, ◌≤◌, true, false, List, slice_get, Some, sym, ap, ◌∙◌, inl, inr, arith}
 use Rattle.std.proofs.lemmas.Bool.{cases_lt, lt-ltb, le-ltb}
 use Rattle.std.proofs.lemmas.Bool.Decides.{eqb_tells}
 use Rattle.vg_bits.specs.Words as words
@@ -10,7 +9,7 @@ use Rattle.vg_term.specs.declared.node.TermId.{TermId}
 use Rattle.vg_term.specs.declared.node.Op.TheVariants as ops
 use Rattle.vg_term.specs.declared.node.Parts.TheVariants as kinds
 use Rattle.vg_term.specs.declared.node.Node.TheVariants as nodes
-use Rattle.vg_simp.specs.Ranges.{IsIn, IsWithin}
+use Rattle.vg_simp.specs.Ranges.{IsWithin}
 use Rattle.vg_simp.specs.Knowing.{IsApart, IsOther, IsTold}
 use Rattle.vg_simp.specs.declared.range.Range.{Range}
 use Rattle.vg_simp.proofs.Telling.{literal, op_value}

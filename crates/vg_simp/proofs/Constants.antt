@@ -1,14 +1,14 @@
 -- Terms without variables become constants.
-use Rattle.std.proofs.Common.{◌≡◌, ℕ, ◌+◌, ◌<◌, ◌≤◌, Bool, true, false, true≢false, List, [], ◌∷◌, ◌++◌, map, length, get_or, slice_get, Option, Some, None, Result, Ok, Err, All, Contains, refl, sym, ap, subst, ◌∙◌, inl, inr, arith, length-append}
+use Rattle.std.proofs.Common.{◌≡◌, ℕ, ◌+◌, ◌<◌, Bool, true, false, true≢false, List, [], ◌∷◌, ◌++◌, map, length, get_or, slice_get, Option, Some, None, Result, Ok, Err, All, Contains, refl, sym, ap, subst, ◌∙◌, inl, inr, arith, length-append}
 use Rattle.std.proofs.lemmas.Bool.{cases_lt}
 use Rattle.std.proofs.lemmas.List.{get_or_default, get_or_append_left}
-use Rattle.std.proofs.lemmas.List.Elements.{All-map, All-weaker, All-head, All-tail}
-use Rattle.std.proofs.lemmas.Option.{slice_get_within, slice_get_past, slice_get-get_or}
+use Rattle.std.proofs.lemmas.List.Elements.{All-map, All-weaker}
+use Rattle.std.proofs.lemmas.Option.{slice_get_within, slice_get_past}
 use Rattle.std.proofs.Math.Seq.{get_or-append_seam}
 use Rattle.std.specs.Prelude.{IfOk}
 use Rattle.vg_bits.specs.declared.word.Word.{Word}
-use Rattle.vg_term.specs.Operations.{Bits, bits_of, answer, width_of}
-use Rattle.vg_term.specs.Terms.{Term, AreTerms, Stands, IsConstant, width_at, width_in, constant_at, word_in, listed}
+use Rattle.vg_term.specs.Operations.{Bits, answer}
+use Rattle.vg_term.specs.Terms.{Term, AreTerms, Stands, IsConstant, constant_at, word_in, listed}
 use Rattle.vg_term.specs.Value.{value_of, bits_at, entry_value, Assigns}
 use Rattle.vg_term.specs.Folding.{Grows, IsFolded}
 use Rattle.vg_term.specs.Wiring.{Grown}
@@ -21,7 +21,7 @@ use Rattle.vg_term.specs.declared.stops.TermStop.{TermStop}
 use Rattle.vg_term.proofs.Made.{stays, same_map}
 use Rattle.vg_term.proofs.Values.{value_follows}
 use Rattle.vg_term.proofs.Meanings.{const_word}
-use Rattle.vg_term.proofs.Wires.{grown_on, stands_later, width_later, value_later, assigns_later}
+use Rattle.vg_term.proofs.Wires.{stands_later, value_later, assigns_later}
 use Rattle.vg_simp.specs.Closed.{IsClosed, operation, IsConstantOf}
 use Rattle.vg_simp.specs.Marking.{AreMarks, is_marked, parts_at, parts_in}
 use Rattle.vg_simp.specs.Passing.{AreSame, AreConstants, KeepsConstant, KeepsClosed, IsOperation, entry_at, replaced}

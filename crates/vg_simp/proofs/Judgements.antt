@@ -1,35 +1,30 @@
 -- What ranges say of terms.
-use Rattle.std.proofs.Common.{◌≡◌, ℕ, ◌+◌, ◌-◌, ◌/◌, ◌%◌, ◌<◌, ◌≤◌, ◌^◌, Bool, true, false, List, [], ◌∷◌, map, slice_get, Some, Result, Ok, Err, All, refl, sym, ap, subst, ◌∙◌, inl, inr, arith}
-use Rattle.std.specs.Prelude.{nat_eq, nat_lt}
+use Rattle.std.proofs.Common.{◌≡◌, ℕ, ◌/◌, ◌%◌, ◌<◌, ◌≤◌, ◌^◌, Bool, true, false, List, [], slice_get, Some, Result, Ok, Err, All, refl, sym, ap, subst, ◌∙◌, inl, inr, arith}
 use Rattle.std.proofs.Math.Nat.{mod-eq_of_lt, div-one}
-use Rattle.std.proofs.lemmas.Bool.{lt-ltb, le-ltb, ne_eqb}
+use Rattle.std.proofs.lemmas.Bool.{lt-ltb, le-ltb}
 use Rattle.std.proofs.lemmas.Bool.Decides.{eqb_tells}
 use Rattle.std.proofs.lemmas.Nat.{pow_pos}
 use Rattle.vg_bits.specs.Words as words
 use Rattle.vg_bits.specs.declared.word.Word.{Word}
-use Rattle.vg_term.specs.Operations.{Bits, answer, width_of}
-use Rattle.vg_term.specs.Terms.{Term, AreTerms, Stands, width_at, width_in, listed}
-use Rattle.vg_term.specs.Value.{value_of, bits_at, Assigns}
-use Rattle.vg_term.specs.Folding.{Grows, Folds, StandsFor}
-use Rattle.vg_term.specs.Wiring.{Grown}
+use Rattle.vg_term.specs.Terms.{Term, AreTerms, Stands, width_at, width_in}
+use Rattle.vg_term.specs.Value.{value_of}
+use Rattle.vg_term.specs.Folding.{Folds}
 use Rattle.vg_term.specs.declared.node.TermId.{TermId}
-use Rattle.vg_term.specs.declared.node.Op.{Op}
 use Rattle.vg_term.specs.declared.node.Op.TheVariants as ops
-use Rattle.vg_term.specs.declared.node.Parts.{Parts}
 use Rattle.vg_term.specs.declared.node.Parts.TheVariants as kinds
 use Rattle.vg_term.specs.declared.node.Node.TheVariants as nodes
 use Rattle.vg_term.specs.declared.stops.TermStop.{TermStop}
 use Rattle.vg_term.proofs.Made.{is_made}
 use Rattle.vg_term.proofs.Ranges.{term_range}
-use Rattle.vg_term.proofs.Wires.{stands_later, width_later, value_later, assigns_later}
-use Rattle.vg_simp.specs.Sameness.{AreTrue, IsSame}
-use Rattle.vg_simp.specs.Ranges.{IsIn, IsWithin, Decides, IsFixed}
+use Rattle.vg_term.proofs.Wires.{width_later, value_later, assigns_later}
+use Rattle.vg_simp.specs.Sameness.{IsSame}
+use Rattle.vg_simp.specs.Ranges.{IsWithin, Decides, IsFixed}
 use Rattle.vg_simp.specs.Knowing.{IsTold}
 use Rattle.vg_simp.specs.Passing.{Simplifies}
 use Rattle.vg_simp.specs.declared.range.Range.{Range}
 use Rattle.vg_simp.proofs.Sames.{true_before}
 use Rattle.vg_simp.proofs.Knowing.{told_later}
-use Rattle.vg_simp.proofs.Telling.{literal, op_value, here_is, lone_stands, told_constant}
+use Rattle.vg_simp.proofs.Telling.{literal, op_value, lone_stands, told_constant}
 
 -- ---- numbers
 

@@ -1,17 +1,17 @@
 -- What is known under facts stays known where terms and facts are added.
-use Rattle.std.proofs.Common.{◌≡◌, ℕ, ◌+◌, ◌<◌, ◌≤◌, List, [], ◌∷◌, ◌++◌, length, get_or, Result, Ok, Err, All, Contains, refl, sym, ap, subst, ◌∙◌, arith, true, length-append}
+use Rattle.std.proofs.Common.{◌≡◌, List, [], ◌∷◌, ◌++◌, length, All, Contains, sym, subst, ◌∙◌, arith, true, length-append}
 use Rattle.std.proofs.lemmas.List.{get_or_append_left}
 use Rattle.std.proofs.Math.Seq.{get_or-append_seam}
-use Rattle.std.proofs.lemmas.List.Elements.{All-nil, All-cons, All-head, All-tail, All-weaker, All-contains, All-append}
+use Rattle.std.proofs.lemmas.List.Elements.{All-nil, All-cons, All-weaker, All-contains, All-append}
 use Rattle.vg_bits.specs.declared.word.Word.{Word}
 use Rattle.vg_term.specs.Terms.{Term, AreTerms, Stands, width_at}
-use Rattle.vg_term.specs.Value.{value_of, Assigns}
+use Rattle.vg_term.specs.Value.{value_of}
 use Rattle.vg_term.specs.Folding.{Grows}
 use Rattle.vg_term.specs.declared.node.TermId.{TermId}
 use Rattle.vg_term.proofs.Wires.{stands_later, width_later, value_later, assigns_later}
 use Rattle.vg_simp.specs.Sameness.{AreTrue, IsSame}
 use Rattle.vg_simp.specs.Ranges.{IsIn, IsWithin}
-use Rattle.vg_simp.specs.Knowing.{Replaces, Bounds, IsGap, IsTold, IsKnown, Learns}
+use Rattle.vg_simp.specs.Knowing.{Replaces, Bounds, IsGap, IsTold, IsKnown}
 use Rattle.vg_simp.specs.declared.knowledge.Knowledge.{Knowledge}
 use Rattle.vg_simp.specs.declared.knowledge.Replacement.{Replacement}
 use Rattle.vg_simp.specs.declared.knowledge.Literal.{Literal}
@@ -58,7 +58,7 @@ replacement_known terms before after term other known stands same facts more bou
     record {
       facts = subst (All (Stands terms)) (sym facts) known.facts;
       same = subst (λ (fs : List TermId). All (Replaces terms fs) after.same.items) (sym facts)
-      (subst (All (Replaces terms before.facts.items)) (sym more) (all_push (Replaces terms before.facts.items) before.same.items (record { term = term; other = other }) known.same replaces));
+          (subst (All (Replaces terms before.facts.items)) (sym more) (all_push (Replaces terms before.facts.items) before.same.items (record { term = term; other = other }) known.same replaces));
       bounds = bounds_kept terms before after facts bounds known.bounds;
       gaps = gaps_kept terms before after facts gaps known.gaps;
     }
@@ -71,7 +71,7 @@ bound_known terms before after term range known stands within facts same more ga
       facts = subst (All (Stands terms)) (sym facts) known.facts;
       same = same_kept terms before after facts same known.same;
       bounds = subst (λ (fs : List TermId). All (Bounds terms fs) after.bounds.items) (sym facts)
-      (subst (All (Bounds terms before.facts.items)) (sym more) (all_push (Bounds terms before.facts.items) before.bounds.items (record { term = term; range = range }) known.bounds bounds));
+          (subst (All (Bounds terms before.facts.items)) (sym more) (all_push (Bounds terms before.facts.items) before.bounds.items (record { term = term; range = range }) known.bounds bounds));
       gaps = gaps_kept terms before after facts gaps known.gaps;
     }
 
@@ -82,7 +82,7 @@ gap_known terms before after gap known is facts same bounds more = record {
   same = same_kept terms before after facts same known.same;
   bounds = bounds_kept terms before after facts bounds known.bounds;
   gaps = subst (λ (fs : List TermId). All (IsGap terms fs) after.gaps.items) (sym facts)
-  (subst (All (IsGap terms before.facts.items)) (sym more) (all_push (IsGap terms before.facts.items) before.gaps.items gap known.gaps is));
+      (subst (All (IsGap terms before.facts.items)) (sym more) (all_push (IsGap terms before.facts.items) before.gaps.items gap known.gaps is));
 }
 
 -- ---- more terms
@@ -146,14 +146,14 @@ pub known_more : (terms : List Term) (before after : Knowledge) (fact : TermId) 
 known_more terms before after fact known stands facts same bounds gaps = record {
   facts = subst (All (Stands terms)) (sym facts) (all_push (Stands terms) before.facts.items fact known.facts stands);
   same = subst (λ (fs : List TermId). All (Replaces terms fs) after.same.items) (sym facts)
-  (subst (All (Replaces terms (before.facts.items ++ fact ∷ []))) (sym same)
-  (All-weaker (Replaces terms before.facts.items) (Replaces terms (before.facts.items ++ fact ∷ [])) (replaces_more terms before.facts.items (fact ∷ [])) before.same.items known.same));
+      (subst (All (Replaces terms (before.facts.items ++ fact ∷ []))) (sym same)
+      (All-weaker (Replaces terms before.facts.items) (Replaces terms (before.facts.items ++ fact ∷ [])) (replaces_more terms before.facts.items (fact ∷ [])) before.same.items known.same));
   bounds = subst (λ (fs : List TermId). All (Bounds terms fs) after.bounds.items) (sym facts)
-  (subst (All (Bounds terms (before.facts.items ++ fact ∷ []))) (sym bounds)
-  (All-weaker (Bounds terms before.facts.items) (Bounds terms (before.facts.items ++ fact ∷ [])) (bounds_more terms before.facts.items (fact ∷ [])) before.bounds.items known.bounds));
+      (subst (All (Bounds terms (before.facts.items ++ fact ∷ []))) (sym bounds)
+      (All-weaker (Bounds terms before.facts.items) (Bounds terms (before.facts.items ++ fact ∷ [])) (bounds_more terms before.facts.items (fact ∷ [])) before.bounds.items known.bounds));
   gaps = subst (λ (fs : List TermId). All (IsGap terms fs) after.gaps.items) (sym facts)
-  (subst (All (IsGap terms (before.facts.items ++ fact ∷ []))) (sym gaps)
-  (All-weaker (IsGap terms before.facts.items) (IsGap terms (before.facts.items ++ fact ∷ [])) (gap_more terms before.facts.items (fact ∷ [])) before.gaps.items known.gaps));
+      (subst (All (IsGap terms (before.facts.items ++ fact ∷ []))) (sym gaps)
+      (All-weaker (IsGap terms before.facts.items) (IsGap terms (before.facts.items ++ fact ∷ [])) (gap_more terms before.facts.items (fact ∷ [])) before.gaps.items known.gaps));
 }
 
 -- a fact is told true, and so is what is the same

@@ -1,9 +1,8 @@
 -- Terms as others moved up or down.
-use Rattle.std.proofs.Common.{◌≡◌, ℕ, ◌+◌, ◌-◌, ◌<◌, ◌≤◌, ◌^◌, List, [], ◌∷◌, slice_get, Some, true, false, refl, sym, ap, subst, ◌∙◌, inl, inr, arith}
+use Rattle.std.proofs.Common.{◌≡◌, ℕ, ◌+◌, ◌-◌, ◌<◌, ◌≤◌, ◌^◌, List, slice_get, Some, true, false, refl, sym, ap, subst, ◌∙◌, inl, inr, arith}
 use Rattle.std.proofs.lemmas.Bool.{lt-ltb, le-ltb}
 use Rattle.std.proofs.lemmas.Bool.Decides.{eqb_tells}
 use Rattle.vg_bits.specs.Words as words
-use Rattle.vg_bits.specs.declared.word.Word.{Word}
 use Rattle.vg_term.specs.Terms.{Term, AreTerms, Stands, width_at, width_in}
 use Rattle.vg_term.specs.Value.{value_of}
 use Rattle.vg_term.specs.declared.node.TermId.{TermId}
@@ -12,7 +11,7 @@ use Rattle.vg_term.specs.declared.node.Parts.TheVariants as kinds
 use Rattle.vg_term.specs.declared.node.Node.TheVariants as nodes
 use Rattle.vg_term.proofs.Made.{is_made}
 use Rattle.vg_term.proofs.Ranges.{term_range}
-use Rattle.vg_simp.specs.Ranges.{IsIn, IsWithin}
+use Rattle.vg_simp.specs.Ranges.{IsWithin}
 use Rattle.vg_simp.specs.Knowing.{IsApart, IsGap, IsTold}
 use Rattle.vg_simp.specs.Sums.{IsSum}
 use Rattle.vg_simp.specs.Places.{IsPlace, IsSpan}

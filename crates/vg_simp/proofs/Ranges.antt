@@ -1,12 +1,12 @@
 -- Ranges of numbers.
-use Rattle.std.proofs.Common.{◌≡◌, ℕ, suc, zero, ◌+◌, ◌-◌, ◌*◌, ◌/◌, ◌%◌, ◌^◌, ◌<◌, ◌≤◌, min, max, Bool, true, false, cond, refl, sym, ap, subst, ◌∙◌, inl, inr, arith}
-use Rattle.std.specs.Prelude.{bit_and, nat_eq}
+use Rattle.std.proofs.Common.{◌≡◌, ℕ, ◌+◌, ◌-◌, ◌*◌, ◌%◌, ◌^◌, ◌<◌, ◌≤◌, min, max, Bool, cond, ap, ◌∙◌, inl, inr, arith}
+use Rattle.std.specs.Prelude.{bit_and}
 use Rattle.std.proofs.Math.Nat.{mod-eq_of_lt, mod-le, add-mul-mod_self_left, mul-le-mul}
 use Rattle.std.proofs.lemmas.Bool.Decides.{eqb_tells}
 use Rattle.std.proofs.lemmas.Nat.{pow_pos, and_le_l, and_le_r, mod_below}
 use Rattle.vg_bits.specs.Words as words
 use Rattle.vg_bits.proofs.Machine.{sub-is}
-use Rattle.vg_simp.specs.Ranges.{IsIn, IsMeet, IsHull, IsWhole, Covers}
+use Rattle.vg_simp.specs.Ranges.{IsMeet, IsHull, IsWhole, Covers}
 use Rattle.vg_simp.specs.declared.range.Range.{Range}
 
 pub whole_each : (width : ℕ) (r : Range) → r.low ≡ 0 → r.high ≡ words.all_ones width → IsWhole width r

@@ -1,14 +1,13 @@
 -- Terms that are the same under facts, and what stays of that where terms are added.
-use Rattle.std.proofs.Common.{◌≡◌, ℕ, ◌+◌, ◌<◌, ◌≤◌, List, [], ◌∷◌, ◌++◌, map, length, get_or, slice_get, Some, Result, Ok, Err, All, refl, sym, ap, subst, ◌∙◌, arith, append-nil, length-append, inl, inr}
+use Rattle.std.proofs.Common.{◌≡◌, ℕ, ◌+◌, ◌<◌, List, [], ◌∷◌, ◌++◌, map, length, get_or, slice_get, Some, Result, Ok, Err, All, refl, sym, ap, subst, ◌∙◌, arith, append-nil, length-append, inl, inr}
 use Rattle.std.proofs.lemmas.Bool.{cases_lt}
 use Rattle.std.proofs.lemmas.List.{get_or_default, get_or_append_left}
 use Rattle.std.proofs.lemmas.List.Elements.{All-map, All-weaker}
-use Rattle.std.proofs.lemmas.Option.{slice_get_within}
 use Rattle.std.proofs.Math.Seq.{get_or-append_seam}
 use Rattle.vg_bits.specs.declared.word.Word.{Word}
-use Rattle.vg_term.specs.Operations.{Bits, answer, width_of, Fits}
+use Rattle.vg_term.specs.Operations.{answer, width_of, Fits}
 use Rattle.vg_term.specs.Terms.{Term, AreTerms, Stands, width_at, width_in, listed}
-use Rattle.vg_term.specs.Value.{value_of, bits_at, entry_value, Assigns}
+use Rattle.vg_term.specs.Value.{bits_at, entry_value, Assigns}
 use Rattle.vg_term.specs.Folding.{Grows, StandsFor, Folds}
 use Rattle.vg_term.specs.Wiring.{Grown}
 use Rattle.vg_term.specs.declared.node.TermId.{TermId}

@@ -1,35 +1,32 @@
 -- Terms as a term and a constant.
-use Rattle.std.proofs.Common.{◌≡◌, ℕ, ◌+◌, ◌-◌, ◌*◌, ◌%◌, ◌<◌, ◌≤◌, ◌^◌, List, [], ◌∷◌, map, slice_get, Some, Result, Ok, Err, All, refl, sym, ap, subst, ◌∙◌, inl, inr, arith}
+use Rattle.std.proofs.Common.{◌≡◌, ℕ, ◌+◌, ◌-◌, ◌%◌, ◌<◌, ◌≤◌, ◌^◌, List, [], ◌∷◌, slice_get, Some, Result, Ok, Err, All, refl, sym, ap, subst, ◌∙◌, arith}
 use Rattle.std.proofs.Math.Nat.{add-mod-mod}
 use Rattle.std.proofs.Math.Pow.{pow_mono}
 use Rattle.std.proofs.lemmas.Nat.{pow_pos}
 use Rattle.vg_bits.specs.Words as words
 use Rattle.vg_bits.specs.declared.word.Word.{Word}
 use Rattle.vg_bits.proofs.Machine.{sub-is}
-use Rattle.vg_term.specs.Operations.{Bits, bits_of, answer, width_of}
-use Rattle.vg_term.specs.Terms.{Term, AreTerms, Stands, width_at, width_in, listed}
-use Rattle.vg_term.specs.Value.{value_of, bits_at, Assigns}
-use Rattle.vg_term.specs.Folding.{Grows, Folds, StandsFor, IsWord}
+use Rattle.vg_term.specs.Operations.{Bits}
+use Rattle.vg_term.specs.Terms.{Term, AreTerms, Stands, width_at, width_in}
+use Rattle.vg_term.specs.Value.{value_of}
+use Rattle.vg_term.specs.Folding.{Folds, StandsFor, IsWord}
 use Rattle.vg_term.specs.Wiring.{Grown}
 use Rattle.vg_term.specs.declared.node.TermId.{TermId}
-use Rattle.vg_term.specs.declared.node.Op.{Op}
 use Rattle.vg_term.specs.declared.node.Op.TheVariants as ops
-use Rattle.vg_term.specs.declared.node.Parts.{Parts}
 use Rattle.vg_term.specs.declared.node.Parts.TheVariants as kinds
 use Rattle.vg_term.specs.declared.node.Node.TheVariants as nodes
 use Rattle.vg_term.specs.declared.stops.TermStop.{TermStop}
 use Rattle.vg_term.proofs.Made.{is_made}
 use Rattle.vg_term.proofs.Ranges.{term_range}
-use Rattle.vg_term.proofs.Wires.{grown_on, stands_later, width_later, value_later, assigns_later}
-use Rattle.vg_simp.specs.Sameness.{AreTrue, IsSame}
-use Rattle.vg_simp.specs.Ranges.{IsIn, IsWithin}
+use Rattle.vg_term.proofs.Wires.{grown_on, width_later, value_later, assigns_later}
+use Rattle.vg_simp.specs.Ranges.{IsWithin}
 use Rattle.vg_simp.specs.Sums.{IsSum, IsWideSum, IsWidened, IsSumOf, BuildsSum, IsSumAs}
 use Rattle.vg_simp.specs.Passing.{Simplifies}
 use Rattle.vg_simp.specs.declared.range.Range.{Range}
 use Rattle.vg_simp.specs.declared.summing.Sum.{Sum}
 use Rattle.vg_simp.proofs.Sames.{true_before}
 use Rattle.vg_simp.proofs.Ranges.{add_plain, wrapped_once}
-use Rattle.vg_simp.proofs.Telling.{op_value, here_is, lone_stands, left_stands, right_stands}
+use Rattle.vg_simp.proofs.Telling.{op_value, left_stands, right_stands}
 
 abbrev pub sum : TermId → Word → Sum
 sum base word = record { base = base; word = word }

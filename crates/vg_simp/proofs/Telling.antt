@@ -1,16 +1,16 @@
 -- What a truth says of the parts of its term.
-use Rattle.std.proofs.Common.{◌≡◌, ℕ, ◌+◌, ◌-◌, ◌<◌, ◌≤◌, ◌^◌, Bool, true, false, List, [], ◌∷◌, map, length, get_or, slice_get, Some, Result, Ok, Err, All, refl, sym, ap, subst, ◌∙◌, inl, inr, arith}
-use Rattle.std.specs.Prelude.{nat_eq, bit_and, bit_or}
+use Rattle.std.proofs.Common.{◌≡◌, ℕ, ◌<◌, ◌≤◌, ◌^◌, Bool, true, false, List, [], ◌∷◌, map, slice_get, Some, All, refl, sym, ap, subst, ◌∙◌, inl, inr, arith}
+use Rattle.std.specs.Prelude.{bit_and, bit_or}
 use Rattle.std.proofs.lemmas.Bool.Decides.{eqb_tells}
 use Rattle.std.proofs.lemmas.Nat.{and_le_l, and_le_r, le_or_l, le_or_r}
 use Rattle.std.proofs.lemmas.List.Elements.{All-head, All-tail}
 use Rattle.std.proofs.lemmas.Option.{slice_get_within}
 use Rattle.vg_bits.specs.Words as formulas
 use Rattle.vg_bits.specs.declared.word.Word.{Word}
-use Rattle.vg_term.specs.Operations.{Bits, answer, width_of, Fits}
+use Rattle.vg_term.specs.Operations.{answer}
 use Rattle.vg_term.specs.Terms.{Term, AreTerms, Stands, width_at, width_in, listed}
 use Rattle.vg_term.specs.Value.{value_of, bits_at, entry_value, Assigns}
-use Rattle.vg_term.specs.Folding.{Grows, StandsFor}
+use Rattle.vg_term.specs.Folding.{StandsFor}
 use Rattle.vg_term.specs.declared.node.TermId.{TermId}
 use Rattle.vg_term.specs.declared.node.Op.{Op}
 use Rattle.vg_term.specs.declared.node.Op.TheVariants as ops
@@ -20,7 +20,6 @@ use Rattle.vg_term.specs.declared.node.Node.TheVariants as nodes
 use Rattle.vg_term.proofs.Made.{is_made}
 use Rattle.vg_term.proofs.Values.{value_follows}
 use Rattle.vg_term.proofs.Ranges.{term_range}
-use Rattle.vg_term.proofs.Wires.{stands_later, width_later}
 use Rattle.vg_simp.specs.Sameness.{AreTrue, IsSame}
 use Rattle.vg_simp.specs.Knowing.{IsTold}
 use Rattle.vg_simp.specs.declared.knowledge.Literal.{Literal}

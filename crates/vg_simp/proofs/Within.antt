@@ -1,20 +1,18 @@
 -- The ranges of terms.
-use Rattle.std.proofs.Common.{◌≡◌, ℕ, ◌+◌, ◌-◌, ◌<◌, ◌≤◌, ◌^◌, Bool, true, false, cond, List, [], ◌∷◌, map, length, get_or, slice_get, Option, Some, None, All, refl, sym, ap, subst, ◌∙◌, inl, inr, arith}
+use Rattle.std.proofs.Common.{◌≡◌, ℕ, ◌<◌, ◌^◌, Bool, true, false, cond, List, [], ◌∷◌, map, slice_get, Option, Some, None, refl, sym, ap, subst, ◌∙◌, arith}
 use Rattle.std.specs.Prelude.{nat_eq, IfSome}
 use Rattle.vg_bits.specs.declared.word.Word.{Word}
 use Rattle.vg_term.specs.Operations.{Bits, answer, value_one, value_two, FitsThree}
 use Rattle.vg_term.specs.Terms.{Term, AreTerms, Stands, width_at}
-use Rattle.vg_term.specs.Value.{value_of, bits_at, Assigns}
+use Rattle.vg_term.specs.Value.{value_of, bits_at}
 use Rattle.vg_term.specs.declared.node.TermId.{TermId}
 use Rattle.vg_term.specs.declared.node.Op.{Op}
 use Rattle.vg_term.specs.declared.node.Op.TheVariants as ops
-use Rattle.vg_term.specs.declared.node.Parts.{Parts}
 use Rattle.vg_term.specs.declared.node.Parts.TheVariants as kinds
 use Rattle.vg_term.specs.declared.node.Node.TheVariants as nodes
 use Rattle.vg_term.specs.Folding.{IsWord}
 use Rattle.vg_term.proofs.Made.{is_made}
 use Rattle.vg_term.proofs.Ranges.{term_range}
-use Rattle.vg_simp.specs.Sameness.{AreTrue, IsSame}
 use Rattle.vg_simp.specs.Ranges.{IsIn, IsMeet, IsMet, IsHull, IsWhole, CoversOne, CoversTwo, IsWithin}
 use Rattle.vg_simp.specs.Knowing.{Bounds}
 use Rattle.vg_simp.specs.declared.knowledge.Bound.{Bound}

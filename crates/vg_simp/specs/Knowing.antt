@@ -1,5 +1,5 @@
 -- What is known under facts. No public clause rests on this file.
-use Rattle.std.specs.Prelude.{◌≡◌, ◌≤◌, ◌+◌, ℕ, Bool, List, ◌++◌, ◌∷◌, [], All, Result, OnOk}
+use Rattle.std.specs.Prelude.{◌≡◌, ◌≤◌, ◌+◌, ℕ, List, All, Result, OnOk}
 use Rattle.vg_bits.specs.Words.{bit}
 use Rattle.vg_bits.specs.declared.word.Word.{Word}
 use Rattle.vg_term.specs.Terms.{Term, Stands, width_at}

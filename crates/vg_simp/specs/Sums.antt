@@ -1,5 +1,5 @@
 -- Terms as a term and a constant. No public clause rests on this file.
-use Rattle.std.specs.Prelude.{◌≡◌, ◌≤◌, ◌<◌, ◌^◌, ◌+◌, ℕ, List, Result, IfOk}
+use Rattle.std.specs.Prelude.{◌≡◌, ◌≤◌, ◌<◌, ◌^◌, ℕ, List, Result, IfOk}
 use Rattle.vg_bits.specs.Words.{add}
 use Rattle.vg_bits.specs.declared.word.Word.{Word}
 use Rattle.vg_term.specs.Terms.{Term, Stands, width_at}

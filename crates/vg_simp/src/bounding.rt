@@ -46,7 +46,12 @@ impl Knowledge {
 
     /// Notes a bound of a term that differs from another, where that has one value at the end of this one's range.
     #[tactic(auto, using(crate::proofs::Bounded::above_within, crate::proofs::Bounded::below_within))]
-    pub(crate) fn bound_other(&mut self, terms: &Terms, a: TermId, b: TermId) -> Result<(), TermStop>
+    pub(crate) fn bound_other(
+        &mut self,
+        terms: &Terms,
+        a: TermId,
+        b: TermId,
+    ) -> Result<(), TermStop>
         requires made { AreTerms terms.now }
         requires known { IsKnown terms.now self.old }
         requires first { Stands terms.now a }

@@ -40,7 +40,11 @@ impl Range {
     {
         let low = self.low.max(other.low);
         let high = self.high.min(other.high);
-        if low <= high { Range { low, high } } else { self }
+        if low <= high {
+            Range { low, high }
+        } else {
+            self
+        }
     }
 
     /// The numbers in either, and those between.

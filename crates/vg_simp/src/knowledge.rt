@@ -104,7 +104,12 @@ impl Knowledge {
 
     /// Notes what stands for a term.
     #[tactic(auto, using(crate::proofs::Knowing::replacement_known))]
-    pub(crate) fn replace(&mut self, terms: &Terms, term: TermId, other: TermId) -> Result<(), TermStop>
+    pub(crate) fn replace(
+        &mut self,
+        terms: &Terms,
+        term: TermId,
+        other: TermId,
+    ) -> Result<(), TermStop>
         requires made { AreTerms terms.now }
         requires known { IsKnown terms.now self.old }
         requires stands { Stands terms.now term }
@@ -121,7 +126,12 @@ impl Knowledge {
 
     /// Notes a range that a term's value keeps to.
     #[tactic(auto, using(crate::proofs::Knowing::bound_known))]
-    pub(crate) fn bound(&mut self, terms: &Terms, term: TermId, range: Range) -> Result<(), TermStop>
+    pub(crate) fn bound(
+        &mut self,
+        terms: &Terms,
+        term: TermId,
+        range: Range,
+    ) -> Result<(), TermStop>
         requires known { IsKnown terms.now self.old }
         requires stands { Stands terms.now term }
         requires within { IsWithin terms.now self.old.facts.items term range }

@@ -81,7 +81,13 @@ impl Knowledge {
     }
 
     // One term and so much are at most another: both are bounded, and how far they lie apart is noted.
-    fn set_apart(&mut self, terms: &Terms, low: TermId, by: u64, high: TermId) -> Result<(), TermStop>
+    fn set_apart(
+        &mut self,
+        terms: &Terms,
+        low: TermId,
+        by: u64,
+        high: TermId,
+    ) -> Result<(), TermStop>
         requires made { AreTerms terms.now }
         requires known { IsKnown terms.now self.old }
         requires first { Stands terms.now low }

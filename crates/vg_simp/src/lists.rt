@@ -16,7 +16,11 @@ pub(crate) fn push(list: &mut Vec<TermId>, id: TermId) -> Result<(), TermStop>
 }
 
 /// Adds a truth at the end.
-pub(crate) fn push_literal(list: &mut Vec<Literal>, term: TermId, holds: bool) -> Result<(), TermStop>
+pub(crate) fn push_literal(
+    list: &mut Vec<Literal>,
+    term: TermId,
+    holds: bool,
+) -> Result<(), TermStop>
     ensures { OnOk result (list.new.items ≡ list.old.items ++ (record { term = term; holds = holds }) ∷ []) }
 {
     match list.push(Literal { term, holds }) {

@@ -52,12 +52,7 @@ fn built(terms: &mut Terms, op: Op, parts: Parts) -> Result<TermId, TermStop>
 impl Knowledge {
     // A term on what its parts became.
     #[tactic(auto, using(crate::proofs::Sames::itself_simplifies, crate::proofs::Sames::entries_stand, crate::proofs::Sames::entries_fit, crate::proofs::Sames::entries_within, crate::proofs::Sames::built_same, crate::proofs::Constants::variable_constant))]
-    fn rebuilt(
-        &self,
-        terms: &mut Terms,
-        id: TermId,
-        others: &[TermId],
-    ) -> Result<TermId, TermStop>
+    fn rebuilt(&self, terms: &mut Terms, id: TermId, others: &[TermId]) -> Result<TermId, TermStop>
         requires made { AreTerms terms.old }
         requires stands { Stands terms.old id }
         requires long { length others.now ≡ id.0 }

@@ -1,5 +1,3 @@
-use Rattle.std.proofs.Common.{◌∙◌, sym}
-use Rattle.vg_term.specs.declared.node.TermId.{TermId}
 use Rattle.vg_simp.proofs.Sames.{flags_later}
 use Rattle.vg_simp.proofs.Constants.{closed_later}
 use Rattle.vg_simp.proofs.simplifying.simplify.Goals as goal

@@ -1,4 +1,4 @@
-use Rattle.std.proofs.Common.{◌∙◌, ap, arith}
+use Rattle.std.proofs.Common.{◌∙◌}
 use Rattle.vg_bits.specs.Words as words
 use Rattle.vg_term.specs.Terms.{width_at}
 use Rattle.vg_term.specs.declared.node.Op.TheVariants as ops

@@ -1,4 +1,4 @@
-use Rattle.std.proofs.Common.{◌∙◌, sym}
+use Rattle.std.proofs.Common.{◌∙◌}
 use Rattle.vg_term.proofs.Wires.{width_later}
 use Rattle.vg_simp.proofs.Knowing.{known_later, fact_told}
 use Rattle.vg_simp.proofs.knowledge.Knowledge.learn.Goals as goal

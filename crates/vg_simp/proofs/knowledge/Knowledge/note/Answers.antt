@@ -1,4 +1,4 @@
-use Rattle.std.proofs.Common.{◌∙◌, List, subst, sym}
+use Rattle.std.proofs.Common.{List, subst, sym}
 use Rattle.vg_term.specs.declared.node.TermId.{TermId}
 use Rattle.vg_simp.specs.Knowing.{IsTold}
 use Rattle.vg_simp.proofs.Knowing.{known_later, told_later}

@@ -1,5 +1,5 @@
 use mathlib.Core.Bool.{not}
-use Rattle.std.proofs.Common.{true, false, ap, refl}
+use Rattle.std.proofs.Common.{true, false, ap}
 use Rattle.vg_term.specs.Terms.{width_at}
 use Rattle.vg_term.specs.declared.node.Op.TheVariants as ops
 use Rattle.vg_term.specs.declared.node.Parts.TheVariants as kinds

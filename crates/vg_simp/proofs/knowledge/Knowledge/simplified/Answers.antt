@@ -1,9 +1,8 @@
-use Rattle.std.proofs.Common.{◌≡◌, ◌∙◌, ◌+◌, ◌∷◌, [], true, false, List, Ok, subst, length, get_or, ap, sym, arith, length-append}
+use Rattle.std.proofs.Common.{◌≡◌, ◌∙◌, ◌+◌, ◌∷◌, [], false, List, Ok, subst, length, ap, arith, length-append}
 use Rattle.std.proofs.lemmas.List.{get_or_default}
 use Rattle.vg_term.specs.declared.node.TermId.{TermId}
 use Rattle.vg_term.specs.Terms.{Stands}
 use Rattle.vg_simp.specs.Passing.{KeepsConstant}
-use Rattle.vg_simp.specs.Marking.{is_marked}
 use Rattle.vg_term.proofs.Wires.{grown_on}
 use Rattle.vg_simp.proofs.Sames.{pushed_same, goal_same}
 use Rattle.vg_simp.proofs.Knowing.{known_later}

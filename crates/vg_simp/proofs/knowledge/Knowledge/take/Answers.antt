@@ -1,5 +1,4 @@
-use Rattle.std.proofs.Common.{◌≡◌, ◌++◌, ◌∷◌, [], All, List, subst, sym}
-use Rattle.vg_term.specs.declared.node.TermId.{TermId}
+use Rattle.std.proofs.Common.{◌∷◌, [], All, subst}
 use Rattle.vg_simp.specs.declared.knowledge.Literal.{Literal}
 use Rattle.vg_simp.specs.Knowing.{IsTold}
 use Rattle.vg_simp.proofs.Knowing.{all_told_later, all_left, all_last}
