@@ -218,3 +218,32 @@ fn apart(alloc: Global) -> Option<bool> {
 fn differences_decide_comparisons(rt: HostRuntime) {
     assert!(rt; apart(rt.alloc()) != Some(false));
 }
+
+// The term of an operation that isn't folded.
+fn made(terms: &mut Terms, op: Op, a: TermId, b: TermId) -> Option<TermId> {
+    if a.0 >= terms.len() || b.0 >= terms.len() {
+        return None;
+    }
+    let left = terms.width(a);
+    let right = terms.width(b);
+    if !fits_two(op, left, right) {
+        return None;
+    }
+    terms.make(op, &[a, b]).ok()
+}
+
+// The sum of 3 and 5 is the constant 8, even where 3 is 5.
+fn closed(alloc: Global) -> Option<bool> {
+    let mut terms = Terms::new(alloc).ok()?;
+    let three = word(&mut terms, 8, 3)?;
+    let five = word(&mut terms, 8, 5)?;
+    let sum = made(&mut terms, Op::Add, three, five)?;
+    let fact = made(&mut terms, Op::Eq, three, five)?;
+    let simple = under(alloc, &mut terms, sum, fact)?;
+    Some(is_word(&terms, simple, 8) && !is_word(&terms, sum, 8))
+}
+
+#[test]
+fn a_term_without_variables(rt: HostRuntime) {
+    assert!(rt; closed(rt.alloc()) != Some(false));
+}
