@@ -1,0 +1,11 @@
+pub mod Sames
+pub mod Marks
+pub mod Constants
+pub mod Knowing
+pub mod Telling
+pub mod Ranges
+pub mod Within
+pub mod Judgements
+pub mod Bounded
+pub mod Summed
+pub mod Placed
