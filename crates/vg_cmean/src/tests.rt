@@ -81,6 +81,22 @@ fn shown(alloc: Global, done: Done) -> Result<String, Fail> {
     }
 }
 
+// At most how many steps `nf_process` takes, as typing says it. It is the last node but the whole text's.
+fn bound_of(unit: &Unit) -> u32 {
+    let notes = unit.notes();
+    if notes.len() < 2 {
+        return 0;
+    }
+    notes[notes.len() - 2].steps
+}
+
+fn takes_more(done: Done, bound: u32) -> bool {
+    match done {
+        Done::Ret { steps, .. } => steps > bound,
+        Done::Wrong { .. } => false,
+    }
+}
+
 // What comes of a frame, as text, or why the text isn't run.
 fn run(alloc: Global, text: &str, frame: &mut [u8]) -> Result<String, Fail> {
     let unit = match unit_of(alloc, text)? {
@@ -94,7 +110,11 @@ fn run(alloc: Global, text: &str, frame: &mut [u8]) -> Result<String, Fail> {
         return Err(Fail::from("externs"));
     }
     let mut machine = Machine::new(alloc, &unit)?;
-    shown(alloc, machine.frame(&unit, PORT, frame, NOW))
+    let done = machine.frame(&unit, PORT, frame, NOW);
+    if takes_more(done, bound_of(&unit)) {
+        return Err(Fail::from("more steps than typing allows"));
+    }
+    shown(alloc, done)
 }
 
 // A text with a body of `nf_process`.
