@@ -1,9 +1,10 @@
 -- A disjunction and the list of its parts.
 use Rattle.std.proofs.Common.{◌≡◌, ℕ, zero, suc, ◌+◌, ◌<◌, ◌≤◌, List, [], ◌∷◌, ◌++◌, map, length, set, get_or, slice_get, unwrap_or, is_some, Option, Some, None, Bool, true, false, cond, refl, sym, ap, subst, ◌∙◌, inl, inr, arith, All}
 use Rattle.std.specs.Prelude.{ℤ, pos, ◌||◌, nat_eq, bit_or}
+use Rattle.std.specs.List.{AllWithin}
 use Rattle.std.proofs.lemmas.Bool.{cases_lt, true≢false, eqb-true}
 use Rattle.std.proofs.lemmas.List.{length-append, length-set, get_or_append_left}
-use Rattle.std.proofs.lemmas.List.Elements.{AllWithin, AllWithin-kept, at_read, All-nil, All-cons, All-set, All-push}
+use Rattle.std.proofs.lemmas.List.Elements.{AllWithin-kept, at_read, All-nil, All-cons, All-set, All-push}
 use Rattle.vg_bits.specs.Words.{bit}
 use Rattle.vg_bits.specs.declared.word.Word.{Word}
 use Rattle.vg_cnf.specs.Clauses.{ClauseSet, makes_true}
