@@ -24,11 +24,7 @@ fn sides(terms: &Terms, id: TermId) -> Option<(TermId, TermId)>
 
 /// The parts of a term as a disjunction, those that are disjunctions taken apart too; the term alone where it is none.
 /// Where there are `MOST_PARTS` of them, the disjunctions among them are left whole.
-pub(crate) fn disjuncts(
-    alloc: Global,
-    terms: &Terms,
-    id: TermId,
-) -> Result<Vec<TermId>, AllocError>
+pub(crate) fn disjuncts(alloc: Global, terms: &Terms, id: TermId) -> Result<Vec<TermId>, AllocError>
     requires { Stands terms.now id }
     ensures { IfOk result (λ parts. AreDisjuncts terms.now id parts.items) }
 {
