@@ -10,6 +10,8 @@ pub mod Operating
 pub mod Marks
 pub mod Stating
 pub mod Inputs
+pub mod Splits
+pub mod Clauses
 pub mod Requiring
 pub mod Blasts
 pub mod Costs

@@ -1,5 +1,5 @@
 -- The facts as clauses. No public clause rests on this file.
-use Rattle.std.specs.Prelude.{◌≡◌, ℕ, zero, suc, ◌+◌, ◌<◌, ◌≤◌, ℤ, pos, Bool, true, false, ◌&&◌, if◌then◌else◌, List, [], ◌∷◌, length, slice_index_or, All}
+use Rattle.std.specs.Prelude.{◌≡◌, ℕ, zero, suc, ◌+◌, ◌<◌, ◌≤◌, ℤ, pos, Bool, true, false, ◌&&◌, if◌then◌else◌, List, [], ◌∷◌, map, length, slice_index_or, All}
 use Rattle.vg_bits.specs.declared.word.Word.{Word}
 use Rattle.vg_cnf.specs.Clauses.{ClauseSet, IsOver}
 use Rattle.vg_term.specs.Terms.{Term}
@@ -9,6 +9,7 @@ use Rattle.vg_blast.specs.Circuits.{Adds, literals, Holds}
 use Rattle.vg_blast.specs.Blasting.{BitName, Agree}
 use Rattle.vg_blast.specs.Marking.{followed, is_marked}
 use Rattle.vg_blast.specs.State.{word_at}
+use Rattle.vg_blast.specs.Disjuncts.{SplitsInto, AreDisjuncts}
 use Rattle.vg_blast.specs.declared.marking.Follow.TheVariants.{Conjuncts}
 
 abbrev pub none_of : List TermId → Bool
@@ -29,24 +30,22 @@ pub record HasLiteral (set : ClauseSet) (lists : List (List ℤ)) (id : TermId) 
   pub some : 0 < length (word_at lists id)
   pub over : All (IsOver set.variables) (word_at lists id)
 
--- a clause of the term's literal alone is added
-abbrev pub AddsUnit : ClauseSet → ClauseSet → List (List ℤ) → TermId → Type 0
-AddsUnit old new lists id = Adds old new (first_of lists id ∷ [])
+-- all parts of a term have a literal, however it is taken apart
+abbrev pub HaveLiterals : List Term → ClauseSet → List (List ℤ) → TermId → Type 0
+HaveLiterals terms set lists id = (parts : List TermId) → SplitsInto terms id parts → All (HasLiteral set lists) parts
+
+-- the clause of the literals of the term's parts is added
+pub record AddsDisjuncts (terms : List Term) (old new : ClauseSet) (lists : List (List ℤ)) (id : TermId) : Type 0 where
+  pub parts : List TermId
+  pub are : AreDisjuncts terms id parts
+  pub adds : Adds old new (map (first_of lists) parts)
 
 -- it is added where it is asked for, and else nothing is
-pub record AddsIf (asked : Bool) (old new : ClauseSet) (lists : List (List ℤ)) (id : TermId) : Type 0 where
-  pub added : asked ≡ true → AddsUnit old new lists id
+pub record AddsIf (asked : Bool) (terms : List Term) (old new : ClauseSet) (lists : List (List ℤ)) (id : TermId) : Type 0 where
+  pub added : asked ≡ true → AddsDisjuncts terms old new lists id
   pub kept : asked ≡ false → new ≡ old
 
--- one term is required, with so many literals at most
-pub record RequiresOne (terms : List Term) (names : List BitName) (old new : ClauseSet) (id : TermId) : Type 0 where
-  pub variables : new.variables ≡ old.variables
-  pub weaker : (v : List Bool) → Holds v new → Holds v old
-  pub sound : (words : List Word) (v : List Bool) → Assigns words terms → Agree v terms words names → Holds v new → value_of terms words id ≡ 1
-  pub held : (words : List Word) (v : List Bool) → Assigns words terms → Agree v terms words names → Holds v old → value_of terms words id ≡ 1 → Holds v new
-  pub literals : literals new ≤ literals old + 128
-
--- how many literals that may be for the first n terms
+-- how many literals the clauses for the first n terms may have
 abbrev pub required_to : List Bool → ℕ → ℕ
 required_to asserted zero = 0
 required_to asserted (suc n) = required_to asserted n + (if is_marked asserted (record { 0 = n }) then 128 else 0)

@@ -8,5 +8,6 @@ pub mod Cost
 pub mod Marking
 pub mod Blasting
 pub mod State
+pub mod Disjuncts
 pub mod Facts
 pub mod Assigning

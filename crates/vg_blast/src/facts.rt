@@ -1,18 +1,22 @@
-// The facts as clauses: a conjunction part by part.
+// The facts as clauses: a conjunction part by part, a disjunction as one clause.
 
-ghost use Rattle.std.specs.Prelude.{◌≡◌, ◌+◌, ◌<◌, ◌≤◌, true, length, All, IfOk, IfErr, OnOk, if◌then◌else◌, ◌&&◌, ◌∷◌, []};
+ghost use Rattle.std.specs.Prelude.{◌≡◌, ◌+◌, ◌<◌, ◌≤◌, true, length, map, All, IfOk, IfErr, OnOk, if◌then◌else◌, ◌&&◌};
 ghost use Rattle.vg_term.specs.Terms.{AreTerms, Stands, width_at};
 ghost use Rattle.vg_term.specs.declared.node.TermId.{TermId as Id};
 ghost use Rattle.vg_blast.specs.declared.stops.BlastStop.TheVariants as stops;
-ghost use Rattle.vg_blast.specs.Circuits.{Adds, literals};
+ghost use Rattle.vg_cnf.specs.Clauses.{IsOver};
+ghost use Rattle.vg_blast.specs.Circuits.{literals};
+ghost use Rattle.vg_blast.specs.Cost.{parts_at};
 ghost use Rattle.vg_blast.specs.Marking.{is_marked};
 ghost use Rattle.vg_blast.specs.State.{IsState};
-ghost use Rattle.vg_blast.specs.Facts.{AddsIf, HasLiteral, Requires, first_of, is_leaf, required_to};
+ghost use Rattle.vg_blast.specs.Facts.{AddsDisjuncts, AddsIf, HasLiteral, HaveLiterals, Requires, first_of, is_leaf, required_to};
 
+use crate::disjuncts::disjuncts;
 use crate::marking::{Follow, next};
 use crate::stops::BlastStop;
 use crate::terms::{Circuit, MOST_LITERALS};
-use std::alloc::AllocError;
+use std::alloc::{AllocError, Global};
+use vg_cnf::Lit;
 use vg_term::{Parts, TermId, Terms};
 
 /// Whether a term is no conjunction.
@@ -28,34 +32,50 @@ fn is_no_conjunction(terms: &Terms, id: TermId) -> bool
 }
 
 impl Circuit {
-    /// Requires that a term of width 1 is true.
-    fn require(&mut self, id: TermId) -> Result<(), AllocError>
-        requires { HasLiteral self.old.gates self.old.lists id }
-        ensures adds { OnOk result (Adds self.old.gates self.new.gates (first_of self.old.lists id ∷ [])) }
+    /// The literals of terms of width 1.
+    fn literals(&self, alloc: Global, parts: &[TermId]) -> Result<Vec<Lit>, AllocError>
+        requires { All (HasLiteral self.now.gates self.now.lists) parts.now }
+        ensures literals { IfOk result (λ clause. clause.items ≡ map (first_of self.now.lists) parts.now) }
+        ensures over { IfOk result (λ clause. All (IsOver self.now.gates.variables) clause.items) }
+    {
+        let mut clause = Vec::new(alloc);
+        for part in parts {
+            let word = self.lists.get(part.0 as usize);
+            clause.push(word[0])?;
+        }
+        Ok(clause)
+    }
+
+    /// Requires that a term of width 1 is true, by the clause of its parts as a disjunction.
+    fn require(&mut self, alloc: Global, terms: &Terms, id: TermId) -> Result<(), AllocError>
+        requires stands { Stands terms.now id }
+        requires literals { HaveLiterals terms.now self.old.gates self.old.lists id }
+        ensures adds { OnOk result (AddsDisjuncts terms.now self.old.gates self.new.gates self.old.lists id) }
         ensures lists { self.new.lists ≡ self.old.lists }
         ensures names { self.new.names.items ≡ self.old.names.items }
     {
-        let word = self.lists.get(id.0 as usize);
-        let literal = word[0];
-        self.gates.add(&[literal])
+        let parts = disjuncts(alloc, terms, id)?;
+        let clause = self.literals(alloc, &parts)?;
+        self.gates.add(&clause)
     }
 
     /// Requires an asserted term, unless it is a conjunction, whose parts are asserted too.
     fn require_asserted(
         &mut self,
+        alloc: Global,
         terms: &Terms,
         asserted: &[bool],
         id: TermId,
     ) -> Result<(), AllocError>
         requires stands { Stands terms.now id }
         requires long { length asserted.now ≡ length terms.now }
-        requires literal { is_marked asserted.now id ≡ true → HasLiteral self.old.gates self.old.lists id }
-        ensures one { OnOk result (AddsIf (is_marked asserted.now id && is_leaf terms.now id) self.old.gates self.new.gates self.old.lists id) }
+        requires literals { is_marked asserted.now id ≡ true → HaveLiterals terms.now self.old.gates self.old.lists id }
+        ensures one { OnOk result (AddsIf (is_marked asserted.now id && is_leaf terms.now id) terms.now self.old.gates self.new.gates self.old.lists id) }
         ensures lists { self.new.lists ≡ self.old.lists }
         ensures names { self.new.names.items ≡ self.old.names.items }
     {
         if asserted[id.0 as usize] && is_no_conjunction(terms, id) {
-            self.require(id)
+            self.require(alloc, terms, id)
         } else {
             Ok(())
         }
@@ -64,10 +84,13 @@ impl Circuit {
     /// Requires each asserted term.
     pub fn require_all(
         &mut self,
+        alloc: Global,
         terms: &Terms,
         marks: &[bool],
         asserted: &[bool],
     ) -> Result<(), BlastStop>
+        requires made { AreTerms terms.now }
+        requires closed { (id : Id) → is_marked marks.now id ≡ true → All (λ part. is_marked marks.now part ≡ true) (parts_at terms.now id) }
         requires state { IsState terms.now marks.now (length terms.now) self.old.gates self.old.lists self.old.names.items }
         requires long { length asserted.now ≡ length terms.now }
         requires marked { (id : Id) → is_marked asserted.now id ≡ true → is_marked marks.now id ≡ true }
@@ -79,7 +102,7 @@ impl Circuit {
         ensures refused { IfErr result (λ e. e ≡ stops.Clauses → 16777216 < literals self.old.gates + required_to asserted.now (length terms.now)) }
     {
         for at in 0..terms.len() {
-            self.require_asserted(terms, asserted, TermId(at))?;
+            self.require_asserted(alloc, terms, asserted, TermId(at))?;
             if self.gates.literal_count() > MOST_LITERALS {
                 return Err(BlastStop::Clauses);
             }

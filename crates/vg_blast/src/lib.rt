@@ -6,6 +6,7 @@ mod assigning;
 mod bitwise;
 mod blasting;
 mod comparing;
+mod disjuncts;
 mod facts;
 mod gate;
 mod gates;
