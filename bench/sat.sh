@@ -5,7 +5,9 @@
 # learned (default 200000). One line a file: its name, the answer, seconds of user time to solve, to check, and of minisat, and
 # how many times minisat's time solving took; what takes less than 0.2 seconds is run twenty times. The last line has the median
 # of these ratios, where a file that wasn't solved counts as the worst. The goals: a median of at most 5, and checking takes no
-# longer than solving. The kit's command rt is needed where the program is missing or not current.
+# longer than solving. Where solving ends without an answer, the check doesn't accept a refutation, or minisat answers
+# otherwise, the script says so and ends with status 1. The kit's command rt is needed where the program is missing or not
+# current.
 . "$(dirname -- "$0")/vg_bench.sh"
 . "$(dirname -- "$0")/cnf.sh"
 variables=${VARIABLES:-200}
@@ -38,14 +40,33 @@ seconds() {
     if awk -v once="$once" 'BEGIN { exit once >= 0.2 }'; then user_time 20 "$@"; else printf '%s' "$once"; fi
 }
 
+# Says what is wrong with the current file, and ends.
+fail() {
+    echo "${0##*/}: $(basename "$file" .cnf): $1" >&2
+    exit 1
+}
+
 for file in "$work"/*.cnf; do
     rm -f "$work/proof"
     solving=$(seconds "$program" solve "$file" "$limit" "$work/proof")
-    answer=$(head -n 1 "$work/out" | cut -d' ' -f2)
+    said=$(head -n 1 "$work/out")
+    case $said in
+        's SATISFIABLE') answer=SATISFIABLE ;;
+        's UNSATISFIABLE '*) answer=UNSATISFIABLE ;;
+        's UNKNOWN '*) answer=UNKNOWN ;;
+        *) fail "solving ends without an answer: $said" ;;
+    esac
     checking=-
-    [ -f "$work/proof" ] && checking=$(seconds "$program" check "$file" "$work/proof")
+    if [ "$answer" = UNSATISFIABLE ]; then
+        checking=$(seconds "$program" check "$file" "$work/proof")
+        grep -qx 's UNSATISFIABLE [0-9]* checked' "$work/out" || fail "the refutation isn't accepted: $(head -n 1 "$work/out")"
+    fi
     other=-
-    command -v minisat >/dev/null && other=$(seconds minisat "$file")
+    if command -v minisat >/dev/null; then
+        other=$(seconds minisat "$file")
+        said=$(tail -n 1 "$work/out")
+        [ "$answer" = UNKNOWN ] || [ "$said" = "$answer" ] || fail "solving answers $answer, and minisat $said"
+    fi
     ratio=$(awk -v a="$solving" -v b="$other" -v answer="$answer" 'BEGIN {
         if (b == "-") print "-"; else if (answer !~ /SATISFIABLE$/) print 999999; else printf "%.1f", a / (b > 0.0005 ? b : 0.0005)
     }')
