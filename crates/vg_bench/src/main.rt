@@ -11,8 +11,6 @@ mod solving;
 mod stop;
 #[cfg(test)]
 mod tests;
-#[cfg(test)]
-mod word_examples;
 
 use crate::stop::Stop;
 use std::env::Env;
