@@ -11,6 +11,8 @@ mod solving;
 mod stop;
 #[cfg(test)]
 mod tests;
+#[cfg(test)]
+mod word_examples;
 
 use crate::stop::Stop;
 use std::env::Env;

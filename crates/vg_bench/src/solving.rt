@@ -21,10 +21,7 @@ pub fn solve_text(
     limit: u32,
     wants_proof: bool,
 ) -> Result<Solved, Stop> {
-    let clauses = match read(alloc, text) {
-        Ok(clauses) => clauses,
-        Err(unread) => return Ok(plain(refusal(alloc, unread)?)),
-    };
+    let clauses = clauses_of(alloc, text)?;
     let Ok(answer) = solve(alloc, &clauses, limit) else {
         return Err(Stop::Memory);
     };
@@ -45,13 +42,11 @@ pub fn solve_text(
 
 /// Checks the proof that a text spells.
 pub fn check_text(alloc: Global, text: &str, proof: &str) -> Result<String, Stop> {
-    let clauses = match read(alloc, text) {
-        Ok(clauses) => clauses,
-        Err(unread) => return refusal(alloc, unread),
-    };
+    let clauses = clauses_of(alloc, text)?;
     let steps = match read_steps(alloc, proof) {
         Ok(steps) => steps,
-        Err(unread) => return refusal(alloc, unread),
+        Err(Unread::Line(line)) => return Err(Stop::Proof(line)),
+        Err(Unread::Memory) => return Err(Stop::Memory),
     };
     verdict(alloc, &clauses, &steps)
 }
@@ -64,11 +59,12 @@ fn plain(report: String) -> Solved {
     }
 }
 
-/// What is printed of a text that wasn't read: its malformed line.
-fn refusal(alloc: Global, unread: Unread) -> Result<String, Stop> {
-    match unread {
-        Unread::Memory => Err(Stop::Memory),
-        Unread::Line(line) => Ok(format!(in alloc; "line {}\n", line)?),
+/// The clauses that a text spells.
+fn clauses_of(alloc: Global, text: &str) -> Result<Clauses, Stop> {
+    match read(alloc, text) {
+        Ok(clauses) => Ok(clauses),
+        Err(Unread::Line(line)) => Err(Stop::Clauses(line)),
+        Err(Unread::Memory) => Err(Stop::Memory),
     }
 }
 
@@ -116,7 +112,7 @@ mod tests {
     use super::*;
     use std::test::Fail;
 
-    const FOUR: &str = "c all four\np cnf 2 4\n1 2 0\n1 -2 0\n-1 2 0\n-1 -2 2 0 -1 -2 -2 0\n";
+    const FOUR: &str = "c all four\np cnf 2 5\n1 2 0\n1 -2 0\n-1 2 0\n-1 -2 2 0 -1 -2 -2 0\n";
 
     #[test]
     fn four_clauses(rt: HostRuntime) -> Result<(), Fail> {
@@ -127,10 +123,54 @@ mod tests {
         assert_eq!(rt; checked.as_str(), "s UNSATISFIABLE 2 checked\n");
         let unchecked = check_text(alloc, FOUR, "0\n").expect(&rt, "room");
         assert_eq!(rt; unchecked.as_str(), "step 1 does not follow\n");
-        let unread = check_text(alloc, "p cnf 2 1\n1 3 0\n", "0\n").expect(&rt, "room");
-        assert_eq!(rt; unread.as_str(), "line 2\n");
         let model = solve_text(alloc, "p cnf 2 2\n-1 0 1 2 0\n", 9, false).expect(&rt, "room");
         assert_eq!(rt; model.report.as_str(), "s SATISFIABLE\nv -1 2 0\n");
+        Ok(())
+    }
+
+    // In which line a text of clauses is malformed.
+    #[test]
+    fn malformed_clauses(rt: HostRuntime) -> Result<(), Fail> {
+        let alloc = rt.alloc();
+        for (text, line) in [
+            ("", 1),
+            ("c no head\nc at all\n", 2),
+            ("p dnf 2 1\n1 0\n", 1),
+            ("c clauses first\n1 0\np cnf 2 1\n", 2),
+            ("p cnf 2 1\np cnf 2 1\n1 0\n", 2),
+            ("p cnf 2 2\n1 x 0\n2 0\n", 2),
+            ("p cnf 2 3\n1 0\n2 -3 0\n1 0\n", 3),
+            ("p cnf 2 2\n1 0\nc one too few\n", 3),
+            ("p cnf 2 1\n1 0\n2 0\nc one too many\n", 4),
+            ("p cnf 2 1\n1\n2\n", 3),
+        ] {
+            let solved = solve_text(alloc, text, 9, false).err();
+            assert_eq!(rt; solved, Some(Stop::Clauses(line)), "for {text}");
+            let checked = check_text(alloc, text, "0\n").err();
+            assert_eq!(rt; checked, Some(Stop::Clauses(line)), "for {text}");
+        }
+        let printed = format!(in alloc; "{}", Stop::Clauses(12))?;
+        assert_eq!(rt; printed.as_str(), "clauses line 12");
+        Ok(())
+    }
+
+    // In which line a proof is malformed; where both texts are, the clauses' line is told.
+    #[test]
+    fn malformed_proofs(rt: HostRuntime) -> Result<(), Fail> {
+        let alloc = rt.alloc();
+        for (proof, line) in [
+            ("1\n0\n", 1),
+            ("1 0\n\n0\n", 2),
+            ("1 0\nd 1 0\n0\n", 2),
+            ("1 0\n0 0\n", 2),
+        ] {
+            let checked = check_text(alloc, FOUR, proof).err();
+            assert_eq!(rt; checked, Some(Stop::Proof(line)), "for {proof}");
+        }
+        let both = check_text(alloc, "p cnf 1 1\n", "1\n").err();
+        assert_eq!(rt; both, Some(Stop::Clauses(1)));
+        let printed = format!(in alloc; "{}", Stop::Proof(3))?;
+        assert_eq!(rt; printed.as_str(), "proof line 3");
         Ok(())
     }
 }

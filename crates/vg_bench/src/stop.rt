@@ -27,6 +27,12 @@ pub enum Stop {
     /// A file couldn't be written.
     #[error("write fault")]
     Write,
+    /// The file of the clauses is malformed in this line, counted from 1.
+    #[error("clauses line {0}")]
+    Clauses(usize),
+    /// The file of the proof is malformed in this line, counted from 1.
+    #[error("proof line {0}")]
+    Proof(usize),
 }
 
 impl Stop {
@@ -40,6 +46,7 @@ impl Stop {
             Stop::Print | Stop::Write => 7,
             Stop::Read => 6,
             Stop::Long => 11,
+            Stop::Clauses(_) | Stop::Proof(_) => 3,
         }
     }
 }
