@@ -36,7 +36,7 @@ fn a_variable_is_written_and_read_while_it_lives(rt: HostRuntime) -> Result<(), 
     memory.end_life(0);
     assert!(rt; memory.load(&frame, start, 2, 2) == Err(Reason::Dead));
     memory.declare(0);
-    assert!(rt; memory.load(&frame, start, 2, 2) == Err(Reason::Unset));
+    assert!(rt; memory.load(&frame, start, 2, 2) == Err(Reason::Dead));
     memory.tick();
     memory.declare(0);
     assert!(rt; memory.load(&frame, start, 2, 2) == Err(Reason::Dead));
