@@ -6,7 +6,7 @@ use Rattle.std.proofs.Math.Nat.{mod-eq_of_lt}
 use Rattle.std.proofs.Math.Seq.{take-append_seam}
 use Rattle.std.proofs.lemmas.Bool.{cases_lt}
 use Rattle.std.proofs.lemmas.List.{take-append-le, take_all, length-take}
-use Rattle.std.proofs.lemmas.List.Elements.{All-head, All-tail, All-map, All-weaker}
+use Rattle.std.proofs.lemmas.List.Elements.{All-nil, All-cons, All-head, All-tail, All-map, All-weaker}
 use Rattle.std.proofs.lemmas.Nat.{or_disjoint, or_lt}
 use Rattle.std.proofs.lemmas.Nat.Bits.{same_from_bits_below, same_from_bits, bit_at-zero, bit_at_and, bit_at_above}
 use Rattle.vg_bits.specs.Words as formulas
@@ -123,6 +123,13 @@ module _ (old new : List Term) (op other : Op) (parts : List TermId) (wires : Li
   wired_builds : (result : Result TermId TermStop) → BuildsWires old new wires 0 w result → Builds old new op parts result
   wired_builds (Ok id) h = record { made = h.grown.made; grows = h.grown.grows; means = wired_stands_for id h.grown.made h.grown.grows h.wired }
   wired_builds (Err stop) h = record { made = h.grown.made; grows = h.grown.grows; means = tt }
+
+-- bits of a term
+pub slice_built : (old new : List Term) (from w : ℕ) (term : TermId) (wires : List Wire) (result : Result TermId TermStop) → AreTerms old → Stands old term → 0 < w → from + w ≤ width_at old term → AllCarry old (ops.Extract from w) (term ∷ []) wires w →
+    BuildsWires old new wires 0 w result → Builds old new (ops.Extract from w) (term ∷ []) result
+slice_built old new from w term wires result was there some within carry h =
+    wired_builds old new (ops.Extract from w) (ops.Extract from w) (term ∷ []) wires w was (All-cons (Stands old) term [] there (All-nil (Stands old))) (some, within) carry refl
+    (record { fits = (some, within); width = refl; value = λ words assigns. refl }) result h
 
 -- the same, with the parts as they are held
 module _ (old : List Term) (op : Op) (parts : List TermId) (p : Parts) (is : p ≡ held parts) (fits : Fits op (map (width_at old) parts)) (stand : All (Stands old) parts) where

@@ -1,5 +1,5 @@
 -- Equality piece by piece.
-use Rattle.std.proofs.Common.{◌≡◌, ℕ, suc, zero, ◌+◌, ◌-◌, ◌*◌, ◌/◌, ◌%◌, ◌^◌, ◌<◌, ◌≤◌, Bool, true, false, List, [], ◌∷◌, map, length, get_or, Result, Ok, Err, All, refl, sym, ap, subst, ◌∙◌, inl, inr, arith, eq-eqb}
+use Rattle.std.proofs.Common.{◌≡◌, ℕ, ◌+◌, ◌-◌, ◌*◌, ◌/◌, ◌%◌, ◌^◌, ◌<◌, ◌≤◌, Bool, true, false, List, [], ◌∷◌, get_or, Result, Ok, Err, refl, sym, ap, subst, ◌∙◌, inl, inr, arith, eq-eqb}
 use Rattle.std.specs.Prelude.{bit_and, nat_eq}
 use Rattle.std.specs.Int.{bit_at}
 use Rattle.std.proofs.Math.Nat.{mod-one, mod-eq_of_lt}
@@ -9,14 +9,13 @@ use Rattle.std.proofs.lemmas.Nat.{pow_pos, mod_below, mod-pow-add, same_from_pla
 use Rattle.std.proofs.lemmas.Nat.Bits.{same_from_bits_below}
 use Rattle.vg_bits.specs.Words as formulas
 use Rattle.vg_bits.specs.declared.word.Word.{Word}
-use Rattle.vg_term.specs.Operations.{answer}
 use Rattle.vg_term.specs.Terms.{Term, AreTerms, Stands, width_at}
-use Rattle.vg_term.specs.Value.{value_of, bits_at, Assigns}
+use Rattle.vg_term.specs.Value.{value_of, Assigns}
 use Rattle.vg_term.specs.Folding.{Grows, StandsFor, Builds}
-use Rattle.vg_term.specs.Wiring.{wire_value, AllCarry, AllStand, IsRun, IsWired, Grown, BuildsWires}
+use Rattle.vg_term.specs.Wiring.{AllCarry, IsRun, IsWired, Grown}
 use Rattle.vg_term.specs.Equality.{IsLowEqual, IsBoth, JoinsEqual}
 use Rattle.vg_term.specs.declared.wire.Wire.{Wire}
-use Rattle.vg_term.specs.declared.wire.Wire.TheVariants.{Fixed, Bit}
+use Rattle.vg_term.specs.declared.wire.Wire.TheVariants.{Fixed}
 use Rattle.vg_term.specs.declared.node.TermId.{TermId}
 use Rattle.vg_term.specs.declared.node.Op.{Op}
 use Rattle.vg_term.specs.declared.node.Op.TheVariants as ops

@@ -10,3 +10,6 @@ pub mod Wires
 pub mod Following
 pub mod Building
 pub mod Equalities
+pub mod CutLaws
+pub mod Slices
+pub mod Compared

@@ -11,7 +11,7 @@ use Rattle.vg_bits.specs.declared.word.Word.{Word}
 use Rattle.vg_term.specs.Operations.{Bits}
 use Rattle.vg_term.specs.Terms.{Term, AreTerms, Stands, Needs, width_at, operation}
 use Rattle.vg_term.specs.Value.{value_of, Assigns}
-use Rattle.vg_term.specs.Folding.{Grows, StandsFor, Folds, IsWord}
+use Rattle.vg_term.specs.Folding.{Grows, StandsFor, Folds, Builds, IsWord}
 use Rattle.vg_term.specs.Wiring.{wire_value, WireStands, AllStand, Follows, IsRun, IsWired, Grown, BuildsWires}
 use Rattle.vg_term.specs.declared.wire.Wire.{Wire}
 use Rattle.vg_term.specs.declared.wire.Wire.TheVariants.{Fixed, Bit}
@@ -203,20 +203,10 @@ builds_word old new wires from to first holds w (Ok id) made run long is wide bi
 builds_word old new wires from to first holds w (Err stop) made run long is wide bits needs =
     record { grown = record { made = made; grows = (folds_to_itself old new (ops.Const w) [] (Err stop) made (All-nil (Stands old)) tt needs).grows }; wired = tt }
 
-part_built : (old new : List Term) (wires : List Wire) (from to : ℕ) (first : Wire) (term : TermId) (at : ℕ) (result : Result TermId TermStop) → AreTerms new → IsRun wires from to → to ≤ length wires →
-    get_or wires from first ≡ Bit term at → Folds old new (ops.Extract at (to - from)) (term ∷ []) result → BuildsWires old new wires from (to - from) result
-part_built old new wires from to first term at (Ok id) made run long is folds =
-    record { grown = record { made = made; grows = folds.grows }; wired = part_wired wires from to first term id at run long is folds.means }
-part_built old new wires from to first term at (Err stop) made run long is folds = record { grown = record { made = made; grows = folds.grows }; wired = tt }
-
-pub builds_part : (old new : List Term) (wires : List Wire) (from to : ℕ) (first : Wire) (term : TermId) (at : ℕ) (result : Result TermId TermStop) → AreTerms new → IsRun wires from to → to ≤ length wires →
-    get_or wires from first ≡ Bit term at → AllStand old wires to → Needs old new (operation old (ops.Extract at (to - from)) (term ∷ [])) result → BuildsWires old new wires from (to - from) result
-builds_part old new wires from to first term at result made run long is all needs =
-    let stands = run_stands wires from to first term at run long is all in
-    let fits = run_fits wires from to first term at run long is all in
-    let some : 0 < to - from = omega (arith, run.some) in
-    part_built old new wires from to first term at result made run long is
-    (folds_to_itself old new (ops.Extract at (to - from)) (term ∷ []) result made (one_part old term stands) (some, fits) needs)
+pub part_builds : (old new : List Term) (wires : List Wire) (from to : ℕ) (first : Wire) (term : TermId) (at : ℕ) (result : Result TermId TermStop) → IsRun wires from to → to ≤ length wires →
+    get_or wires from first ≡ Bit term at → Builds old new (ops.Extract at (to - from)) (term ∷ []) result → BuildsWires old new wires from (to - from) result
+part_builds old new wires from to first term at (Ok id) run long is h = record { grown = record { made = h.made; grows = h.grows }; wired = part_wired wires from to first term id at run long is h.means }
+part_builds old new wires from to first term at (Err stop) run long is h = record { grown = record { made = h.made; grows = h.grows }; wired = tt }
 
 pub builds_whole : (old : List Term) (wires : List Wire) (from to : ℕ) (first : Wire) (term : TermId) (at : ℕ) → AreTerms old → IsRun wires from to → to ≤ length wires → get_or wires from first ≡ Bit term at → AllStand old wires to →
     width_at old term ≡ to - from → BuildsWires old old wires from (to - from) (Ok term)

@@ -5,3 +5,5 @@ pub mod Rules
 pub mod Folding
 pub mod Wiring
 pub mod Equality
+pub mod Spending
+pub mod Narrowing

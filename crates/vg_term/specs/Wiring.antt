@@ -1,5 +1,5 @@
 -- Wiring: a word each of whose bits is fixed, or is a bit of some term. Where C cuts, shifts, masks and joins words without arithmetic, the result is wiring.
-use Rattle.std.specs.Prelude.{◌≡◌, ℕ, suc, ◌+◌, ◌%◌, ◌<◌, ◌≤◌, min, max, List, map, slice_index_or, Bool, Result, IfOk, All}
+use Rattle.std.specs.Prelude.{◌≡◌, ℕ, suc, ◌+◌, ◌-◌, ◌%◌, ◌^◌, ◌<◌, ◌≤◌, min, max, List, map, slice_index_or, Bool, Result, IfOk, All}
 use Rattle.std.specs.Int.{bit_at}
 use Rattle.vg_bits.specs.Words.{bit}
 use Rattle.vg_bits.specs.declared.word.Word.{Word}
@@ -105,6 +105,10 @@ pub record AllCarry (terms : List Term) (op : Op) (parts : List TermId) (wires :
 -- at the places below n, never both of the two parts have a 1
 pub record AreApart (terms : List Term) (a b : TermId) (n : ℕ) : Type 0 where
   pub each : (i : ℕ) → i < n → (words : List Word) → Assigns words terms → min (bit_at (value_of terms words a) i) (bit_at (value_of terms words b) i) ≡ 0
+
+-- its highest bit is 0 under every assignment
+abbrev pub IsPositive : List Term → TermId → Type 0
+IsPositive terms a = (words : List Word) → Assigns words terms → value_of terms words a < 2 ^ (width_at terms a - 1)
 
 -- the other operation answers the same on these parts
 pub record AnswersAs (terms : List Term) (op other : Op) (parts : List TermId) : Type 0 where

@@ -1,9 +1,10 @@
 //! An equality as a conjunction of equalities of the aligned pieces of both sides.
 
-ghost use Rattle.std.specs.Prelude.{◌≡◌, [], ◌∷◌};
+ghost use Rattle.std.specs.Prelude.{◌≡◌, ◌≤◌, ◌+◌, [], ◌∷◌, length};
 ghost use Rattle.vg_term.specs.Terms.{AreTerms, Stands, width_at};
 ghost use Rattle.vg_term.specs.Folding.{Builds};
 ghost use Rattle.vg_term.specs.Equality.{JoinsEqual};
+ghost use Rattle.vg_term.specs.Spending.{IsFull, Spends};
 ghost use Rattle.vg_term.specs.declared.node.Op.TheVariants as ops;
 
 use crate::node::{Op, Parts, TermId};
@@ -14,12 +15,14 @@ use vg_bits::Word;
 
 impl Terms {
     /// Whether two parts of one width are equal. Each stretch of wires that is a run on both sides gives one equality.
-    pub(crate) fn equal(&mut self, a: TermId, b: TermId) -> Result<TermId, TermStop>
+    pub(crate) fn equal(&mut self, a: TermId, b: TermId, cuts: &mut u8) -> Result<TermId, TermStop>
         requires made { AreTerms self.old }
         requires first { Stands self.old a }
         requires second { Stands self.old b }
         requires alike { width_at self.old a ≡ width_at self.old b }
-        ensures { Builds self.old self.new ops.Eq (a ∷ b ∷ []) result }
+        ensures builds { Builds self.old self.new ops.Eq (a ∷ b ∷ []) result }
+        ensures spends { Spends self.old self.new cuts.old cuts.new 257 }
+        ensures full { IsFull self.new result }
     {
         let width = self.width(a);
         let whole = Op::Extract { from: 0, width };
@@ -33,8 +36,8 @@ impl Terms {
         let mut at = 0;
         while at < width {
             let end = run_end(&left, at, width).min(run_end(&right, at, width));
-            let x = self.piece(&left, at, end)?;
-            let y = self.piece(&right, at, end)?;
+            let x = self.piece(&left, at, end, cuts)?;
+            let y = self.piece(&right, at, end, cuts)?;
             all = self.both_equal(all, x, y)?;
             at = end;
         }
@@ -49,7 +52,9 @@ impl Terms {
         requires first { Stands self.old a }
         requires second { Stands self.old b }
         requires alike { width_at self.old a ≡ width_at self.old b }
-        ensures { JoinsEqual self.old self.new fact a b result }
+        ensures joins { JoinsEqual self.old self.new fact a b result }
+        ensures few { length self.new ≤ length self.old + 2 }
+        ensures full { IsFull self.new result }
     {
         let equal = self.simple(Op::Eq, &[a, b])?;
         self.simple(Op::And, &[fact, equal])

@@ -1,11 +1,14 @@
 //! Constructors that fold: the answered term may be a simpler one of the same value.
 
-ghost use Rattle.std.specs.Prelude.{◌≡◌, None, map, All, IfOk, IfSome};
+ghost use Rattle.std.specs.Prelude.{◌≡◌, ◌≤◌, ◌+◌, None, length, map, All, IfOk, IfSome};
 ghost use Rattle.vg_term.specs.Operations.{Fits};
 ghost use Rattle.vg_term.specs.Terms.{AreTerms, IsConstant, Stands, constant_at, width_at};
 ghost use Rattle.vg_term.specs.Folding.{Builds, Folds, IsAnswer, IsFolded, IsKnown, IsWord};
+ghost use Rattle.vg_term.specs.Spending.{IsFull, NeedsPlaces, Spends};
 
 use crate::applying::apply;
+use crate::comparing::is_comparison;
+use crate::cutting::MOST_CUTS;
 use crate::known::Known;
 use crate::node::{Node, Op, Parts, TermId};
 use crate::stops::TermStop;
@@ -28,12 +31,13 @@ impl Terms {
         }
     }
 
-    /// A term for an operation on parts that fit it, of the same value under every assignment. It is a simpler one where the parts are constants, equal, opposite, or neutral; on constants it is the constant of what the operation answers.
+    /// A term for an operation on parts that fit it, of the same value under every assignment. It is a simpler one where the parts are constants, equal, opposite, or neutral; on constants it is the constant of what the operation answers. It may need more terms than one: `Full` comes only where fewer than 65,536 of `MOST_TERMS` are left.
     pub fn build(&mut self, op: Op, parts: &[TermId]) -> Result<TermId, TermStop>
         requires parts_stand { All (Stands self.old) parts.now }
         requires fits { Fits op (map (width_at self.old) parts.now) }
         ensures made { AreTerms self.new }
         ensures folds { Folds self.old self.new op parts.now result }
+        ensures full { NeedsPlaces self.old result }
         ensures folded { All (IsConstant self.old) parts.now → IfOk result (λ id. IsFolded self.old self.new op parts.now id) }
     {
         let mark = self.mark();
@@ -52,14 +56,17 @@ impl Terms {
         requires parts_stand { All (Stands self.old) parts.now }
         requires fits { Fits op (map (width_at self.old) parts.now) }
         ensures builds { Builds self.old self.new op parts.now result }
+        ensures few { length self.new ≤ length self.old + 33088 }
+        ensures full { IsFull self.new result }
         ensures folded { All (IsConstant self.old) parts.now → IfOk result (λ id. IsFolded self.old self.new op parts.now id) }
     {
         if let Some(word) = self.answer_on_constants(op, parts) {
             return self.make(Op::Const(word), &[]);
         }
-        match (op, parts) {
-            (Op::Eq, [a, b]) => self.equal(*a, *b),
-            _ => self.wired(op, parts),
+        let mut cuts = MOST_CUTS;
+        match parts {
+            [a, b] if is_comparison(op) => self.compared(op, *a, *b, &mut cuts),
+            _ => self.wired(op, parts, &mut cuts),
         }
     }
 
@@ -68,7 +75,9 @@ impl Terms {
         requires made { AreTerms self.old }
         requires parts_stand { All (Stands self.old) parts.now }
         requires fits { Fits op (map (width_at self.old) parts.now) }
-        ensures { Builds self.old self.new op parts.now result }
+        ensures builds { Builds self.old self.new op parts.now result }
+        ensures few { length self.new ≤ length self.old + 1 }
+        ensures full { IsFull self.new result }
     {
         match self.known(op, parts) {
             Some(Known::Standing(term)) => Ok(term),
@@ -77,18 +86,26 @@ impl Terms {
         }
     }
 
-    // The operation rebuilt from its wires, where it is wiring, and else as it is.
-    fn wired(&mut self, op: Op, parts: &[TermId]) -> Result<TermId, TermStop>
+    /// The operation rebuilt from its wires, where it is wiring, and else as it is.
+    #[cycle(cutting)]
+    pub(crate) fn wired(
+        &mut self,
+        op: Op,
+        parts: &[TermId],
+        cuts: &mut u8,
+    ) -> Result<TermId, TermStop>
         requires made { AreTerms self.old }
         requires parts_stand { All (Stands self.old) parts.now }
         requires fits { Fits op (map (width_at self.old) parts.now) }
-        ensures { Builds self.old self.new op parts.now result }
+        ensures builds { Builds self.old self.new op parts.now result }
+        ensures spends { Spends self.old self.new cuts.old cuts.new 128 }
+        ensures full { IsFull self.new result }
     {
         let held = Parts::new(parts);
-        let same = self.without_carries(op, held);
+        let same = self.as_wiring(op, held);
         let width = self.answer_width(same, held);
         match self.wires(same, held, width) {
-            Some(wires) => self.rebuild(&wires, width),
+            Some(wires) => self.rebuild(&wires, width, cuts),
             None => self.simple(op, parts),
         }
     }

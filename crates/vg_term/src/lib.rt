@@ -2,6 +2,8 @@
 #![tactic(auto)]
 
 mod applying;
+mod comparing;
+mod cutting;
 mod equal;
 mod folding;
 mod known;

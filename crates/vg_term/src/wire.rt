@@ -1,6 +1,6 @@
 //! Terms whose bits are wires to bits of other terms, rebuilt in one way.
 
-ghost use Rattle.std.specs.Prelude.{◌≡◌, ◌<◌, ◌≤◌, ◌+◌, ◌-◌, ℕ, Bool, [], ◌∷◌, length, slice_index_or, IsTrue};
+ghost use Rattle.std.specs.Prelude.{◌≡◌, ◌<◌, ◌≤◌, ◌+◌, ◌-◌, ◌*◌, ℕ, Bool, [], ◌∷◌, length, slice_index_or, IsTrue};
 ghost use Rattle.std.specs.Int.{bit_at};
 ghost use Rattle.vg_bits.specs.Words.{bit};
 ghost use Rattle.vg_term.specs.Terms.{AreTerms, Stands, width_at};
@@ -8,6 +8,7 @@ ghost use Rattle.vg_term.specs.Folding.{Folds};
 ghost use Rattle.vg_term.specs.declared.node.Op.TheVariants as ops;
 ghost use Rattle.vg_term.specs.declared.wire.Wire.TheVariants as kinds;
 ghost use Rattle.vg_term.specs.Wiring.{AllStand, BuildsWires, Follows, IsRun};
+ghost use Rattle.vg_term.specs.Spending.{IsFull, Spends};
 
 use crate::node::{Op, TermId};
 use crate::stops::TermStop;
@@ -87,31 +88,48 @@ fn is_set(wire: Wire) -> bool
 
 impl Terms {
     /// A term of these wires. It is the same term for the same wires.
-    pub(crate) fn rebuild(&mut self, wires: &[Wire], width: u8) -> Result<TermId, TermStop>
+    #[cycle(cutting)]
+    pub(crate) fn rebuild(
+        &mut self,
+        wires: &[Wire],
+        width: u8,
+        cuts: &mut u8,
+    ) -> Result<TermId, TermStop>
         requires some { 0 < width }
         requires most { width ≤ 64 }
         requires long { width ≤ length wires.now }
         requires stand { AllStand self.old wires.now width }
-        ensures { BuildsWires self.old self.new wires.now 0 width result }
+        ensures builds { BuildsWires self.old self.new wires.now 0 width result }
+        ensures spends { Spends self.old self.new cuts.old cuts.new (2 * width) }
+        ensures full { IsFull self.new result }
     {
         let mut end = run_end(wires, 0, width);
-        let mut low = self.piece(wires, 0, end)?;
+        let mut low = self.piece(wires, 0, end, cuts)?;
         while end < width {
             let next = run_end(wires, end, width);
-            let high = self.piece(wires, end, next)?;
+            let high = self.piece(wires, end, next, cuts)?;
             low = self.joined(high, low)?;
             end = next;
         }
         Ok(low)
     }
 
-    // The term of a run of wires.
-    pub(crate) fn piece(&mut self, wires: &[Wire], from: u8, to: u8) -> Result<TermId, TermStop>
+    /// The term of a run of wires.
+    #[cycle(cutting)]
+    pub(crate) fn piece(
+        &mut self,
+        wires: &[Wire],
+        from: u8,
+        to: u8,
+        cuts: &mut u8,
+    ) -> Result<TermId, TermStop>
         requires run { IsRun wires.now from to }
         requires most { to ≤ 64 }
         requires long { to ≤ length wires.now }
         requires stand { AllStand self.old wires.now to }
-        ensures { BuildsWires self.old self.new wires.now from (to - from) result }
+        ensures builds { BuildsWires self.old self.new wires.now from (to - from) result }
+        ensures spends { Spends self.old self.new cuts.old cuts.new 1 }
+        ensures full { IsFull self.new result }
     {
         let first = wires[from as usize];
         match first {
@@ -121,7 +139,7 @@ impl Terms {
                 if width == self.width(term) {
                     return Ok(term);
                 }
-                self.make(Op::Extract { from: at, width }, &[term])
+                self.cut_from(term, at, width, cuts)
             }
         }
     }
@@ -133,6 +151,8 @@ impl Terms {
         requires fits { width_at self.old high + width_at self.old low ≤ 64 }
         ensures folds { Folds self.old self.new ops.Concat (high ∷ low ∷ []) result }
         ensures made { AreTerms self.new }
+        ensures few { length self.new ≤ length self.old + 1 }
+        ensures full { IsFull self.new result }
     {
         if let Some(word) = self.constant(high) {
             if word.value == 0 {

@@ -4,7 +4,7 @@ ghost use Rattle.std.specs.Prelude.{◌≡◌, ◌<◌, ◌≤◌, ◌/◌, ◌%
 ghost use Rattle.vg_term.specs.Operations.{Fits, width_of};
 ghost use Rattle.vg_term.specs.Terms.{AreTerms, Stands, listed, width_at};
 ghost use Rattle.vg_term.specs.declared.wire.Wire.TheVariants as kinds;
-ghost use Rattle.vg_term.specs.Wiring.{AllCarry, AnswersAs, AreApart, Carries, IsBitwise, IsCut, SameWire, WireStands, wire_depth};
+ghost use Rattle.vg_term.specs.Wiring.{AllCarry, AnswersAs, AreApart, Carries, IsBitwise, IsCut, IsPositive, SameWire, WireStands, wire_depth};
 
 use crate::node::{Node, Op, Parts, TermId};
 use crate::terms::Terms;
@@ -20,8 +20,8 @@ fn bit_of(word: Word, at: u8) -> bool
     word.value >> at & 1 == 1
 }
 
-// Whether a wire is fixed to 0.
-fn is_off(wire: Wire) -> bool
+/// Whether a wire is fixed to 0.
+pub(crate) fn is_off(wire: Wire) -> bool
     ensures { IsTrue result → wire ≡ kinds.Fixed false }
 {
     match wire {
@@ -68,8 +68,9 @@ impl Terms {
         Some(wires)
     }
 
-    /// A sum whose parts never both have a 1 at one place is the union of their bits; any other operation is itself.
-    pub(crate) fn without_carries(&self, op: Op, parts: Parts) -> Op
+    /// An operation that answers the same on these parts and that can be wiring: the union of bits for a sum whose parts never both have a 1 at one place,
+    /// and an extension or a shift with zeros for one with the sign, where the sign is 0. Any other operation is itself.
+    pub(crate) fn as_wiring(&self, op: Op, parts: Parts) -> Op
         requires made { AreTerms self.now }
         requires parts_stand { All (Stands self.now) (listed parts) }
         requires fits { Fits op (map (width_at self.now) (listed parts)) }
@@ -77,8 +78,25 @@ impl Terms {
     {
         match (op, parts) {
             (Op::Add, Parts::Two(a, b)) => { if self.are_apart(a, b) { Op::Or } else { op } }
+            (Op::Sext(width), Parts::One(a)) => {
+                if self.is_positive(a) {
+                    Op::Zext(width)
+                } else {
+                    op
+                }
+            }
+            (Op::Ashr, Parts::Two(a, _)) => { if self.is_positive(a) { Op::Lshr } else { op } }
             _ => op,
         }
+    }
+
+    // Whether the sign of a term is 0 under each assignment.
+    fn is_positive(&self, term: TermId) -> bool
+        requires { Stands self.now term }
+        ensures { IsTrue result → IsPositive self.now term }
+    {
+        let at = self.width(term) - 1;
+        is_off(self.followed(Wire::Bit { term, at }))
     }
 
     // Whether two parts of one width never both have a 1 at one place.
@@ -128,6 +146,12 @@ impl Terms {
                     term: high,
                     at: at - width,
                 })
+            }
+            (Op::Sext(_), Parts::One(term)) => {
+                if at < self.width(term) {
+                    return Some(Wire::Bit { term, at });
+                }
+                None
             }
             _ => None,
         }
