@@ -16,7 +16,7 @@ use Rattle.vg_units.specs.Propagating.{Grown, AreWithin}
 use Rattle.vg_units.specs.Searching.{Search, IsAtRest, IsSound, IsSameBut, IsEnd}
 use Rattle.vg_units.proofs.Visiting.{grown_within, grown_longer, contains_at, holds_last, holds_before}
 use Rattle.vg_units.proofs.Reaching.{AreDecided, chain_conflict, over-nonzero}
-use Rattle.vg_units.proofs.Assuming.{holds-negations, negated-held, decided_more}
+use Rattle.vg_units.proofs.Assuming.{Decided, grown_from, holds-negations, negated-held, decided_more}
 use Rattle.vg_sat.specs.Walks.{AreValues, Walked}
 use Rattle.vg_sat.proofs.Choosing.{AreAssignedTo, assigned_more, all_true}
 use Rattle.vg_sat.specs.Choices.{IsUndecided, AreAssigned}
@@ -50,16 +50,6 @@ more_decided : (trail more : List ℤ) (starts : List ℕ) (l : ℤ) → AreDeci
 more_decided trail more starts l decided at listed =
     let before = decided at listed in
     (before.0, or_right (int_eq (get_or trail at (pos 0)) l) (holds more (get_or trail at (pos 0))) before.1)
-
--- the state after one decision
-pub record Decided (s next new : Search) (l : ℤ) : Type 0 where
-  pub decision : next ≡ record s { trail = s.trail ++ l ∷ []; starts = s.starts ++ length s.trail ∷ [] }
-  pub stay : IsSameBut next new
-  pub sound : IsSound new
-  pub grown : Grown next.clauses next.trail new.trail
-
-grown_from : (s next new : Search) (l : ℤ) → Decided s next new l → Grown s.clauses (s.trail ++ l ∷ []) new.trail
-grown_from s next new l step = subst (λ x. Grown x.clauses x.trail new.trail) step.decision step.grown
 
 decided_from : (s next new : Search) (l : ℤ) (clause : List ℤ) → Decided s next new l → AreDecided (negations clause) s.trail s.starts →
     AreDecided (negations (neg_ℤ l ∷ clause)) new.trail new.starts
