@@ -1,13 +1,14 @@
 -- Where a clause doesn't follow, literals settle the clauses while its own are false.
-use Rattle.std.proofs.Common.{◌≡◌, ℕ, zero, suc, List, [], ◌∷◌, ◌++◌, length, true, false, refl, sym, ap, ◌∙◌, inl, inr, arith}
-use Rattle.std.specs.Prelude.{ℤ, pos, negsuc, neg_ℤ, All, is_none}
+use Rattle.std.proofs.Common.{◌≡◌, ℕ, List, [], ◌∷◌, ◌++◌, length, true, false, refl, ap, ◌∙◌, inl, inr, arith}
+use Rattle.std.specs.Prelude.{ℤ, pos, neg_ℤ, All, is_none}
 use Rattle.std.specs.Ordering.{int_eq}
+use Rattle.std.proofs.Math.IntN.{neg_ℤ-neg_ℤ}
 use Rattle.std.proofs.lemmas.Bool.{cases_Bool, and_from, or_cases, or_parts, or_from, false≢true}
 use Rattle.std.proofs.lemmas.List.Elements.{All-head, All-tail}
 use Rattle.vg_cnf.specs.Clauses.{holds, is_clause, IsClauseOver}
-use Rattle.vg_cnf.specs.Orders.{IsConsistent, Settled, negations, occurs}
+use Rattle.vg_cnf.specs.Orders.{Settled, negations, occurs}
 use Rattle.vg_cnf.specs.Propagation.{propagated, falsified, follows}
-use Rattle.vg_cnf.proofs.Steps.{clash, same_literal, cases_Option}
+use Rattle.vg_cnf.proofs.Steps.{clash, same_literal, same_test, cases_Option}
 use Rattle.vg_cnf.proofs.Soundness.{clause-nonzero}
 use Rattle.vg_cnf.proofs.Settled.{settled-unit, propagated-settles}
 use Rattle.vg_cnf.proofs.Orders.{settled-follows}
@@ -17,9 +18,11 @@ use Rattle.vg_units.proofs.Reaching.{over-nonzero}
 use Rattle.vg_sat.specs.Learned.{LeavesOpen}
 
 negation_nonzero : (l : ℤ) → int_eq (pos 0) l ≡ false → int_eq (pos 0) (neg_ℤ l) ≡ false
-negation_nonzero (pos zero) e = e
-negation_nonzero (pos (suc n)) e = refl
-negation_nonzero (negsuc n) e = refl
+negation_nonzero l e =
+    elim (cases_Bool (int_eq (pos 0) (neg_ℤ l))) [
+      | inl is_zero ↦ clash (int_eq (pos 0) l) (same_test (pos 0) l (ap neg_ℤ (same_literal (pos 0) (neg_ℤ l) is_zero) ∙ neg_ℤ-neg_ℤ l)) e
+      | inr not_zero ↦ not_zero
+    ]
 
 falsified_nonzero : (c : List ℤ) (cs : List (List ℤ)) → holds c (pos 0) ≡ false → occurs cs (pos 0) ≡ false → occurs (falsified c ++ cs) (pos 0) ≡ false
 falsified_nonzero [] cs nonzero none = none
@@ -43,9 +46,9 @@ falsified_settled ls (l ∷ c) cs all =
     )
 
 open_left : (v : ℕ) (cs : List (List ℤ)) (c : List ℤ) → All (IsClauseOver v) cs → IsClauseOver v c → follows cs c ≡ false → LeavesOpen cs c
-open_left v cs c all over no =
+open_left v cs c all over unfollowed =
     elim (cases_Option (propagated (falsified c ++ cs))) [
-      | inl none ↦ clash (follows cs c) (and_from (is_clause c) (is_none (propagated (falsified c ++ cs))) over.clause (ap is_none none)) no
+      | inl none ↦ clash (follows cs c) (and_from (is_clause c) (is_none (propagated (falsified c ++ cs))) over.clause (ap is_none none)) unfollowed
       | inr some ↦
           let settles =
           propagated-settles (length (falsified c ++ cs)) (falsified c ++ cs) some.0 (omega arith) (falsified_nonzero c cs (clause-nonzero c over.clause) (over-nonzero v cs all)) some.1 in
@@ -57,8 +60,8 @@ open_left v cs c all over no =
 pub follows_more : (v : ℕ) (cs : List (List ℤ)) (few many : List ℤ) → All (IsClauseOver v) cs → AreWithin few many → IsClauseOver v many → follows cs few ≡ true → follows cs many ≡ true
 follows_more v cs few many all within over few_follows =
     elim (cases_Bool (follows cs many)) [
-      | inl yes ↦ yes
-      | inr no ↦
-          let h = open_left v cs many all over no in
+      | inl followed ↦ followed
+      | inr unfollowed ↦
+          let h = open_left v cs many all over unfollowed in
           clash (follows cs few) few_follows (settled-follows cs few h.made h.consistent h.settled (λ k e. h.falses k (negations_within few many within k e)))
     ]

@@ -1,14 +1,14 @@
 -- Clauses made shorter.
-use Rattle.std.proofs.Common.{◌≡◌, ℕ, ◌<◌, ◌≤◌, List, [], ◌∷◌, ◌++◌, length, get_or, true, false, refl, sym, ap, ◌∙◌, inl, inr, subst, arith, append_assoc}
-use Rattle.std.specs.Prelude.{ℤ, pos, neg_ℤ, not, ◌||◌, All}
+use Rattle.std.proofs.Common.{◌≡◌, ℕ, ◌<◌, ◌≤◌, List, [], ◌∷◌, ◌++◌, length, get_or, take, drop, true, false, refl, sym, ap, ◌∙◌, inl, inr, subst, arith, append_assoc}
+use Rattle.std.specs.Prelude.{ℤ, pos, neg_ℤ, not, All}
 use Rattle.std.specs.List.{list_all}
 use Rattle.std.specs.Ordering.{int_eq}
 use Rattle.std.proofs.lemmas.Bool.{cases_Bool, or_cases, or_left, or_right, and_from, false≢true}
 use Rattle.std.proofs.lemmas.List.Folds.{list_any-append}
 use Rattle.std.proofs.lemmas.List.Elements.{All-from_get_or}
-use Rattle.std.proofs.lemmas.List.{append-nil}
+use Rattle.std.proofs.lemmas.List.{append-nil, take-append-drop}
 use Rattle.vg_cnf.specs.Clauses.{holds, without, is_clause, IsOver, IsClauseOver}
-use Rattle.vg_cnf.specs.Orders.{Settled, negations}
+use Rattle.vg_cnf.specs.Orders.{Settled}
 use Rattle.vg_cnf.specs.Propagation.{follows}
 use Rattle.vg_cnf.proofs.Steps.{clash, same_literal, same_test, not_true_back}
 use Rattle.vg_cnf.proofs.Settled.{without-from, without-gone, holds-without}
@@ -17,7 +17,7 @@ use Rattle.vg_units.specs.Searching.{Search, IsSound, Assumes}
 use Rattle.vg_units.proofs.Literals.{held_over}
 use Rattle.vg_units.proofs.Visiting.{not_within, held_at}
 use Rattle.vg_units.proofs.Assuming.{left_within, right_within, both_within, negations_within, test_at}
-use Rattle.vg_sat.specs.Learned.{first_of, LeavesOpen, LeavesFirst, IsLearnable, IsLearned, IsReduced}
+use Rattle.vg_sat.specs.Learned.{first_of, LeavesOpen, IsLearnable, IsLearned, IsReduced}
 use Rattle.vg_sat.proofs.Opening.{follows_more}
 
 -- ---- clauses and parts of them
@@ -56,13 +56,13 @@ leaves_fewer cs part c within h =
 
 -- ---- literals of parts
 
-turned : (some front back : List ℤ) → AreWithin ((some ++ back) ++ front) (some ++ front ++ back)
+turned : (some front back : List ℤ) → AreWithin ((some ++ back) ++ front) (some ++ (front ++ back))
 turned some front back =
-    both_within (some ++ back) front (some ++ front ++ back)
-    (both_within some back (some ++ front ++ back) (left_within some (front ++ back)) (λ k e. right_within some (front ++ back) k (right_within front back k e)))
+    both_within (some ++ back) front (some ++ (front ++ back))
+    (both_within some back (some ++ (front ++ back)) (left_within some (front ++ back)) (λ k e. right_within some (front ++ back) k (right_within front back k e)))
     (λ k e. right_within some (front ++ back) k (left_within front back k e))
 
-turned_back : (some front back : List ℤ) → AreWithin (some ++ front ++ back) ((some ++ back) ++ front)
+turned_back : (some front back : List ℤ) → AreWithin (some ++ (front ++ back)) ((some ++ back) ++ front)
 turned_back some front back =
     both_within some (front ++ back) ((some ++ back) ++ front) (λ k e. left_within (some ++ back) front k (left_within some back k e))
     (both_within front back ((some ++ back) ++ front) (right_within (some ++ back) front) (λ k e. left_within (some ++ back) front k (right_within some back k e)))
@@ -70,10 +70,10 @@ turned_back some front back =
 swapped : (some back few : List ℤ) → AreWithin ((some ++ back) ++ few) ((some ++ few) ++ back)
 swapped some back few k e = ap (λ xs. holds xs k) (append_assoc some few back) ∙ turned some few back k e
 
-fewer : (some few front back : List ℤ) → AreWithin few front → AreWithin ((some ++ few) ++ back) (some ++ front ++ back)
+fewer : (some few front back : List ℤ) → AreWithin few front → AreWithin ((some ++ few) ++ back) (some ++ (front ++ back))
 fewer some few front back within =
-    both_within (some ++ few) back (some ++ front ++ back)
-    (both_within some few (some ++ front ++ back) (left_within some (front ++ back)) (λ k e. right_within some (front ++ back) k (left_within front back k (within k e))))
+    both_within (some ++ few) back (some ++ (front ++ back))
+    (both_within some few (some ++ (front ++ back)) (left_within some (front ++ back)) (λ k e. right_within some (front ++ back) k (left_within front back k (within k e))))
     (λ k e. right_within some (front ++ back) k (right_within front back k e))
 
 -- without one literal of two lists
@@ -101,6 +101,13 @@ holds_without_both k l a b e =
     ]
 
 -- ---- halves
+
+pub parts_joined : (n : ℕ) (list front back : List ℤ) → front ≡ take n list → back ≡ drop n list → list ≡ front ++ back
+parts_joined n list front back is_front is_back =
+    sym (take-append-drop n list) ∙ ap (λ xs. xs ++ drop n list) (sym is_front) ∙ ap (λ xs. front ++ xs) (sym is_back)
+
+pub few_over : (v : ℕ) (few list : List ℤ) → AreWithin few list → All (IsOver v) list → All (IsOver v) few
+few_over v few list within over = all_over v few (λ k held. held_over v list k over (within k held))
 
 -- literals that are assumed alone leave the clauses open
 pub assumed_open : (s : Search) (assumed : List ℤ) → IsSound s → All (Settled s.trail) s.clauses → Assumes s assumed → LeavesOpen s.clauses assumed
@@ -134,18 +141,18 @@ pub none_reduced : (cs : List (List ℤ)) (some : List ℤ) → follows cs some 
 none_reduced cs some follows_it = record { follows_it = ap (follows cs) (append-nil some) ∙ follows_it; needed = λ k held. absurd (false≢true held) }
 
 -- the one half is judged beside the other, and the other beside what is left of the one
-pub front_over : (v : ℕ) (some front back : List ℤ) → IsClauseOver v (some ++ front ++ back) → IsClauseOver v ((some ++ back) ++ front)
-front_over v some front back over = part_over v ((some ++ back) ++ front) (some ++ front ++ back) (turned some front back) over
+pub front_over : (v : ℕ) (some front back : List ℤ) → IsClauseOver v (some ++ (front ++ back)) → IsClauseOver v ((some ++ back) ++ front)
+front_over v some front back over = part_over v ((some ++ back) ++ front) (some ++ (front ++ back)) (turned some front back) over
 
-pub front_follows : (v : ℕ) (cs : List (List ℤ)) (some front back : List ℤ) → All (IsClauseOver v) cs → IsClauseOver v (some ++ front ++ back) → follows cs (some ++ front ++ back) ≡ true →
+pub front_follows : (v : ℕ) (cs : List (List ℤ)) (some front back : List ℤ) → All (IsClauseOver v) cs → IsClauseOver v (some ++ (front ++ back)) → follows cs (some ++ (front ++ back)) ≡ true →
     follows cs ((some ++ back) ++ front) ≡ true
 front_follows v cs some front back all over follows_it =
-    follows_more v cs (some ++ front ++ back) ((some ++ back) ++ front) all (turned_back some front back) (front_over v some front back over) follows_it
+    follows_more v cs (some ++ (front ++ back)) ((some ++ back) ++ front) all (turned_back some front back) (front_over v some front back over) follows_it
 
-pub back_over : (v : ℕ) (some front back few : List ℤ) → AreWithin few front → IsClauseOver v (some ++ front ++ back) → IsClauseOver v ((some ++ few) ++ back)
-back_over v some front back few within over = part_over v ((some ++ few) ++ back) (some ++ front ++ back) (fewer some few front back within) over
+pub back_over : (v : ℕ) (some front back few : List ℤ) → AreWithin few front → IsClauseOver v (some ++ (front ++ back)) → IsClauseOver v ((some ++ few) ++ back)
+back_over v some front back few within over = part_over v ((some ++ few) ++ back) (some ++ (front ++ back)) (fewer some few front back within) over
 
-pub back_follows : (v : ℕ) (cs : List (List ℤ)) (some front back few : List ℤ) → All (IsClauseOver v) cs → AreWithin few front → IsClauseOver v (some ++ front ++ back) →
+pub back_follows : (v : ℕ) (cs : List (List ℤ)) (some front back few : List ℤ) → All (IsClauseOver v) cs → AreWithin few front → IsClauseOver v (some ++ (front ++ back)) →
     IsReduced cs (some ++ back) few → follows cs ((some ++ few) ++ back) ≡ true
 back_follows v cs some front back few all within over h =
     follows_more v cs ((some ++ back) ++ few) ((some ++ few) ++ back) all (swapped some back few) (back_over v some front back few within over) h.follows_it
@@ -165,9 +172,9 @@ halves_reduced cs some back few more within front_half back_half =
           ];
     }
   where
-    beside_few : (k : ℤ) → AreWithin (some ++ without k (few ++ more)) (some ++ few ++ without k more)
+    beside_few : (k : ℤ) → AreWithin (some ++ without k (few ++ more)) (some ++ (few ++ without k more))
     beside_few k =
-        both_within some (without k (few ++ more)) (some ++ few ++ without k more) (left_within some (few ++ without k more))
+        both_within some (without k (few ++ more)) (some ++ (few ++ without k more)) (left_within some (few ++ without k more))
         (λ l e. right_within some (few ++ without k more) l (holds_without_both k l few more e))
 
     beside_back : (k : ℤ) → AreWithin (some ++ without k (few ++ more)) ((some ++ back) ++ without k few)

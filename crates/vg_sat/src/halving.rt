@@ -9,6 +9,7 @@ use std::alloc::{AllocError, Global};
 use vg_cnf::Lit;
 use vg_units::Propagator;
 
+#[cycle(halving)]
 /// Those literals of a list that are needed beside what is assumed, where the clause of both follows.
 fn needed(alloc: Global, search: &mut Propagator, list: &[Lit]) -> Result<Vec<Lit>, AllocError>
     requires at_end { search.old.head ≡ length search.old.trail }
@@ -30,6 +31,7 @@ fn needed(alloc: Global, search: &mut Propagator, list: &[Lit]) -> Result<Vec<Li
     Ok(kept)
 }
 
+#[cycle(halving)]
 /// Those literals of a list that are needed beside others and what is assumed, where the clause of all follows.
 pub(crate) fn needed_beside(
     alloc: Global,

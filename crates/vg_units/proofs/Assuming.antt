@@ -15,9 +15,9 @@ use Rattle.vg_cnf.specs.Propagation.{follows}
 use Rattle.vg_cnf.proofs.Steps.{clash, or_rest, same_literal, same_test, not_true_back}
 use Rattle.vg_cnf.proofs.Orders.{reaches-follows, settled-follows}
 use Rattle.vg_units.specs.Lists.{IsListedFrom}
-use Rattle.vg_units.specs.Propagating.{AreFalse, Grown, same, more, AreWithin}
+use Rattle.vg_units.specs.Propagating.{Grown, same, more, AreWithin}
 use Rattle.vg_units.specs.Levels.{start_in}
-use Rattle.vg_units.specs.Searching.{Search, IsAtRest, IsChain, IsSound, IsSameBut, IsEnd, Rests, Assumes, AssumesAlso, TellsBeside, IsBeyond, IsFurther}
+use Rattle.vg_units.specs.Searching.{Search, IsAtRest, IsSound, IsSameBut, IsEnd, Rests, Assumes, AssumesAlso, TellsBeside, IsBeyond, IsFurther}
 use Rattle.vg_units.proofs.Listing.{same_or_other}
 use Rattle.vg_units.proofs.Visiting.{grown_within, grown_longer, contains_at, holds_last, holds_before, held_prefix}
 use Rattle.vg_units.proofs.Keeping.{held_pushed}

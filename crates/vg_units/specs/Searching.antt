@@ -1,5 +1,5 @@
 -- A search: clauses, the literals that are true, and where the decisions among these stand.
-use Rattle.std.specs.Prelude.{◌≡◌, ℕ, ◌<◌, ◌≤◌, ℤ, pos, neg_ℤ, Bool, true, List, [], ◌∷◌, ◌++◌, length, take, slice_index_or, All, ◌⊎◌, Option, Some, None}
+use Rattle.std.specs.Prelude.{◌≡◌, ℕ, ◌<◌, ℤ, pos, Bool, true, List, [], ◌∷◌, ◌++◌, length, take, slice_index_or, All, ◌⊎◌, Option, Some, None}
 use Rattle.vg_cnf.specs.Clauses.{holds, IsClauseOver}
 use Rattle.vg_cnf.specs.Orders.{IsConsistent, Settled, negations}
 use Rattle.vg_cnf.specs.Propagation.{follows}

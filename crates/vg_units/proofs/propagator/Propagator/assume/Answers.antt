@@ -1,4 +1,4 @@
-use Rattle.std.proofs.Common.{◌≡◌, [], refl, sym, ◌∙◌}
+use Rattle.std.proofs.Common.{[], refl}
 use Rattle.vg_units.proofs.Assuming.{assumes_nothing, further_variables, further_clauses, further_rests, rests_open}
 use Rattle.vg_units.proofs.propagator.Propagator.assume.Goals as goal
 

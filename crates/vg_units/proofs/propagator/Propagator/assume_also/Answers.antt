@@ -1,8 +1,6 @@
-use Rattle.std.proofs.Common.{◌≡◌, ◌≤◌, ◌+◌, length, subst, sym, ap, ◌∙◌, true, refl, arith}
-use Rattle.std.specs.Prelude.{not}
+use Rattle.std.proofs.Common.{◌+◌, subst, sym, ap, ◌∙◌}
 use Rattle.vg_cnf.specs.Clauses.{holds}
-use Rattle.vg_cnf.proofs.Steps.{not_false_back}
-use Rattle.vg_units.proofs.Assuming.{Assuming, Decided, assuming_starts, assuming_passes, assuming_clash, assuming_some, assuming_none, assuming_also, assuming_open, beyond_decided, further_beyond, read_held}
+use Rattle.vg_units.proofs.Assuming.{Assuming, assuming_starts, assuming_passes, assuming_clash, assuming_some, assuming_none, assuming_also, assuming_open, beyond_decided, further_beyond, read_held}
 use Rattle.vg_units.proofs.propagator.Propagator.assume_also.Goals as goal
 use Rattle.vg_units.proofs.propagator.Propagator.assume_also.Goals.{then-not-is_true+in_ok-decide+in_ok-propagate+else-is_some, else-not-is_true}
 

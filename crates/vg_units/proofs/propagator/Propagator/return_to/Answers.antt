@@ -1,4 +1,4 @@
-use Rattle.std.proofs.Common.{◌≡◌, ◌<◌, ◌≤◌, length, inl, inr, sym, ap, ◌∙◌, arith}
+use Rattle.std.proofs.Common.{length, inl, inr, ap, arith}
 use Rattle.vg_units.proofs.Assuming.{returned, higher}
 use Rattle.vg_units.proofs.propagator.Propagator.return_to.Goals as goal
 
