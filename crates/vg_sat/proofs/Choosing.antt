@@ -1,14 +1,12 @@
 -- Variables that are true or false.
-use Rattle.std.proofs.Common.{◌≡◌, ℕ, zero, suc, ◌+◌, ◌<◌, ◌≤◌, List, [], ◌∷◌, length, get_or, true, false, refl, sym, ap, ◌∙◌, inl, inr, ◌⊎◌, subst, arith}
-use Rattle.std.specs.Prelude.{ℤ, pos, negsuc, neg_ℤ, unsigned_abs, Bool, not, All, slice_index_or}
-use Rattle.std.specs.List.{list_any}
+use Rattle.std.proofs.Common.{◌≡◌, ℕ, zero, suc, ◌+◌, ◌<◌, ◌≤◌, List, [], ◌∷◌, true, false, refl, sym, ap, ◌∙◌, inl, inr, ◌⊎◌, subst, arith}
+use Rattle.std.specs.Prelude.{ℤ, pos, negsuc, neg_ℤ, Bool, not, All}
 use Rattle.std.specs.Ordering.{int_eq}
-use Rattle.std.proofs.lemmas.Bool.{cases_Bool, or_left, or_right, or_cases, and_from, false≢true}
+use Rattle.std.proofs.lemmas.Bool.{or_left, or_right, or_cases, and_from, false≢true}
 use Rattle.std.proofs.lemmas.List.Elements.{All-head, All-tail}
-use Rattle.std.proofs.Math.IntN.{neg_ℤ-neg_ℤ}
-use Rattle.vg_cnf.specs.Clauses.{holds, IsOver, IsClauseOver, makes_literal_true, makes_true, makes_all_true, IsModel}
+use Rattle.vg_cnf.specs.Clauses.{holds, IsOver, IsClauseOver, makes_literal_true, makes_true, makes_all_true}
 use Rattle.vg_cnf.specs.Orders.{IsConsistent, Settled, by_true, by_two}
-use Rattle.vg_cnf.proofs.Steps.{clash, same_literal, same_test}
+use Rattle.vg_cnf.proofs.Steps.{clash, same_literal}
 use Rattle.vg_units.specs.Searching.{Search}
 use Rattle.vg_units.proofs.Literals.{held_over}
 use Rattle.vg_units.proofs.Listing.{same_or_other}

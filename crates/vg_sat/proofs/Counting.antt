@@ -1,16 +1,16 @@
 -- How many different clauses there are over so many variables.
 use Rattle.std.proofs.Common.{◌≡◌, ℕ, zero, suc, ◌+◌, ◌*◌, ◌^◌, ◌<◌, ◌≤◌, List, [], ◌∷◌, ◌++◌, length, get_or, map, true, false, refl, sym, ap, ◌∙◌, inl, inr, ◌⊎◌, ◌≢◌, subst, arith, eqb, eqb-true}
-use Rattle.std.specs.Prelude.{ℤ, pos, negsuc, neg_ℤ, Bool, Option, Some, None, IsSome, is_some, if◌then◌else◌, ◌||◌, All, AllPairs, Contains, ◌↔◌}
+use Rattle.std.specs.Prelude.{ℤ, pos, negsuc, neg_ℤ, Bool, is_some, All, AllPairs, Contains}
 use Rattle.std.specs.List.{list_any}
 use Rattle.std.proofs.Math.Nat.{pow-suc}
-use Rattle.std.proofs.lemmas.Bool.{cases_Bool, or_cases, or_left, or_right, false≢true, true≢false}
+use Rattle.std.proofs.lemmas.Bool.{or_cases, false≢true, true≢false}
 use Rattle.std.proofs.lemmas.Bool.Decides.{Decides-eqb}
 use Rattle.std.proofs.lemmas.List.{get_or-map, length-map}
 use Rattle.std.proofs.lemmas.List.Elements.{All-cons}
 use Rattle.std.proofs.lemmas.Map.Made.{IsDistinct-from_AllPairs}
 use Rattle.std.proofs.lemmas.Map.Steps.{length-le_from_distinct_below}
-use Rattle.vg_cnf.specs.Clauses.{ClauseSet, holds, is_clause, IsOver, IsClauseOver}
-use Rattle.vg_cnf.specs.Propagation.{has_empty, propagated, propagated_in}
+use Rattle.vg_cnf.specs.Clauses.{ClauseSet, holds, IsOver, IsClauseOver}
+use Rattle.vg_cnf.specs.Propagation.{has_empty, propagated_in}
 use Rattle.vg_cnf.specs.Refutations.{IsSameClause, IsSpent}
 use Rattle.vg_units.specs.Searching.{Search}
 use Rattle.vg_units.proofs.Literals.{held_over}

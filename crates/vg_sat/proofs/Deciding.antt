@@ -1,6 +1,6 @@
 -- Decisions one after another.
-use Rattle.std.proofs.Common.{◌≡◌, ℕ, zero, suc, ◌+◌, ◌*◌, ◌<◌, ◌≤◌, List, [], ◌∷◌, ◌++◌, length, get_or, true, false, refl, sym, ap, ◌∙◌, inl, inr, ◌⊎◌, subst, arith, length-append}
-use Rattle.std.specs.Prelude.{ℤ, pos, negsuc, neg_ℤ, Bool, not, ◌||◌, All, Option, Some, None, is_some, MatchOption, Result, Ok, Err, IfOk}
+use Rattle.std.proofs.Common.{◌≡◌, ℕ, zero, suc, ◌+◌, ◌<◌, List, [], ◌∷◌, ◌++◌, length, get_or, true, false, refl, sym, ap, ◌∙◌, inl, inr, ◌⊎◌, subst, arith, length-append}
+use Rattle.std.specs.Prelude.{ℤ, pos, negsuc, neg_ℤ, Bool, not, All, Option, Some, None, is_some, MatchOption, Result, Ok, Err, IfOk}
 use Rattle.std.specs.List.{list_all}
 use Rattle.std.specs.Ordering.{int_eq}
 use Rattle.std.proofs.Math.IntN.{neg_ℤ-neg_ℤ}
@@ -8,19 +8,17 @@ use Rattle.std.proofs.lemmas.Bool.{cases_Bool, or_cases, or_left, or_right, and_
 use Rattle.std.proofs.lemmas.List.Elements.{All-cons}
 use Rattle.vg_cnf.specs.Clauses.{holds, is_clause, IsOver, IsClauseOver, makes_all_true, IsModel}
 use Rattle.vg_cnf.specs.Orders.{IsConsistent, Settled, negations, Reaches}
-use Rattle.vg_cnf.specs.Propagation.{follows}
 use Rattle.vg_cnf.proofs.Steps.{clash, same_literal, same_test}
 use Rattle.vg_cnf.proofs.Orders.{reaches-follows}
-use Rattle.vg_units.specs.Lists.{IsListedFrom}
-use Rattle.vg_units.specs.Propagating.{Grown, AreWithin}
-use Rattle.vg_units.specs.Searching.{Search, IsAtRest, IsSound, IsSameBut, IsEnd}
+use Rattle.vg_units.specs.Propagating.{AreWithin}
+use Rattle.vg_units.specs.Searching.{Search, IsAtRest, IsSound, IsEnd}
 use Rattle.vg_units.proofs.Visiting.{grown_within, grown_longer, contains_at, holds_last, holds_before}
 use Rattle.vg_units.proofs.Reaching.{AreDecided, chain_conflict, over-nonzero}
-use Rattle.vg_units.proofs.Assuming.{holds-negations, negated-held, decided_more}
+use Rattle.vg_units.proofs.Assuming.{Decided, grown_from, holds-negations, negated-held, decided_more}
 use Rattle.vg_sat.specs.Walks.{AreValues, Walked}
 use Rattle.vg_sat.proofs.Choosing.{AreAssignedTo, assigned_more, all_true}
 use Rattle.vg_sat.specs.Choices.{IsUndecided, AreAssigned}
-use Rattle.vg_sat.specs.Learned.{first_of, LeavesFirst, IsLearnable}
+use Rattle.vg_sat.specs.Learned.{IsLearnable}
 
 pub walk_starts : (s : Search) → IsAtRest s → IsSound s → All (Settled s.trail) s.clauses → Walked s []
 walk_starts s rest sound settled =
@@ -50,16 +48,6 @@ more_decided : (trail more : List ℤ) (starts : List ℕ) (l : ℤ) → AreDeci
 more_decided trail more starts l decided at listed =
     let before = decided at listed in
     (before.0, or_right (int_eq (get_or trail at (pos 0)) l) (holds more (get_or trail at (pos 0))) before.1)
-
--- the state after one decision
-pub record Decided (s next new : Search) (l : ℤ) : Type 0 where
-  pub decision : next ≡ record s { trail = s.trail ++ l ∷ []; starts = s.starts ++ length s.trail ∷ [] }
-  pub stay : IsSameBut next new
-  pub sound : IsSound new
-  pub grown : Grown next.clauses next.trail new.trail
-
-grown_from : (s next new : Search) (l : ℤ) → Decided s next new l → Grown s.clauses (s.trail ++ l ∷ []) new.trail
-grown_from s next new l step = subst (λ x. Grown x.clauses x.trail new.trail) step.decision step.grown
 
 decided_from : (s next new : Search) (l : ℤ) (clause : List ℤ) → Decided s next new l → AreDecided (negations clause) s.trail s.starts →
     AreDecided (negations (neg_ℤ l ∷ clause)) new.trail new.starts

@@ -1,10 +1,10 @@
 -- Clauses loaded one by one.
-use Rattle.std.proofs.Common.{◌≡◌, ℕ, ◌+◌, ◌<◌, ◌≤◌, List, [], ◌∷◌, ◌++◌, length, take, true, refl, sym, ap, ◌∙◌, subst, arith}
-use Rattle.std.specs.Prelude.{ℤ, Some, IsSome, slice_get, Contains, All}
+use Rattle.std.proofs.Common.{◌≡◌, ℕ, ◌+◌, ◌≤◌, List, [], ◌∷◌, ◌++◌, length, take, refl, sym, ap, ◌∙◌, subst}
+use Rattle.std.specs.Prelude.{ℤ, Some, IsSome, slice_get}
 use Rattle.std.proofs.lemmas.List.{take_more, take_all, take-append-drop}
 use Rattle.std.proofs.lemmas.Option.{slice_get_within, get_or_from_slice_get}
 use Rattle.std.specs.Prelude.{drop}
-use Rattle.vg_cnf.specs.Clauses.{ClauseSet, IsClauseOver}
+use Rattle.vg_cnf.specs.Clauses.{ClauseSet}
 use Rattle.vg_cnf.specs.Orders.{Reaches, conflict, unit}
 use Rattle.vg_cnf.specs.Propagation.{propagated}
 use Rattle.vg_units.specs.Searching.{Search, IsAtRest}

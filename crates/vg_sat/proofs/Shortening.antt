@@ -1,26 +1,24 @@
 -- Clauses made shorter.
-use Rattle.std.proofs.Common.{◌≡◌, ℕ, zero, suc, ◌+◌, ◌<◌, ◌≤◌, List, [], ◌∷◌, ◌++◌, length, drop, get_or, true, false, refl, sym, ap, ◌∙◌, inl, inr, ◌⊎◌, subst, arith, length-append, append_assoc, drop-cons}
-use Rattle.std.specs.Prelude.{ℤ, pos, neg_ℤ, Bool, not, ◌||◌, All}
+use Rattle.std.proofs.Common.{◌≡◌, ℕ, ◌<◌, ◌≤◌, List, [], ◌∷◌, ◌++◌, length, get_or, take, drop, true, false, refl, sym, ap, ◌∙◌, inl, inr, subst, arith, append_assoc}
+use Rattle.std.specs.Prelude.{ℤ, pos, neg_ℤ, not, All}
 use Rattle.std.specs.List.{list_all}
 use Rattle.std.specs.Ordering.{int_eq}
-use Rattle.std.proofs.Math.IntN.{neg_ℤ-neg_ℤ}
-use Rattle.std.proofs.Math.ListN.{get_or-append}
 use Rattle.std.proofs.lemmas.Bool.{cases_Bool, or_cases, or_left, or_right, and_from, false≢true}
 use Rattle.std.proofs.lemmas.List.Folds.{list_any-append}
 use Rattle.std.proofs.lemmas.List.Elements.{All-from_get_or}
-use Rattle.std.proofs.lemmas.List.{drop_all, append-nil}
+use Rattle.std.proofs.lemmas.List.{append-nil, take-append-drop}
 use Rattle.vg_cnf.specs.Clauses.{holds, without, is_clause, IsOver, IsClauseOver}
-use Rattle.vg_cnf.specs.Orders.{Settled, negations}
+use Rattle.vg_cnf.specs.Orders.{Settled}
 use Rattle.vg_cnf.specs.Propagation.{follows}
 use Rattle.vg_cnf.proofs.Steps.{clash, same_literal, same_test, not_true_back}
 use Rattle.vg_cnf.proofs.Settled.{without-from, without-gone, holds-without}
 use Rattle.vg_units.specs.Propagating.{AreWithin}
-use Rattle.vg_units.specs.Searching.{Search, IsAtRest, Rests}
+use Rattle.vg_units.specs.Searching.{Search, IsSound, Assumes}
 use Rattle.vg_units.proofs.Literals.{held_over}
 use Rattle.vg_units.proofs.Visiting.{not_within, held_at}
-use Rattle.vg_units.proofs.Keeping.{held_pushed}
-use Rattle.vg_units.proofs.Assuming.{holds-negations, test_at}
-use Rattle.vg_sat.specs.Learned.{first_of, LeavesOpen, LeavesFirst, IsLearnable, IsLearned}
+use Rattle.vg_units.proofs.Assuming.{left_within, right_within, both_within, negations_within, test_at}
+use Rattle.vg_sat.specs.Learned.{first_of, LeavesOpen, IsLearnable, IsLearned, IsReduced}
+use Rattle.vg_sat.proofs.Opening.{follows_more}
 
 -- ---- clauses and parts of them
 
@@ -52,170 +50,174 @@ part_over n part c within over =
       over = all_over n part (λ k held. held_over n c k over.over (within k held));
     }
 
-negations_within : (part c : List ℤ) → AreWithin part c → AreWithin (negations part) (negations c)
-negations_within part c within k e = holds-negations c k ∙ within (neg_ℤ k) (sym (holds-negations part k) ∙ e)
-
 pub leaves_fewer : (cs : List (List ℤ)) (part c : List ℤ) → AreWithin part c → LeavesOpen cs c → LeavesOpen cs part
 leaves_fewer cs part c within h =
     record { made = h.made; consistent = h.consistent; settled = h.settled; falses = λ k e. h.falses k (negations_within part c within k e) }
 
--- ---- the loop over the literals
+-- ---- literals of parts
 
-pub record Shortened (start s : Search) (clause : List ℤ) (at : ℕ) (kept : List ℤ) : Type 0 where
-  pub variables : s.variables ≡ start.variables
-  pub clauses : s.clauses ≡ start.clauses
-  pub rest : IsAtRest s
-  pub some : 0 < length kept
-  pub first : first_of kept ≡ first_of clause
-  pub within : AreWithin kept clause
-  pub follows_it : follows start.clauses (kept ++ drop at clause) ≡ true
-  pub needed : (k : ℤ) → holds kept k ≡ true → int_eq k (first_of clause) ≡ false → LeavesOpen start.clauses (without k (kept ++ drop at clause))
+turned : (some front back : List ℤ) → AreWithin ((some ++ back) ++ front) (some ++ (front ++ back))
+turned some front back =
+    both_within (some ++ back) front (some ++ (front ++ back))
+    (both_within some back (some ++ (front ++ back)) (left_within some (front ++ back)) (λ k e. right_within some (front ++ back) k (right_within front back k e)))
+    (λ k e. right_within some (front ++ back) k (left_within front back k e))
 
-drop_held : (c : List ℤ) (at : ℕ) → AreWithin (drop at c) c
-drop_held c zero k e = e
-drop_held [] (suc at) k e = e
-drop_held (x ∷ c) (suc at) k e = or_right (int_eq k x) (holds c k) (drop_held c at k e)
+turned_back : (some front back : List ℤ) → AreWithin (some ++ (front ++ back)) ((some ++ back) ++ front)
+turned_back some front back =
+    both_within some (front ++ back) ((some ++ back) ++ front) (λ k e. left_within (some ++ back) front k (left_within some back k e))
+    (both_within front back ((some ++ back) ++ front) (right_within (some ++ back) front) (λ k e. left_within (some ++ back) front k (right_within some back k e)))
 
-both_within : (a b c : List ℤ) → AreWithin a c → AreWithin b c → AreWithin (a ++ b) c
-both_within a b c in_a in_b k e =
-    elim (or_cases (holds a k) (holds b k) (sym (list_any-append (int_eq k) a b) ∙ e)) [
-      | inl of_a ↦ in_a k of_a
-      | inr of_b ↦ in_b k of_b
+swapped : (some back few : List ℤ) → AreWithin ((some ++ back) ++ few) ((some ++ few) ++ back)
+swapped some back few k e = ap (λ xs. holds xs k) (append_assoc some few back) ∙ turned some few back k e
+
+fewer : (some few front back : List ℤ) → AreWithin few front → AreWithin ((some ++ few) ++ back) (some ++ (front ++ back))
+fewer some few front back within =
+    both_within (some ++ few) back (some ++ (front ++ back))
+    (both_within some few (some ++ (front ++ back)) (left_within some (front ++ back)) (λ k e. right_within some (front ++ back) k (left_within front back k (within k e))))
+    (λ k e. right_within some (front ++ back) k (right_within front back k e))
+
+-- without one literal of two lists
+other_one : (k l : ℤ) (c : List ℤ) → holds (without k c) l ≡ true → int_eq k l ≡ false
+other_one k l c e =
+    elim (cases_Bool (int_eq k l)) [
+      | inl same_one ↦ clash (holds (without k c) k) (ap (holds (without k c)) (same_literal k l same_one) ∙ e) (without-gone k c)
+      | inr other ↦ other
     ]
 
-left_within : (a b : List ℤ) → AreWithin a (a ++ b)
-left_within a b k e = list_any-append (int_eq k) a b ∙ or_left (holds a k) (holds b k) e
+without_first : (k l : ℤ) (a b : List ℤ) → holds (without k a) l ≡ false → holds (without k (a ++ b)) l ≡ true → holds b l ≡ true
+without_first k l a b not_a e =
+    elim (or_cases (holds a l) (holds b l) (sym (list_any-append (int_eq l) a b) ∙ without-from k l (a ++ b) e)) [
+      | inl of_a ↦ clash (holds (without k a) l) (holds-without k l a of_a (other_one k l (a ++ b) e)) not_a
+      | inr of_b ↦ of_b
+    ]
 
-right_within : (a b : List ℤ) → AreWithin b (a ++ b)
-right_within a b k e = list_any-append (int_eq k) a b ∙ or_right (holds a k) (holds b k) e
+holds_without_both : (k l : ℤ) (a b : List ℤ) → holds (without k (a ++ b)) l ≡ true → holds (a ++ without k b) l ≡ true
+holds_without_both k l a b e =
+    elim (or_cases (holds a l) (holds b l) (sym (list_any-append (int_eq l) a b) ∙ without-from k l (a ++ b) e)) [
+      | inl of_a ↦ left_within a (without k b) l of_a
+      | inr of_b ↦
+          right_within a (without k b) l
+          (holds-without k l b of_b (other_one k l (a ++ b) e))
+    ]
 
--- the literals that are tried without one are among the clause's
-pub rest_within : (start s : Search) (clause : List ℤ) (at : ℕ) (kept : List ℤ) → Shortened start s clause at kept → AreWithin (kept ++ drop (at + 1) clause) clause
-rest_within start s clause at kept h = both_within kept (drop (at + 1) clause) clause h.within (drop_held clause (at + 1))
+-- ---- halves
 
-drop_at : (c : List ℤ) (at : ℕ) → at < length c → drop at c ≡ get_or c at (pos 0) ∷ drop (at + 1) c
-drop_at c at inside =
-    let one : suc at ≡ at + 1 = omega arith in
-    drop-cons c at (pos 0) inside ∙ ap (λ n. get_or c at (pos 0) ∷ drop n c) one
+pub parts_joined : (n : ℕ) (list front back : List ℤ) → front ≡ take n list → back ≡ drop n list → list ≡ front ++ back
+parts_joined n list front back is_front is_back =
+    sym (take-append-drop n list) ∙ ap (λ xs. xs ++ drop n list) (sym is_front) ∙ ap (λ xs. front ++ xs) (sym is_back)
 
-without_more : (k : ℤ) (part c : List ℤ) → AreWithin part c → AreWithin (without k part) (without k c)
-without_more k part c within l e =
-    holds-without k l c (within l (without-from k l part e))
-    (elim (cases_Bool (int_eq k l)) [
-      | inl same_one ↦
-          clash (holds (without k part) k) (ap (holds (without k part)) (same_literal k l same_one) ∙ e) (without-gone k part)
-      | inr other ↦ other
-    ])
+pub few_over : (v : ℕ) (few list : List ℤ) → AreWithin few list → All (IsOver v) list → All (IsOver v) few
+few_over v few list within over = all_over v few (λ k held. held_over v list k over (within k held))
 
-pub shortens_starts : (s : Search) (clause kept : List ℤ) → IsAtRest s → IsLearnable s.variables s.clauses clause → kept ≡ get_or clause 0 (pos 0) ∷ [] → Shortened s s clause 1 kept
-shortens_starts s clause kept rest h is =
-    let whole : kept ++ drop 1 clause ≡ clause = ap (λ xs. xs ++ drop 1 clause) is ∙ sym (drop_at clause 0 h.some) in
+-- literals that are assumed alone leave the clauses open
+pub assumed_open : (s : Search) (assumed : List ℤ) → IsSound s → All (Settled s.trail) s.clauses → Assumes s assumed → LeavesOpen s.clauses assumed
+assumed_open s assumed sound settled h = record { made = s.trail; consistent = sound.consistent; settled = settled; falses = h.falses }
+
+-- one literal, or none, is needed beside what leaves them open
+pub one_reduced : (cs : List (List ℤ)) (some list : List ℤ) → length list ≤ 1 → LeavesOpen cs some → follows cs (some ++ list) ≡ true → IsReduced cs some list
+one_reduced cs some [] short open_some follows_it = record { follows_it = follows_it; needed = λ k held. absurd (false≢true held) }
+one_reduced cs some (x ∷ []) short open_some follows_it =
     record {
-      variables = refl;
-      clauses = refl;
-      rest = rest;
-      some = omega (arith, ap length is);
-      first = ap first_of is;
-      within = λ k e. ap (λ xs. holds xs k) (sym whole) ∙ left_within kept (drop 1 clause) k e;
-      follows_it = ap (follows s.clauses) whole ∙ h.follows_it;
+      follows_it = follows_it;
       needed =
-          λ k held other.
-          elim (or_cases (int_eq k (first_of clause)) false (sym (ap (λ xs. holds xs k) is) ∙ held)) [
-            | inl is_first ↦ clash (int_eq k (first_of clause)) is_first other
-            | inr never ↦ absurd (false≢true never)
-          ];
-    }
-
--- a literal that can be left out
-pub shortens_leaves : (start s new : Search) (clause : List ℤ) (at : ℕ) (kept : List ℤ) → at < length clause → new.variables ≡ s.variables → new.clauses ≡ s.clauses → IsAtRest new →
-    follows s.clauses (kept ++ drop (at + 1) clause) ≡ true → Shortened start s clause at kept → Shortened start new clause (at + 1) kept
-shortens_leaves start s new clause at kept inside variables clauses rest answer h =
-    record {
-      variables = variables ∙ h.variables;
-      clauses = clauses ∙ h.clauses;
-      rest = rest;
-      some = h.some;
-      first = h.first;
-      within = h.within;
-      follows_it = subst (λ cs. follows cs (kept ++ drop (at + 1) clause) ≡ true) h.clauses answer;
-      needed =
-          λ k held other.
-          leaves_fewer start.clauses (without k (kept ++ drop (at + 1) clause)) (without k (kept ++ drop at clause))
-          (without_more k (kept ++ drop (at + 1) clause) (kept ++ drop at clause)
-          (both_within kept (drop (at + 1) clause) (kept ++ drop at clause) (left_within kept (drop at clause))
-          (λ l e. right_within kept (drop at clause) l
-          (ap (λ xs. holds xs l) (drop_at clause at inside) ∙ or_right (int_eq l (get_or clause at (pos 0))) (holds (drop (at + 1) clause) l) e))))
-          (h.needed k held other);
-    }
-
--- and one that can't
-pub shortens_keeps : (start s mid new : Search) (clause : List ℤ) (at : ℕ) (kept more : List ℤ) → at < length clause → mid.clauses ≡ s.clauses → new.variables ≡ s.variables →
-    new.clauses ≡ s.clauses → IsAtRest new → Rests mid (kept ++ drop (at + 1) clause) → more ≡ kept ++ get_or clause at (pos 0) ∷ [] → Shortened start s clause at kept →
-    Shortened start new clause (at + 1) more
-shortens_keeps start s mid new clause at kept more inside mid_clauses variables clauses rest rests is h =
-    let x = get_or clause at (pos 0) in
-    let whole : more ++ drop (at + 1) clause ≡ kept ++ drop at clause =
-    ap (λ xs. xs ++ drop (at + 1) clause) is ∙ append_assoc kept (x ∷ []) (drop (at + 1) clause) ∙ ap (λ xs. kept ++ xs) (sym (drop_at clause at inside)) in
-    record {
-      variables = variables ∙ h.variables;
-      clauses = clauses ∙ h.clauses;
-      rest = rest;
-      some = omega (arith, ap length is, length-append kept (x ∷ []));
-      first = ap first_of is ∙ get_or-append kept (x ∷ []) (pos 0) 0 h.some ∙ h.first;
-      within =
-          λ k e.
-          elim (held_pushed kept x k (sym (ap (λ xs. holds xs k) is) ∙ e)) [
-            | inl before ↦ h.within k before
-            | inr is_x ↦ ap (holds clause) is_x ∙ held_get clause at inside
-          ];
-      follows_it = ap (follows start.clauses) whole ∙ h.follows_it;
-      needed =
-          λ k held other.
-          subst (λ c. LeavesOpen start.clauses (without k c)) (sym whole)
-          (elim (held_pushed kept x k (sym (ap (λ xs. holds xs k) is) ∙ held)) [
-            | inl before ↦ h.needed k before other
-            | inr is_x ↦
-                leaves_fewer start.clauses (without k (kept ++ drop at clause)) (kept ++ drop (at + 1) clause)
-                (λ l e. without_one kept (drop (at + 1) clause) (drop at clause) x k l is_x (drop_at clause at inside) e)
-                (record {
-                  made = mid.trail;
-                  consistent = rests.consistent;
-                  settled = subst (All (Settled mid.trail)) (mid_clauses ∙ h.clauses) rests.settled;
-                  falses = rests.falses;
-                })
-          ]);
+          λ k held.
+          leaves_fewer cs (some ++ without k (x ∷ [])) some
+          (both_within some (without k (x ∷ [])) some (λ l e. e)
+          (λ l e.
+          clash (holds (without k (x ∷ [])) k) (ap (holds (without k (x ∷ []))) (only k x held ∙ sym (only l x (without-from k l (x ∷ []) e))) ∙ e) (without-gone k (x ∷ []))))
+          open_some;
     }
   where
-    without_one : (a b whole : List ℤ) (x k l : ℤ) → k ≡ x → whole ≡ x ∷ b → holds (without k (a ++ whole)) l ≡ true → holds (a ++ b) l ≡ true
-    without_one a b whole x k l is_x parts e =
-        elim (or_cases (holds a l) (holds whole l) (sym (list_any-append (int_eq l) a whole) ∙ without-from k l (a ++ whole) e)) [
-          | inl of_a ↦ left_within a b l of_a
-          | inr of_whole ↦
-              elim (or_cases (int_eq l x) (holds b l) (sym (ap (λ xs. holds xs l) parts) ∙ of_whole)) [
-                | inl same_one ↦
-                    clash (holds (without k (a ++ whole)) k) (ap (holds (without k (a ++ whole))) (is_x ∙ sym (same_literal l x same_one)) ∙ e) (without-gone k (a ++ whole))
-                | inr of_b ↦ right_within a b l of_b
-              ]
+    only : (k x : ℤ) → holds (x ∷ []) k ≡ true → k ≡ x
+    only k x held =
+        elim (or_cases (int_eq k x) false held) [
+          | inl is_x ↦ same_literal k x is_x
+          | inr never ↦ absurd (false≢true never)
         ]
+one_reduced cs some (x ∷ y ∷ list) short open_some follows_it = absurd (omega (arith, short))
 
-pub shortens_ends : (start s : Search) (clause : List ℤ) (at : ℕ) (kept : List ℤ) → length clause ≤ at → IsLearnable start.variables start.clauses clause → Shortened start s clause at kept →
-    IsLearned start.variables start.clauses kept
-shortens_ends start s clause at kept end learnable h =
-    let whole : kept ++ drop at clause ≡ kept = ap (λ xs. kept ++ xs) (drop_all at clause end) ∙ append-nil kept in
+-- where the others alone make a clause that follows, none is needed
+pub none_reduced : (cs : List (List ℤ)) (some : List ℤ) → follows cs some ≡ true → IsReduced cs some []
+none_reduced cs some follows_it = record { follows_it = ap (follows cs) (append-nil some) ∙ follows_it; needed = λ k held. absurd (false≢true held) }
+
+-- the one half is judged beside the other, and the other beside what is left of the one
+pub front_over : (v : ℕ) (some front back : List ℤ) → IsClauseOver v (some ++ (front ++ back)) → IsClauseOver v ((some ++ back) ++ front)
+front_over v some front back over = part_over v ((some ++ back) ++ front) (some ++ (front ++ back)) (turned some front back) over
+
+pub front_follows : (v : ℕ) (cs : List (List ℤ)) (some front back : List ℤ) → All (IsClauseOver v) cs → IsClauseOver v (some ++ (front ++ back)) → follows cs (some ++ (front ++ back)) ≡ true →
+    follows cs ((some ++ back) ++ front) ≡ true
+front_follows v cs some front back all over follows_it =
+    follows_more v cs (some ++ (front ++ back)) ((some ++ back) ++ front) all (turned_back some front back) (front_over v some front back over) follows_it
+
+pub back_over : (v : ℕ) (some front back few : List ℤ) → AreWithin few front → IsClauseOver v (some ++ (front ++ back)) → IsClauseOver v ((some ++ few) ++ back)
+back_over v some front back few within over = part_over v ((some ++ few) ++ back) (some ++ (front ++ back)) (fewer some few front back within) over
+
+pub back_follows : (v : ℕ) (cs : List (List ℤ)) (some front back few : List ℤ) → All (IsClauseOver v) cs → AreWithin few front → IsClauseOver v (some ++ (front ++ back)) →
+    IsReduced cs (some ++ back) few → follows cs ((some ++ few) ++ back) ≡ true
+back_follows v cs some front back few all within over h =
+    follows_more v cs ((some ++ back) ++ few) ((some ++ few) ++ back) all (swapped some back few) (back_over v some front back few within over) h.follows_it
+
+pub halves_reduced : (cs : List (List ℤ)) (some back few more : List ℤ) → AreWithin more back → IsReduced cs (some ++ back) few → IsReduced cs (some ++ few) more → IsReduced cs some (few ++ more)
+halves_reduced cs some back few more within front_half back_half =
     record {
+      follows_it = ap (follows cs) (sym (append_assoc some few more)) ∙ back_half.follows_it;
+      needed =
+          λ k held.
+          elim (or_cases (holds few k) (holds more k) (sym (list_any-append (int_eq k) few more) ∙ held)) [
+            | inl of_few ↦
+                leaves_fewer cs (some ++ without k (few ++ more)) ((some ++ back) ++ without k few) (beside_back k) (front_half.needed k of_few)
+            | inr of_more ↦
+                leaves_fewer cs (some ++ without k (few ++ more)) ((some ++ few) ++ without k more)
+                (λ l e. ap (λ xs. holds xs l) (append_assoc some few (without k more)) ∙ beside_few k l e) (back_half.needed k of_more)
+          ];
+    }
+  where
+    beside_few : (k : ℤ) → AreWithin (some ++ without k (few ++ more)) (some ++ (few ++ without k more))
+    beside_few k =
+        both_within some (without k (few ++ more)) (some ++ (few ++ without k more)) (left_within some (few ++ without k more))
+        (λ l e. right_within some (few ++ without k more) l (holds_without_both k l few more e))
+
+    beside_back : (k : ℤ) → AreWithin (some ++ without k (few ++ more)) ((some ++ back) ++ without k few)
+    beside_back k =
+        both_within some (without k (few ++ more)) ((some ++ back) ++ without k few) (λ l e. left_within (some ++ back) (without k few) l (left_within some back l e))
+        (λ l e.
+        elim (cases_Bool (holds (without k few) l)) [
+          | inl of_few ↦ right_within (some ++ back) (without k few) l of_few
+          | inr not_few ↦
+              left_within (some ++ back) (without k few) l (right_within some back l (within l (without_first k l few more not_few e)))
+        ])
+
+-- the first literal of the clause stays
+pub first_kept : (v : ℕ) (cs : List (List ℤ)) (clause front others few kept : List ℤ) → clause ≡ front ++ others → length front ≡ 1 → kept ≡ front ++ few → AreWithin few others →
+    IsLearnable v cs clause → IsReduced cs front few → IsLearned v cs kept
+first_kept v cs clause [] others few kept parts one is within learnable h = absurd (omega (arith, one))
+first_kept v cs clause (x ∷ y ∷ front) others few kept parts one is within learnable h = absurd (omega (arith, one))
+first_kept v cs clause (x ∷ []) others few kept parts one is within learnable h =
+    subst (IsLearned v cs) (sym is)
+    (record {
       learnable =
           record {
-            over = part_over start.variables kept clause h.within learnable.over;
-            some = h.some;
-            follows_it = ap (follows start.clauses) (sym whole) ∙ h.follows_it;
+            over = part_over v (x ∷ few) clause (λ k e. ap (λ xs. holds xs k) parts ∙ first_within k e) learnable.over;
+            some = omega arith;
+            follows_it = h.follows_it;
             first =
                 record {
                   made = learnable.first.made;
                   consistent = learnable.first.consistent;
                   settled = learnable.first.settled;
-                  others = λ k held other. learnable.first.others k (h.within k held) (subst (λ f. int_eq k f ≡ false) h.first other);
-                  unmade = ap (holds learnable.first.made) h.first ∙ learnable.first.unmade;
+                  others =
+                      λ k held other.
+                      learnable.first.others k (ap (λ xs. holds xs k) parts ∙ first_within k held) (subst (λ f. int_eq k f ≡ false) (sym (ap first_of parts)) other);
+                  unmade = ap (holds learnable.first.made) (sym (ap first_of parts)) ∙ learnable.first.unmade;
                 };
           };
-      needed = λ k held other. subst (λ c. LeavesOpen start.clauses (without k c)) whole (h.needed k held (subst (λ f. int_eq k f ≡ false) h.first other));
-    }
+      needed =
+          λ k held other.
+          elim (or_cases (int_eq k x) (holds few k) held) [
+            | inl is_first ↦ clash (int_eq k x) is_first other
+            | inr of_few ↦ leaves_fewer cs (without k (x ∷ few)) (x ∷ without k few) (λ l e. holds_without_both k l (x ∷ []) few e) (h.needed k of_few)
+          ];
+    })
+  where
+    first_within : AreWithin (x ∷ few) (x ∷ others)
+    first_within k e = both_within (x ∷ []) few (x ∷ others) (left_within (x ∷ []) others) (λ l f. right_within (x ∷ []) others l (within l f)) k e

@@ -1,16 +1,16 @@
 -- Learned clauses, one by one.
-use Rattle.std.proofs.Common.{◌≡◌, ℕ, zero, suc, ◌+◌, ◌<◌, ◌≤◌, List, [], ◌∷◌, ◌++◌, length, get_or, true, false, refl, sym, ap, ◌∙◌, inl, inr, ◌⊎◌, subst, arith, length-append, append_assoc}
-use Rattle.std.specs.Prelude.{ℤ, pos, neg_ℤ, Bool, Option, Some, None, IsSome, IfSome, IsNone, IsTrue, is_some, not, ◌||◌, All, Any, AllPairs, Contains, ◌↔◌}
+use Rattle.std.proofs.Common.{◌≡◌, ℕ, zero, suc, ◌+◌, ◌<◌, List, [], ◌∷◌, ◌++◌, length, get_or, true, false, refl, sym, ap, ◌∙◌, inl, inr, subst, arith, length-append, append_assoc}
+use Rattle.std.specs.Prelude.{ℤ, pos, neg_ℤ, Option, Some, None, IsSome, IfSome, is_some, All, Any, AllPairs, Contains}
 use Rattle.std.specs.Ordering.{int_eq}
-use Rattle.std.proofs.lemmas.Bool.{cases_Bool, or_left, or_right, or_cases, false≢true, true≢false}
+use Rattle.std.proofs.lemmas.Bool.{cases_Bool, or_cases, false≢true, true≢false}
 use Rattle.std.specs.Option.{option_map}
 use Rattle.std.proofs.Math.IntN.{neg_ℤ-neg_ℤ}
 use Rattle.std.proofs.lemmas.List.{append-nil, get_or-append-add}
-use Rattle.std.proofs.lemmas.List.Elements.{All-push, All-from_get_or, Contains-push}
+use Rattle.std.proofs.lemmas.List.Elements.{All-push, All-from_get_or}
 use Rattle.std.proofs.lemmas.List.Folds.{list_any_at}
 use Rattle.std.proofs.lemmas.List.Quantifiers.{all_pairs_push}
 use Rattle.std.proofs.lemmas.List.{get_or_default}
-use Rattle.vg_cnf.specs.Clauses.{ClauseSet, holds, without, is_clause, IsClauseOver}
+use Rattle.vg_cnf.specs.Clauses.{ClauseSet, holds, without, IsClauseOver}
 use Rattle.vg_cnf.specs.Orders.{Settled, by_true, by_two, negations, Reaches}
 use Rattle.vg_cnf.specs.Propagation.{propagated, falsified, follows}
 use Rattle.vg_cnf.specs.Refutations.{first_unfollowed, ends_empty, IsRefutation, IsSameClause, IsNew, AreNewInTurn, IsSpent}
@@ -22,7 +22,7 @@ use Rattle.vg_units.specs.Propagating.{AreWithin}
 use Rattle.vg_units.proofs.Assuming.{holds-negations}
 use Rattle.vg_units.proofs.Reaching.{over-nonzero, found_before}
 use Rattle.vg_units.proofs.Visiting.{held_at}
-use Rattle.vg_sat.specs.Learned.{first_of, LeavesOpen, LeavesFirst, IsLearnable, IsLearned}
+use Rattle.vg_sat.specs.Learned.{first_of, LeavesOpen, LeavesFirst, IsLearned}
 
 -- ---- literals of a list, counted or tested
 

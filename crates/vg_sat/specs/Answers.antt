@@ -1,5 +1,5 @@
 -- What a solver's answers say of the clauses.
-use Rattle.std.specs.Prelude.{◌≡◌, ℕ, List, length}
+use Rattle.std.specs.Prelude.{◌≡◌, ℕ, length}
 use Rattle.vg_cnf.specs.Clauses.{ClauseSet, IsModel}
 use Rattle.vg_cnf.specs.Refutations.{IsRefutation, IsSpent}
 use Rattle.vg_sat.specs.declared.answer.Answer.{Answer}

@@ -1,10 +1,11 @@
 -- What a clause that can be learned is. No public clause rests on this file.
-use Rattle.std.specs.Prelude.{◌≡◌, ℕ, ◌<◌, ℤ, pos, neg_ℤ, true, false, List, length, All, slice_index_or}
+use Rattle.std.specs.Prelude.{◌≡◌, ℕ, ◌<◌, ℤ, pos, neg_ℤ, true, false, List, ◌++◌, length, All, slice_index_or}
 use Rattle.std.specs.Ordering.{int_eq}
 use Rattle.vg_cnf.specs.Clauses.{holds, without, IsClauseOver}
 use Rattle.vg_cnf.specs.Orders.{IsConsistent, Settled, negations}
 use Rattle.vg_cnf.specs.Propagation.{follows}
 use Rattle.vg_units.specs.Propagating.{AreWithin}
+use Rattle.vg_units.specs.Searching.{Search, Assumes}
 
 abbrev pub first_of : List ℤ → ℤ
 first_of c = slice_index_or c 0 (pos 0)
@@ -35,3 +36,20 @@ pub record IsLearnable (v : ℕ) (clauses : List (List ℤ)) (c : List ℤ) : Ty
 pub record IsLearned (v : ℕ) (clauses : List (List ℤ)) (c : List ℤ) : Type 0 where
   pub learnable : IsLearnable v clauses c
   pub needed : (k : ℤ) → holds c k ≡ true → int_eq k (first_of c) ≡ false → LeavesOpen clauses (without k c)
+
+-- ---- parts of a clause
+
+-- with some literals a few more make a clause that follows, and of these few none can be left out
+pub record IsReduced (clauses : List (List ℤ)) (some few : List ℤ) : Type 0 where
+  pub follows_it : follows clauses (some ++ few) ≡ true
+  pub needed : (k : ℤ) → holds few k ≡ true → LeavesOpen clauses (some ++ without k few)
+
+-- where what is assumed, others and a list make a clause that follows, it is reduced by taking some literals for the list
+abbrev pub AreNeededBeside : Search → List ℤ → List ℤ → List ℤ → Type 0
+AreNeededBeside s others list few =
+    (assumed : List ℤ) → Assumes s assumed → IsClauseOver s.variables ((assumed ++ others) ++ list) → follows s.clauses ((assumed ++ others) ++ list) ≡ true →
+    IsReduced s.clauses (assumed ++ others) few
+
+abbrev pub AreNeeded : Search → List ℤ → List ℤ → Type 0
+AreNeeded s list few =
+    (assumed : List ℤ) → Assumes s assumed → IsClauseOver s.variables (assumed ++ list) → follows s.clauses (assumed ++ list) ≡ true → IsReduced s.clauses assumed few

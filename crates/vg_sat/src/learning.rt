@@ -5,6 +5,7 @@ ghost use Rattle.vg_units.specs.Searching.{IsAtRest};
 ghost use Rattle.vg_sat.specs.Learned.{IsLearnable, IsLearned};
 ghost use Rattle.vg_sat.specs.Walks.{IsStep};
 
+use crate::halving::needed_beside;
 use crate::order::Order;
 use crate::walking::{Walk, assume_in_turn, decide_all};
 use std::alloc::{AllocError, Global};
@@ -68,18 +69,10 @@ fn shorten(alloc: Global, search: &mut Propagator, clause: &[Lit]) -> Result<Vec
     ensures at_rest { IsOk result → IsAtRest search.new }
     ensures learned { IfOk result (λ c. IsLearned search.old.variables search.old.clauses c.items) }
 {
+    let (first, others) = clause.split_at(1);
     let mut kept = Vec::new(alloc);
-    kept.push(clause[0])?;
-    for at in 1..clause.len() {
-        let mut rest = Vec::new(alloc);
-        let (_, later) = clause.split_at(at + 1);
-        rest.extend_from_slice(&kept)?;
-        rest.extend_from_slice(later)?;
-        let follows = search.assume(&rest)?;
-        search.release();
-        if !follows {
-            kept.push(clause[at])?;
-        }
-    }
+    kept.extend_from_slice(first)?;
+    let more = needed_beside(alloc, search, first, others)?;
+    kept.extend_from_slice(&more)?;
     Ok(kept)
 }

@@ -2,6 +2,7 @@
 #![tactic(auto)]
 
 mod answer;
+mod halving;
 mod learning;
 mod memory;
 mod order;

@@ -1,11 +1,11 @@
 -- What a search keeps when literals are made true and taken back.
-use Rattle.std.proofs.Common.{◌≡◌, ℕ, zero, suc, ◌+◌, ◌<◌, ◌≤◌, List, [], ◌∷◌, ◌++◌, length, take, get_or, true, false, refl, sym, ap, ◌∙◌, inl, inr, ◌⊎◌, subst, arith, length-append, ltb}
-use Rattle.std.specs.Prelude.{◌≢◌, ℤ, pos, negsuc, neg_ℤ, unsigned_abs, ◌||◌, Contains, All, Option, None, Some, is_some, IsSome, Bool, not, MatchBool}
+use Rattle.std.proofs.Common.{◌≡◌, ℕ, zero, suc, ◌<◌, ◌≤◌, List, [], ◌∷◌, ◌++◌, length, take, get_or, true, false, refl, sym, ap, ◌∙◌, inl, inr, ◌⊎◌, subst, arith, length-append, ltb}
+use Rattle.std.specs.Prelude.{ℤ, pos, negsuc, neg_ℤ, unsigned_abs, ◌||◌, Contains, All, Option, None, Some, is_some, IsSome, Bool, not, MatchBool}
 use Rattle.std.specs.Ordering.{int_eq}
 use Rattle.std.proofs.Math.IntN.{neg_ℤ-neg_ℤ}
 use Rattle.std.proofs.Math.ListN.{get_or-append}
 use Rattle.std.proofs.Math.Seq.{get_or-append_seam}
-use Rattle.std.proofs.lemmas.Bool.{cases_Bool, or_cases, or_left, or_right, or_from, false≢true, true≢false, ltb-true, ltb-false}
+use Rattle.std.proofs.lemmas.Bool.{cases_Bool, or_cases, or_left, or_from, false≢true, true≢false, ltb-true, ltb-false}
 use Rattle.std.proofs.lemmas.List.{take-append-le, take_all, take-take, get_or-take, get_or_default, length-take-le}
 use Rattle.std.proofs.lemmas.List.Elements.{All-from_get_or, All-push, Contains-push}
 use Rattle.std.proofs.lemmas.List.Folds.{list_any-append}
@@ -14,7 +14,7 @@ use Rattle.vg_cnf.specs.Orders.{IsConsistent, Settled, Reaches}
 use Rattle.vg_cnf.specs.Orders as orders
 use Rattle.vg_cnf.specs.Propagation.{propagated}
 use Rattle.vg_cnf.proofs.Settled.{settled-propagated}
-use Rattle.vg_cnf.proofs.Steps.{clash, same_literal, same_test}
+use Rattle.vg_cnf.proofs.Steps.{clash, same_literal}
 use Rattle.vg_units.specs.Lists.{IsListedFrom}
 use Rattle.vg_units.specs.Trails.{Made, IsMadeTrue}
 use Rattle.vg_units.specs.Watching.{Watching, clause_of, pair_of, clause_in, pair_in, IsSame, IsAdded}
@@ -26,7 +26,7 @@ use Rattle.vg_units.proofs.Listing.{same_or_other, listed_pushed, listed_last}
 use Rattle.vg_units.proofs.Literals.{held_over}
 use Rattle.vg_units.proofs.Watching.{each_added}
 use Rattle.vg_units.proofs.Reaching.{AreDecided, chain_more, chain_conflict}
-use Rattle.vg_units.proofs.Visiting.{apart_from, other_test, advances_same, contains_at, holds_before, holds_last, not_within, watched_more, watched_on, grown_longer, grown_prefix, grown_within, held_prefix}
+use Rattle.vg_units.proofs.Visiting.{apart_from, other_test, advances_same, contains_at, holds_before, holds_last, not_within, watched_more, watched_on, grown_longer, grown_prefix, held_prefix}
 
 -- ---- literals made true
 

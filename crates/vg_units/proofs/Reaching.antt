@@ -1,7 +1,6 @@
 -- An empty clause that is reached from a trail is reached from its decisions.
 use Rattle.std.proofs.Common.{◌≡◌, ℕ, zero, suc, ◌+◌, ◌<◌, ◌≤◌, List, [], ◌∷◌, ◌++◌, length, take, get_or, true, false, refl, sym, ap, ◌∙◌, inl, inr, ◌⊎◌, subst, arith, length-append}
-use Rattle.std.specs.Prelude.{ℤ, pos, neg_ℤ, ◌||◌, Contains, All}
-use Rattle.std.specs.List.{list_any}
+use Rattle.std.specs.Prelude.{ℤ, pos, neg_ℤ, Contains, All}
 use Rattle.std.specs.Ordering.{int_eq}
 use Rattle.std.proofs.Math.ListN.{get_or-append}
 use Rattle.std.proofs.lemmas.Bool.{cases_Bool, or_cases, or_left, or_right, or_from, false≢true}
@@ -15,7 +14,6 @@ use Rattle.vg_cnf.proofs.Soundness.{clause-nonzero}
 use Rattle.vg_units.specs.Lists.{IsListedFrom}
 use Rattle.vg_units.specs.Propagating.{AreFalse, IsForced, AreWithin}
 use Rattle.vg_units.specs.Searching.{IsChain}
-use Rattle.vg_units.proofs.Visiting.{held_prefix}
 
 -- ---- an empty clause that is reached from fewer literals is reached from more
 

@@ -1,5 +1,5 @@
--- What a search keeps, at its levels too. No public clause rests on this file.
-use Rattle.std.specs.Prelude.{◌≡◌, ℕ, ◌<◌, ◌≤◌, ℤ, List, length, take, slice_index_or, All}
+-- What a search keeps, at its levels too. Public clauses use only start_in of this file.
+use Rattle.std.specs.Prelude.{◌≡◌, ℕ, ◌<◌, ◌≤◌, List, length, take, slice_index_or, All}
 use Rattle.vg_cnf.specs.Clauses.{IsClauseOver}
 use Rattle.vg_cnf.specs.Orders.{IsConsistent}
 use Rattle.vg_units.specs.Trails.{Made}

@@ -1,4 +1,4 @@
--- Lists of numbers, one for each place of a table. No public clause rests on this file.
+-- Lists of numbers, one for each place of a table. Public clauses use only IsListedFrom of this file, for the places of decisions.
 use Rattle.std.specs.Prelude.{◌≡◌, ℕ, ◌<◌, ◌≤◌, List, [], length, slice_index_or}
 
 -- it stands in the list, somewhere from a place on

@@ -1,4 +1,4 @@
--- What unit propagation does, step by step, where two literals of each clause are watched. No public clause rests on this file.
+-- What unit propagation does, step by step, where two literals of each clause are watched. Public clauses use only AreFalse, IsForced, Grown and AreWithin of this file.
 use Rattle.std.specs.Prelude.{◌≡◌, ℕ, ◌<◌, ℤ, neg_ℤ, true, false, Option, Some, None, List, [], ◌∷◌, ◌++◌, length, Contains, ◌⊎◌}
 use Rattle.std.specs.Ordering.{int_eq}
 use Rattle.vg_cnf.specs.Clauses.{holds, IsOver}

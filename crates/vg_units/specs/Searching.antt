@@ -1,7 +1,8 @@
 -- A search: clauses, the literals that are true, and where the decisions among these stand.
-use Rattle.std.specs.Prelude.{◌≡◌, ℕ, ◌<◌, ◌≤◌, ℤ, pos, neg_ℤ, true, List, [], length, take, slice_index_or, All, ◌⊎◌, Option, Some, None}
-use Rattle.vg_cnf.specs.Clauses.{holds}
+use Rattle.std.specs.Prelude.{◌≡◌, ℕ, ◌<◌, ℤ, pos, Bool, true, List, [], ◌∷◌, ◌++◌, length, take, slice_index_or, All, ◌⊎◌, Option, Some, None}
+use Rattle.vg_cnf.specs.Clauses.{holds, IsClauseOver}
 use Rattle.vg_cnf.specs.Orders.{IsConsistent, Settled, negations}
+use Rattle.vg_cnf.specs.Propagation.{follows}
 use Rattle.vg_units.specs.Lists.{IsListedFrom}
 use Rattle.vg_units.specs.Propagating.{AreFalse, IsForced, AreWithin}
 
@@ -41,3 +42,35 @@ IsSameBut old new = (new.variables ≡ old.variables) × (new.clauses ≡ old.cl
 abbrev pub IsEnd : Search → Search → Option ℕ → Type 0
 IsEnd old new None = (new.head ≡ length new.trail) × All (Settled new.trail) new.clauses
 IsEnd old new (Some clause) = (new.head ≡ old.head) × (clause < length new.clauses) × AreFalse new.trail (slice_index_or new.clauses clause [])
+
+-- ---- literals assumed false
+
+-- what is assumed are the literals of a list: each is false, and each decision is the negation of one
+pub record Assumes (s : Search) (list : List ℤ) : Type 0 where
+  pub falses : AreWithin (negations list) s.trail
+  pub decided : (at : ℕ) → IsListedFrom s.starts 0 at → (at < length s.trail) × (holds (negations list) (slice_index_or s.trail at (pos 0)) ≡ true)
+
+-- a list is assumed beside what was
+abbrev pub AssumesAlso : Search → Search → List ℤ → Type 0
+AssumesAlso old new list = (assumed : List ℤ) → Assumes old assumed → Assumes new (assumed ++ list)
+
+-- the answer is whether what is assumed makes, with a list, a clause that follows
+abbrev pub TellsBeside : Search → List ℤ → Bool → Type 0
+TellsBeside s list answer = (assumed : List ℤ) → Assumes s assumed → IsClauseOver s.variables (assumed ++ list) → answer ≡ follows s.clauses (assumed ++ list)
+
+-- more was decided: what was true stands first, and behind it the first of the later decisions
+pub record IsBeyond (before after : Search) : Type 0 where
+  pub variables : after.variables ≡ before.variables
+  pub clauses : after.clauses ≡ before.clauses
+  pub made : List ℤ
+  pub trail : after.trail ≡ before.trail ++ made
+  pub later : List ℕ
+  pub starts : after.starts ≡ before.starts ++ length before.trail ∷ later
+
+-- nothing was done, or more was decided
+abbrev pub IsFurther : Search → Search → Type 0
+IsFurther before after = (after ≡ before) ⊎ IsBeyond before after
+
+-- all is as it was when just the first decisions stood, and was propagated
+abbrev pub IsReturned : ℕ → Search → Search → Type 0
+IsReturned level old new = (before : Search) → length before.starts ≡ level → before.head ≡ length before.trail → IsFurther before old → new ≡ before

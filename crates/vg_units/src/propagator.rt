@@ -4,7 +4,7 @@ ghost use Rattle.std.specs.Prelude.{◌≡◌, ◌<◌, ◌≤◌, ◌+◌, ◌*
 ghost use Rattle.vg_cnf.specs.Clauses.{holds, IsOver, IsClauseOver};
 ghost use Rattle.vg_cnf.specs.Orders.{Reaches, Settled};
 ghost use Rattle.vg_cnf.specs.Propagation.{follows as list_follows, propagated};
-ghost use Rattle.vg_units.specs.Searching.{Search, IsAtRest, IsSound, IsSameBut, IsEnd, Rests};
+ghost use Rattle.vg_units.specs.Searching.{Search, IsAtRest, IsSound, IsSameBut, IsEnd, Rests, IsFurther, IsReturned, AssumesAlso, TellsBeside};
 ghost use Rattle.vg_units.specs.Levels.{start_in};
 ghost use Rattle.vg_units.specs.Propagating.{AreFalse, Grown};
 ghost use Rattle.vg_units.specs.Trails.{IsMadeTrue};
@@ -192,6 +192,15 @@ impl Propagator {
         }
     }
 
+    /// Takes back all decisions but the first ones, if there are more.
+    pub fn return_to(&mut self, level: usize)
+        ensures { IsReturned level self.old self.new }
+    {
+        if self.level() > level {
+            self.back_to(level);
+        }
+    }
+
     /// Assumes that the literals of a clause are false, and answers whether unit propagation reaches an empty clause.
     pub fn assume(&mut self, list: &[Lit]) -> Result<bool, AllocError>
         requires at_rest { IsAtRest self.old }
@@ -200,6 +209,20 @@ impl Propagator {
         ensures releasable { IsOk result → self.new.starts ≡ [] → self.new.head ≡ length self.new.trail }
         ensures answer { IfOk result (λ answer. answer ≡ list_follows self.old.clauses list.now) }
         ensures rests { IfOk result (λ answer. answer ≡ false → Rests self.new list.now) }
+    {
+        let answer = self.assume_also(list)?;
+        self.facts();
+        Ok(answer)
+    }
+
+    /// Assumes that the literals of a list are false beside what is assumed, and answers whether unit propagation then reaches an empty clause.
+    pub fn assume_also(&mut self, list: &[Lit]) -> Result<bool, AllocError>
+        requires at_end { self.old.head ≡ length self.old.trail }
+        requires over { All (IsOver self.old.variables) list.now }
+        ensures further { IsOk result → IsFurther self.old self.new }
+        ensures answer { IfOk result (TellsBeside self.old list.now) }
+        ensures propagated { IfOk result (λ answer. answer ≡ false → self.new.head ≡ length self.new.trail) }
+        ensures assumed { IfOk result (λ answer. answer ≡ false → AssumesAlso self.old self.new list.now) }
     {
         self.facts();
         for literal in list {

@@ -1,4 +1,4 @@
-use Rattle.std.proofs.Common.{◌≡◌, refl, sym, subst, Vec, Global}
+use Rattle.std.proofs.Common.{refl, sym, subst, Vec, Global}
 use Rattle.std.specs.Prelude.{Option, IfSome}
 use Rattle.vg_cnf.specs.declared.literal.Lit.{Lit}
 use Rattle.vg_sat.specs.Learned.{IsLearnable}

@@ -1,8 +1,8 @@
-use Rattle.std.proofs.Common.{◌≡◌, ◌++◌, ◌∷◌, [], subst, sym, ap, ◌∙◌, arith, true, false}
+use Rattle.std.proofs.Common.{◌≡◌, ◌++◌, ◌∷◌, [], subst, ◌∙◌, arith}
 use Rattle.std.specs.Prelude.{MatchBool, Bool}
 use Rattle.vg_cnf.specs.Orders.{Reaches}
 use Rattle.vg_units.specs.Searching.{IsAtRest}
-use Rattle.vg_sat.proofs.Loads.{Loading, loading_starts, loading_on, loading_refuted, loading_ends}
+use Rattle.vg_sat.proofs.Loads.{loading_starts, loading_on, loading_refuted, loading_ends}
 use Rattle.vg_sat.proofs.solver.load.Goals as goal
 
 pub loop-at-init : goal.loop-at-init

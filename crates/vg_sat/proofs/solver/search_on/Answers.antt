@@ -1,5 +1,5 @@
-use Rattle.std.proofs.Common.{◌≡◌, ◌++◌, ◌∷◌, [], refl, subst, ap, ◌∙◌, arith}
-use Rattle.std.specs.Prelude.{Bool, MatchBool, List, ℤ}
+use Rattle.std.proofs.Common.{◌≡◌, ◌++◌, ◌∷◌, [], refl, subst, arith}
+use Rattle.std.specs.Prelude.{Bool, MatchBool}
 use Rattle.vg_cnf.specs.Orders.{Reaches}
 use Rattle.vg_units.specs.Searching.{IsAtRest}
 use Rattle.vg_sat.specs.Learned.{IsLearned}

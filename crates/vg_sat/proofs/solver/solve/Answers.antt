@@ -1,4 +1,4 @@
-use Rattle.std.proofs.Common.{◌≡◌, ◌++◌, ◌∷◌, [], subst, ap, ◌∙◌}
+use Rattle.std.proofs.Common.{◌++◌, ◌∷◌, [], subst, ap, ◌∙◌}
 use Rattle.std.specs.Prelude.{MatchOption, List, ℤ, Option}
 use Rattle.vg_cnf.specs.Orders.{Reaches}
 use Rattle.vg_units.specs.declared.propagator.Propagator.{Propagator}

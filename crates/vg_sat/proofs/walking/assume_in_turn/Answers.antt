@@ -1,7 +1,7 @@
-use Rattle.std.proofs.Common.{◌≡◌, refl, sym, subst, ap, ◌∙◌}
+use Rattle.std.proofs.Common.{refl, sym, subst, ap, ◌∙◌}
 use Rattle.vg_sat.specs.Walks.{Walked}
 use Rattle.vg_sat.specs.Learned.{IsLearnable}
-use Rattle.vg_sat.proofs.Deciding.{Going, walk_starts, going_starts, going_at, going_on, going_learnable, led_here}
+use Rattle.vg_sat.proofs.Deciding.{walk_starts, going_starts, going_at, going_on, going_learnable, led_here}
 use Rattle.vg_sat.proofs.walking.assume_in_turn.Goals as goal
 use Rattle.vg_sat.proofs.walking.assume_in_turn.Goals.{then-is_open+in_ok-conflict+else-is_some, else-is_open}
 

@@ -1,6 +1,7 @@
 use Rattle.std.proofs.Common.{◌≡◌, ◌∷◌, ap, ◌∙◌}
 use Rattle.std.specs.Prelude.{ℤ, neg_ℤ}
-use Rattle.vg_sat.proofs.Deciding.{Decided, walk_led, same_variables, same_clauses, step_keeps, step_decides, step_level}
+use Rattle.vg_units.proofs.Assuming.{Decided}
+use Rattle.vg_sat.proofs.Deciding.{walk_led, same_variables, same_clauses, step_keeps, step_decides, step_level}
 use Rattle.vg_sat.proofs.walking.decide.Goals as goal
 
 step : (c : goal.After-propagate) → Decided c.args.search.now c.decide.new.self c.propagate.new.self c.args.decision

@@ -1,4 +1,4 @@
-use Rattle.std.proofs.Common.{◌≡◌, refl, sym, subst, ap, ◌∙◌, ◌<◌, length}
+use Rattle.std.proofs.Common.{refl, sym, subst, ◌<◌, length}
 use Rattle.std.specs.Prelude.{MatchOption, Option, ℕ}
 use Rattle.vg_sat.specs.Choices.{AreAssigned}
 use Rattle.vg_sat.specs.Walks.{Walked}

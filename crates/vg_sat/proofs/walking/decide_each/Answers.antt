@@ -1,5 +1,5 @@
-use Rattle.std.proofs.Common.{◌≡◌, refl, sym, subst, ◌∙◌, ◌<◌, length}
-use Rattle.std.specs.Prelude.{IfOk, MatchOption, Option, List, ℤ, ℕ}
+use Rattle.std.proofs.Common.{refl, sym, subst, ◌∙◌, ◌<◌, length}
+use Rattle.std.specs.Prelude.{IfOk, MatchOption}
 use Rattle.vg_sat.specs.Choices.{AreAssigned}
 use Rattle.vg_sat.specs.Walks.{Walked}
 use Rattle.vg_sat.specs.Learned.{IsLearnable}

@@ -1,7 +1,7 @@
-use Rattle.std.proofs.Common.{◌≡◌, refl, sym, ◌∙◌, ◌<◌, length}
+use Rattle.std.proofs.Common.{refl, sym, ◌∙◌}
 use Rattle.vg_sat.specs.Walks.{Walked}
 use Rattle.vg_sat.specs.Learned.{IsLearnable}
-use Rattle.vg_sat.proofs.Deciding.{Going, going_starts, going_on, going_ends}
+use Rattle.vg_sat.proofs.Deciding.{going_starts, going_on, going_ends}
 use Rattle.vg_sat.proofs.walking.decide_in_order.Goals as goal
 
 pub loop-turn-init : goal.loop-turn-init

@@ -1,10 +1,10 @@
-use Rattle.std.proofs.Common.{◌≡◌, ◌+◌, refl, sym, subst, ap, ◌∙◌, ◌<◌, length, arith}
+use Rattle.std.proofs.Common.{◌≡◌, ◌+◌, refl, sym, subst, ap, ◌∙◌, arith}
 use Rattle.std.specs.Prelude.{pos, neg_ℤ}
 use Rattle.vg_sat.specs.Choices.{AreAssigned}
 use Rattle.vg_sat.specs.Walks.{Walked}
 use Rattle.vg_sat.specs.Learned.{IsLearnable}
 use Rattle.vg_sat.proofs.Choosing.{AreAssignedTo}
-use Rattle.vg_sat.proofs.Deciding.{Going, going_starts, going_at, going_on, going_ends, assigned_decided, assigned_found}
+use Rattle.vg_sat.proofs.Deciding.{going_starts, going_at, going_on, going_ends, assigned_decided, assigned_found}
 use Rattle.vg_sat.proofs.walking.decide_rest.Goals as goal
 use Rattle.vg_sat.proofs.walking.decide_rest.Goals.{then-is_undecided+in_ok-conflict+else-is_some, else-is_undecided}
 

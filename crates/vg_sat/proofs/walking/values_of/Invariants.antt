@@ -1,7 +1,6 @@
 use Rattle.std.proofs.Common.{◌≡◌, ◌+◌, ◌<◌, ◌≤◌, ℕ, length, false}
 use Rattle.std.specs.Prelude.{pos, slice_index_or}
 use Rattle.vg_cnf.specs.Clauses.{holds}
-use Rattle.vg_units.specs.Searching.{Search}
 use Rattle.vg_sat.proofs.walking.values_of.Given as goal
 
 -- the variables looked at so far have their values, the others are false

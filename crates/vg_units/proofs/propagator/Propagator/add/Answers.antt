@@ -1,9 +1,8 @@
-use Rattle.std.proofs.Common.{◌≡◌, ◌≤◌, ◌<◌, ◌++◌, ◌∷◌, [], length, subst, refl, sym, ap, ◌∙◌}
-use Rattle.std.specs.Prelude.{unsigned_abs, MatchBool}
+use Rattle.std.proofs.Common.{◌≡◌, ◌≤◌, ◌++◌, ◌∷◌, [], length, subst, refl, sym, ap, ◌∙◌}
+use Rattle.std.specs.Prelude.{unsigned_abs}
 use Rattle.vg_cnf.specs.Clauses.{IsClauseOver}
 use Rattle.vg_cnf.specs.Orders.{Reaches}
 use Rattle.vg_units.specs.Levels.{IsKept}
-use Rattle.vg_units.specs.Searching.{IsAtRest}
 use Rattle.vg_units.proofs.Literals.{held_over}
 use Rattle.vg_units.proofs.Keeping.{kept_same, kept_open, kept_single, false_reaches, end_reaches, end_open, kept_ends}
 use Rattle.vg_units.proofs.propagator.Propagator.add.Goals as goal

@@ -1,51 +1,21 @@
-use Rattle.std.proofs.Common.{◌≡◌, ◌≤◌, ◌+◌, length, subst, sym, ap, ◌∙◌, true, arith}
-use Rattle.std.specs.Prelude.{not}
-use Rattle.vg_cnf.specs.Clauses.{holds}
-use Rattle.vg_cnf.proofs.Steps.{not_false_back}
-use Rattle.vg_units.proofs.Assuming.{Assuming, assuming_starts, assuming_passes, assuming_clash, assuming_some, assuming_none, assuming_ends, read_held}
+use Rattle.std.proofs.Common.{[], refl}
+use Rattle.vg_units.proofs.Assuming.{assumes_nothing, further_variables, further_clauses, further_rests, rests_open}
 use Rattle.vg_units.proofs.propagator.Propagator.assume.Goals as goal
-use Rattle.vg_units.proofs.propagator.Propagator.assume.Goals.{then-not-is_true+in_ok-decide+in_ok-propagate+else-is_some, else-not-is_true}
 
-pub loop-literal-init : goal.loop-literal-init
-loop-literal-init c =
-    assuming_starts c.args.self.now c.args.list.now c.requires.at_rest c.facts.ensures.sound (c.facts.ensures.settled c.requires.at_rest.1)
+pub returns-clause-same : goal.returns-clause-same
+returns-clause-same c =
+    λ ok.
+    let further = c.in_ok-answer.ensures.further refl in
+    (further_variables c.args.self.now c.assume_also.new.self further, further_clauses c.args.self.now c.assume_also.new.self further)
 
-pub returns-then-is_true-clause-answer : goal.returns-then-is_true-clause-answer
-returns-then-is_true-clause-answer c =
-    sym
-    (assuming_clash c.args.self.now c.loop-literal.self c.args.list.now c.loop-literal.literal-index c.literal-item.result c.requires.over c.facts.ensures.over
-    (read_held c.args.list.now c.loop-literal.literal-index c.literal-item.result c.loop-literal-test.true c.literal-item.is)
-    (sym c.is_true.ensures ∙ c.if-is_true.true) c.loop-literal.invariant)
-
-pub returns-then-is_some-clause-answer : goal.returns-then-is_some-clause-answer
-returns-then-is_some-clause-answer c =
-    sym
-    (assuming_some c.args.self.now c.loop-literal.self c.decide.new.self c.propagate.new.self c.args.list.now c.loop-literal.literal-index c.literal-item.result c.negated-negation.result
-    c.in_ok-propagate.field-0 (sym c.is_some.ensures ∙ c.if-is_some.true) c.requires.over c.facts.ensures.over c.loop-literal-test.true c.literal-item.is c.negated-negation.ensures
-    c.in_ok-decide.ensures c.propagate.ensures.same c.propagate.ensures.sound c.propagate.ensures.grown c.in_ok-propagate.ensures.ends c.loop-literal.invariant)
-
-pub loop-literal-preserved : goal.loop-literal-preserved
-loop-literal-preserved c =
-    let start = c.args.self.now in
-    let s = c.loop-literal.self in
-    let list = c.args.list.now in
-    let at = c.loop-literal.literal-index in
-    let l = c.literal-item.result in
-    elim c.if-not-is_true.branch [
-      | then-not-is_true+in_ok-decide+in_ok-propagate+else-is_some w ↦
-          subst (λ x. Assuming start x list (at + 1)) (sym w.self-is)
-          (assuming_none start s w.decide.new.self w.propagate.new.self list at l c.negated-negation.result w.in_ok-propagate.field-0 (sym w.is_some.ensures ∙ w.if-is_some.false)
-          c.loop-literal-test.true c.literal-item.is c.negated-negation.ensures w.in_ok-decide.ensures w.propagate.ensures.same w.propagate.ensures.sound w.propagate.ensures.grown
-          w.in_ok-propagate.ensures.ends c.loop-literal.invariant)
-      | else-not-is_true w ↦
-          subst (λ x. Assuming start x list (at + 1)) (sym w.self-is)
-          (assuming_passes start s list at l c.loop-literal-test.true c.literal-item.is
-          (ap (holds s.trail) (sym c.negated-negation.ensures) ∙ sym c.is_true-in-loop-literal.ensures ∙ w.if-not-is_true.false) c.loop-literal.invariant)
-    ]
+pub returns-clause-releasable : goal.returns-clause-releasable
+returns-clause-releasable c = λ ok. further_rests c.args.self.now c.assume_also.new.self c.requires.at_rest (c.in_ok-answer.ensures.further refl)
 
 pub returns-clause-answer : goal.returns-clause-answer
-returns-clause-answer c =
-    sym (assuming_ends c.args.self.now c.loop-literal.self c.args.list.now c.loop-literal.literal-index c.loop-literal-test.false c.loop-literal.invariant).0
+returns-clause-answer c = c.in_ok-answer.ensures.answer [] (assumes_nothing c.args.self.now c.requires.at_rest.0) c.requires.over
 
 pub returns-clause-rests : goal.returns-clause-rests
-returns-clause-rests c = λ e. (assuming_ends c.args.self.now c.loop-literal.self c.args.list.now c.loop-literal.literal-index c.loop-literal-test.false c.loop-literal.invariant).1
+returns-clause-rests c =
+    λ e.
+    rests_open c.assume_also.new.self c.args.list.now c.facts.ensures.sound c.facts.ensures.settled (c.in_ok-answer.ensures.propagated e)
+    (c.in_ok-answer.ensures.assumed e [] (assumes_nothing c.args.self.now c.requires.at_rest.0))

@@ -1,6 +1,4 @@
-use Rattle.std.proofs.Common.{◌≡◌, ◌<◌, length, take, subst, sym, ap, ◌∙◌, arith}
-use Rattle.vg_units.specs.Levels.{IsKept, start_in}
-use Rattle.vg_units.specs.Searching.{IsSound}
+use Rattle.std.proofs.Common.{◌<◌, length, subst, sym}
 use Rattle.vg_units.proofs.Keeping.{kept_back}
 use Rattle.vg_units.proofs.propagator.Propagator.back_to.Goals as goal
 

@@ -1,5 +1,5 @@
-use Rattle.std.proofs.Common.{◌≡◌, ◌<◌, ◌++◌, ◌∷◌, [], length, subst, sym, ap, ◌∙◌, false, arith}
-use Rattle.std.specs.Prelude.{neg_ℤ, unsigned_abs}
+use Rattle.std.proofs.Common.{◌≡◌, ◌++◌, ◌∷◌, [], length, subst, sym, ap, ◌∙◌, false}
+use Rattle.std.specs.Prelude.{neg_ℤ}
 use Rattle.vg_cnf.specs.Clauses.{holds}
 use Rattle.vg_units.specs.Levels.{IsKept}
 use Rattle.vg_units.proofs.Keeping.{kept_started, kept_decided}

@@ -1,8 +1,6 @@
-use Rattle.std.proofs.Common.{◌≡◌, ◌<◌, length, take, subst, sym, ap, ◌∙◌, arith}
+use Rattle.std.proofs.Common.{subst, sym, ap, ◌∙◌}
 use Rattle.std.specs.Prelude.{not}
 use Rattle.vg_units.specs.Levels.{IsKept}
-use Rattle.vg_units.specs.Propagating.{Ends, AreWatched}
-use Rattle.vg_units.specs.Searching.{IsSound, IsEnd}
 use Rattle.vg_units.proofs.Keeping.{kept_advanced, kept_propagated, all_settled, end_settled}
 use Rattle.vg_units.proofs.Visiting.{ends_watched}
 use Rattle.vg_units.proofs.propagator.Propagator.propagate.Goals as goal
