@@ -1,5 +1,5 @@
 -- The facts as clauses.
-use Rattle.std.proofs.Common.{◌≡◌, ℕ, zero, suc, ◌+◌, ◌<◌, ◌≤◌, List, [], ◌∷◌, map, length, get_or, Bool, true, false, cond, ◌⊎◌, refl, sym, ap, subst, ◌∙◌, inl, inr, arith, All, add-one}
+use Rattle.std.proofs.Common.{◌≡◌, ℕ, zero, suc, ◌+◌, ◌<◌, ◌≤◌, List, map, length, get_or, Bool, true, false, cond, ◌⊎◌, refl, sym, ap, subst, ◌∙◌, inl, inr, arith, All, add-one}
 use Rattle.std.specs.Prelude.{ℤ, ◌&&◌}
 use Rattle.std.proofs.lemmas.Bool.{cases_Bool, cases_lt, and_parts, true≢false}
 use Rattle.std.proofs.lemmas.List.{length-map}
@@ -16,7 +16,7 @@ use Rattle.vg_blast.specs.Marking.{is_marked}
 use Rattle.vg_blast.specs.State.{word_at, IsState}
 use Rattle.vg_blast.specs.declared.disjuncts.Part.{Part}
 use Rattle.vg_blast.specs.Facts.{is_leaf, first_of, literal_of, HasLiteral, HaveLiterals, AddsIf, required_to, Requires}
-use Rattle.vg_blast.proofs.Splits.{AreClosed, IsFlag, IsFlagPart, literal_value, seen, split_flags, split_true}
+use Rattle.vg_blast.proofs.Splits.{AreClosed, IsFlagPart, literal_value, seen, split_flags, split_true}
 
 -- ---- one term
 

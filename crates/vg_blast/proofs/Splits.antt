@@ -1,6 +1,6 @@
 -- A disjunction and the list of its parts.
 use Rattle.std.proofs.Common.{◌≡◌, ℕ, zero, suc, ◌+◌, ◌<◌, ◌≤◌, List, [], ◌∷◌, ◌++◌, map, length, set, get_or, slice_get, unwrap_or, is_some, Option, Some, None, Bool, true, false, cond, refl, sym, ap, subst, ◌∙◌, inl, inr, arith, All}
-use Rattle.std.specs.Prelude.{ℤ, pos, neg_ℤ, not, ◌&&◌, ◌||◌, nat_eq, bit_and, bit_or}
+use Rattle.std.specs.Prelude.{ℤ, pos, neg_ℤ, not, ◌&&◌, ◌||◌, nat_eq}
 use Rattle.std.specs.List.{AllWithin}
 use Rattle.std.proofs.lemmas.Bool.{cases_lt, true≢false, eqb-true}
 use Rattle.std.proofs.lemmas.List.{length-append, length-set, get_or_append_left}

@@ -1,4 +1,4 @@
-use Rattle.std.proofs.Common.{◌≡◌, ◌+◌, ◌<◌, ◌≤◌, length, Some, None, sym, arith}
+use Rattle.std.proofs.Common.{◌≡◌, ◌<◌, length, Some, sym, arith}
 use Rattle.vg_blast.specs.Disjuncts.{sides_of}
 use Rattle.vg_blast.proofs.Splits.{StandsPart, sides_stand, split_none, split_place, split_long, split_more, split_on, split_done}
 use Rattle.vg_blast.proofs.disjuncts.disjuncts.Goals.{then-loop-at-test+else-len-lt-MOST_PARTS, else-loop-at-test}

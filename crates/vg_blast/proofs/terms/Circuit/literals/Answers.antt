@@ -1,7 +1,6 @@
-use Rattle.std.proofs.Common.{get_or, take, take_all, map, ap, ◌∙◌}
-use Rattle.vg_blast.specs.declared.disjuncts.Part.{Part}
+use Rattle.std.proofs.Common.{take_all, map, ap, ◌∙◌}
 use Rattle.vg_blast.specs.Facts.{literal_of}
-use Rattle.vg_blast.proofs.Clauses.{literals_more, literals_over}
+use Rattle.vg_blast.proofs.Clauses.{literals_over}
 use Rattle.vg_blast.proofs.terms.Circuit.literals.Goals as goal
 
 pub returns-clause-over : goal.returns-clause-over
