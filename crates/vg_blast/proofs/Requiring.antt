@@ -1,5 +1,5 @@
 -- The facts as clauses.
-use Rattle.std.proofs.Common.{◌≡◌, ℕ, zero, suc, ◌+◌, ◌<◌, ◌≤◌, List, [], ◌∷◌, map, length, get_or, Bool, true, false, cond, ◌⊎◌, refl, sym, ap, subst, ◌∙◌, inl, inr, arith, All, add-one}
+use Rattle.std.proofs.Common.{◌≡◌, ℕ, zero, suc, ◌+◌, ◌<◌, ◌≤◌, List, map, length, get_or, Bool, true, false, cond, ◌⊎◌, refl, sym, ap, subst, ◌∙◌, inl, inr, arith, All, add-one}
 use Rattle.std.specs.Prelude.{ℤ, ◌&&◌}
 use Rattle.std.proofs.lemmas.Bool.{cases_Bool, cases_lt, and_parts, true≢false}
 use Rattle.std.proofs.lemmas.List.{length-map}
@@ -14,8 +14,9 @@ use Rattle.vg_blast.specs.Circuits.{truth, Holds}
 use Rattle.vg_blast.specs.Blasting.{BitName, Agree}
 use Rattle.vg_blast.specs.Marking.{is_marked}
 use Rattle.vg_blast.specs.State.{word_at, IsState}
-use Rattle.vg_blast.specs.Facts.{is_leaf, first_of, HasLiteral, HaveLiterals, AddsIf, required_to, Requires}
-use Rattle.vg_blast.proofs.Splits.{AreClosed, IsFlag, literal_value, split_flags, split_true}
+use Rattle.vg_blast.specs.declared.disjuncts.Part.{Part}
+use Rattle.vg_blast.specs.Facts.{is_leaf, first_of, literal_of, HasLiteral, HaveLiterals, AddsIf, required_to, Requires}
+use Rattle.vg_blast.proofs.Splits.{AreClosed, IsFlagPart, literal_value, seen, split_flags, split_true}
 
 -- ---- one term
 
@@ -39,8 +40,8 @@ later_literal old new lists more id e same has =
 pub have_literals : {terms : List Term} → AreTerms terms → (marks : List Bool) (old new : ClauseSet) (lists more : List (List ℤ)) (names : List BitName) (id : TermId) → AreClosed terms marks → IsState terms marks (length terms) old lists names → id.0 < length terms → is_marked marks id ≡ true →
     width_at terms id ≡ 1 → new.variables ≡ old.variables → more ≡ lists → HaveLiterals terms new more id
 have_literals {terms} made marks old new lists more names id closed state stands marked one e same = λ parts split.
-    All-weaker (IsFlag terms marks) (HasLiteral new more)
-    (λ p flag. later_literal old new lists more p e same (has_literal terms marks (length terms) old lists names p state flag.stands flag.marked flag.one))
+    All-weaker (IsFlagPart terms marks) (λ (p : Part). HasLiteral new more p.term)
+    (λ p flag. later_literal old new lists more p.term e same (has_literal terms marks (length terms) old lists names p.term state flag.stands flag.marked flag.one))
     parts (split_flags made marks closed id parts (record { stands = stands; marked = marked; one = one }) split)
 
 -- ---- one more term
@@ -68,13 +69,13 @@ requires_more {terms} made marks asserted n old mid new lists names id at below 
           let parts = and_parts (is_marked asserted id) (is_leaf terms id) asked in
           let disjuncts = adds.added asked in
           let added = disjuncts.adds in
-          let clause : List ℤ = map (first_of lists) disjuncts.parts in
+          let clause : List ℤ = map (literal_of lists) disjuncts.parts in
           let word = state.each id below (marked parts.0) in
           let value : (words : List Word) (v : List Bool) → Assigns words terms → Agree v terms words names → Holds v old → value_of terms words id ≡ bit (truth v (first_of lists id)) =
           λ words v assigns agree h. literal_value terms old names lists id words v word (flag parts.0) assigns h agree in
           let whole : (words : List Word) (v : List Bool) → Assigns words terms → Agree v terms words names → Holds v old → makes_true v clause ≡ truth v (first_of lists id) =
           λ words v assigns agree h.
-          split_true made marks old lists names state closed id disjuncts.parts (record { stands = below; marked = marked parts.0; one = flag parts.0 }) disjuncts.are.split words v assigns h agree in
+          split_true marks old lists words v (seen made marks old lists names state closed words v assigns h agree) id disjuncts.parts (record { stands = below; marked = marked parts.0; one = flag parts.0 }) disjuncts.are.split in
           record {
             variables = added.variables ∙ before.variables;
             weaker = λ v h. before.weaker v (added.holds v h).0;
@@ -89,7 +90,7 @@ requires_more {terms} made marks asserted n old mid new lists names id at below 
             held = λ words v assigns agree h all.
                 let earlier = before.held words v assigns agree h (λ x lower is_asked. all x (omega (arith, lower)) is_asked) in
                 added.held v earlier (whole words v assigns agree h ∙ bit_true (truth v (first_of lists id)) (sym (value words v assigns agree h) ∙ all id (omega (arith, at)) asked));
-            literals = let e : cond {A = ℕ} (is_marked asserted id) 128 0 ≡ cond {A = ℕ} true 128 0 = ap (λ b. cond {A = ℕ} b 128 0) parts.0 in omega (arith, cost_is, e, length-map disjuncts.parts (first_of lists), disjuncts.are.most, added.literals, before.literals);
+            literals = let e : cond {A = ℕ} (is_marked asserted id) 128 0 ≡ cond {A = ℕ} true 128 0 = ap (λ b. cond {A = ℕ} b 128 0) parts.0 in omega (arith, cost_is, e, length-map disjuncts.parts (literal_of lists), disjuncts.are.most, added.literals, before.literals);
           }
       | inr not_asked ↦
           let same = adds.kept not_asked in

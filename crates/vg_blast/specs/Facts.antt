@@ -1,5 +1,5 @@
 -- The facts as clauses. No public clause rests on this file.
-use Rattle.std.specs.Prelude.{◌≡◌, ℕ, zero, suc, ◌+◌, ◌<◌, ◌≤◌, ℤ, pos, Bool, true, false, ◌&&◌, if◌then◌else◌, List, [], ◌∷◌, map, length, slice_index_or, All}
+use Rattle.std.specs.Prelude.{◌≡◌, ℕ, zero, suc, ◌+◌, ◌<◌, ◌≤◌, ℤ, pos, neg_ℤ, Bool, true, false, ◌&&◌, if◌then◌else◌, List, [], ◌∷◌, map, length, slice_index_or, All}
 use Rattle.vg_bits.specs.declared.word.Word.{Word}
 use Rattle.vg_cnf.specs.Clauses.{ClauseSet, IsOver}
 use Rattle.vg_term.specs.Terms.{Term}
@@ -11,6 +11,7 @@ use Rattle.vg_blast.specs.Marking.{followed, is_marked}
 use Rattle.vg_blast.specs.State.{word_at}
 use Rattle.vg_blast.specs.Disjuncts.{SplitsInto, AreDisjuncts}
 use Rattle.vg_blast.specs.declared.marking.Follow.TheVariants.{Conjuncts}
+use Rattle.vg_blast.specs.declared.disjuncts.Part.{Part}
 
 abbrev pub none_of : List TermId → Bool
 none_of [] = true
@@ -24,6 +25,10 @@ is_leaf terms id = none_of (followed Conjuncts terms id)
 abbrev pub first_of : List (List ℤ) → TermId → ℤ
 first_of lists id = slice_index_or (word_at lists id) 0 (pos 1)
 
+-- the literal of a part of a disjunction
+abbrev pub literal_of : List (List ℤ) → Part → ℤ
+literal_of lists part = if part.negated then neg_ℤ (first_of lists part.term) else first_of lists part.term
+
 -- the term has a literal over the variables
 pub record HasLiteral (set : ClauseSet) (lists : List (List ℤ)) (id : TermId) : Type 0 where
   pub within : id.0 < length lists
@@ -32,13 +37,13 @@ pub record HasLiteral (set : ClauseSet) (lists : List (List ℤ)) (id : TermId) 
 
 -- all parts of a term have a literal, however it is taken apart
 abbrev pub HaveLiterals : List Term → ClauseSet → List (List ℤ) → TermId → Type 0
-HaveLiterals terms set lists id = (parts : List TermId) → SplitsInto terms id parts → All (HasLiteral set lists) parts
+HaveLiterals terms set lists id = (parts : List Part) → SplitsInto terms id parts → All (λ part. HasLiteral set lists part.term) parts
 
 -- the clause of the literals of the term's parts is added
 pub record AddsDisjuncts (terms : List Term) (old new : ClauseSet) (lists : List (List ℤ)) (id : TermId) : Type 0 where
-  pub parts : List TermId
+  pub parts : List Part
   pub are : AreDisjuncts terms id parts
-  pub adds : Adds old new (map (first_of lists) parts)
+  pub adds : Adds old new (map (literal_of lists) parts)
 
 -- it is added where it is asked for, and else nothing is
 pub record AddsIf (asked : Bool) (terms : List Term) (old new : ClauseSet) (lists : List (List ℤ)) (id : TermId) : Type 0 where

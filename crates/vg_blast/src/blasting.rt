@@ -23,8 +23,8 @@ pub struct Blasted {
 }
 
 /// Clauses that have a model exactly where some assignment makes every fact true. A fact is a term of width 1, and it is true where its value is 1.
-/// A conjunction among the facts, an `and` of width 1, is asserted part by part. A disjunction, an `or` of width 1, is asserted by one clause of the literals
-/// of its parts, of which those that are disjunctions are taken apart too as long as the clause has fewer than 128 literals.
+/// A conjunction among the facts, an `and` of width 1, is asserted part by part. A disjunction, an `or` of width 1 or the negation of an `and`, is asserted by
+/// one clause of the literals of its parts, of which those that are disjunctions are taken apart too as long as the clause has fewer than 128 literals.
 ///
 /// `BlastStop::Clauses` comes where more than `MOST_LITERALS` literals are needed, counted as they stand in the clauses. It comes only where the facts cost
 /// more than that number: 1 for each fact, and for each term under them, counted once, 400 * w * w for a product, a quotient or a remainder, 4000 * w for a

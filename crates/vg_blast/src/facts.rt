@@ -9,9 +9,9 @@ ghost use Rattle.vg_blast.specs.Circuits.{literals};
 ghost use Rattle.vg_blast.specs.Cost.{parts_at};
 ghost use Rattle.vg_blast.specs.Marking.{is_marked};
 ghost use Rattle.vg_blast.specs.State.{IsState};
-ghost use Rattle.vg_blast.specs.Facts.{AddsDisjuncts, AddsIf, HasLiteral, HaveLiterals, Requires, first_of, is_leaf, required_to};
+ghost use Rattle.vg_blast.specs.Facts.{AddsDisjuncts, AddsIf, HasLiteral, HaveLiterals, Requires, is_leaf, literal_of, required_to};
 
-use crate::disjuncts::disjuncts;
+use crate::disjuncts::{Part, disjuncts};
 use crate::marking::{Follow, next};
 use crate::stops::BlastStop;
 use crate::terms::{Circuit, MOST_LITERALS};
@@ -32,16 +32,29 @@ fn is_no_conjunction(terms: &Terms, id: TermId) -> bool
 }
 
 impl Circuit {
-    /// The literals of terms of width 1.
-    fn literals(&self, alloc: Global, parts: &[TermId]) -> Result<Vec<Lit>, AllocError>
-        requires { All (HasLiteral self.now.gates self.now.lists) parts.now }
-        ensures literals { IfOk result (λ clause. clause.items ≡ map (first_of self.now.lists) parts.now) }
+    /// The literal of a part.
+    fn literal(&self, part: Part) -> Lit
+        requires { HasLiteral self.now.gates self.now.lists part.term }
+        ensures literal { result ≡ literal_of self.now.lists part }
+        ensures over { IsOver self.now.gates.variables result }
+    {
+        let word = self.lists.get(part.term.0 as usize);
+        if part.negated {
+            word[0].negated()
+        } else {
+            word[0]
+        }
+    }
+
+    /// The literals of parts.
+    fn literals(&self, alloc: Global, parts: &[Part]) -> Result<Vec<Lit>, AllocError>
+        requires { All (λ part. HasLiteral self.now.gates self.now.lists part.term) parts.now }
+        ensures literals { IfOk result (λ clause. clause.items ≡ map (literal_of self.now.lists) parts.now) }
         ensures over { IfOk result (λ clause. All (IsOver self.now.gates.variables) clause.items) }
     {
         let mut clause = Vec::new(alloc);
         for part in parts {
-            let word = self.lists.get(part.0 as usize);
-            clause.push(word[0])?;
+            clause.push(self.literal(*part))?;
         }
         Ok(clause)
     }

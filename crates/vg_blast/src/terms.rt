@@ -19,6 +19,22 @@ use vg_term::{Node, Op, Parts, TermId, Terms};
 /// How many literals the clauses may have, counted as they stand.
 pub const MOST_LITERALS: usize = 16_777_216;
 
+/// A new literal for a bit of a variable, noted as such.
+fn input_bit(
+    gates: &mut Gates,
+    names: &mut Vec<(TermId, u8, Lit)>,
+    id: TermId,
+    at: u8,
+) -> Result<Lit, AllocError>
+    ensures gates { OnOk result (gates.new ≡ record gates.old { variables = gates.old.variables + 1 }) }
+    ensures literal { IfOk result (λ l. l ≡ pos gates.new.variables) }
+    ensures names { IfOk result (λ l. names.new.items ≡ names.old.items ++ (id, at, l) ∷ []) }
+{
+    let literal = gates.fresh()?;
+    names.push((id, at, literal))?;
+    Ok(literal)
+}
+
 /// New literals for the bits of a variable, noted as such.
 fn input(
     alloc: Global,
@@ -33,8 +49,7 @@ fn input(
 {
     let mut word = Vec::new(alloc);
     for at in 0..width {
-        let literal = gates.fresh()?;
-        names.push((id, at, literal))?;
+        let literal = input_bit(gates, names, id, at)?;
         word.push(literal)?;
     }
     Ok(word)

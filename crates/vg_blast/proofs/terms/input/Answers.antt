@@ -9,6 +9,6 @@ loop-at-init c = ((λ j. record { variables = sym (add-zero c.args.gates.now.var
 pub loop-at-preserved : goal.loop-at-preserved
 loop-at-preserved c =
     let more =
-    input_more c.args.gates.now c.loop-at.gates c.fresh.new.self c.loop-at.word.items c.loop-at.names.items c.push.new.self.items c.args.names.now.items c.args.id c.loop-at.at c.in_ok-literal.literal
-    c.loop-at.invariant.0 c.in_ok-literal.ensures.one_more c.in_ok-literal.ensures.literal c.loop-at.invariant.1 c.loop-at.invariant.2 c.in_ok-push.ensures.items in
-    (more.0, c.in_ok-push-2.ensures.items ∙ more.1, more.2)
+    input_more c.args.gates.now c.loop-at.gates c.input_bit.new.gates c.loop-at.word.items c.loop-at.names.items c.input_bit.new.names.items c.args.names.now.items c.args.id c.loop-at.at c.in_ok-literal.literal
+    c.loop-at.invariant.0 c.in_ok-literal.ensures.gates c.in_ok-literal.ensures.literal c.loop-at.invariant.1 c.loop-at.invariant.2 c.in_ok-literal.ensures.names in
+    (more.0, c.in_ok-push.ensures.items ∙ more.1, more.2)
