@@ -15,8 +15,9 @@ pub(crate) fn less(gates: &mut Gates, a: &[Lit], b: &[Lit]) -> Result<Lit, Alloc
     requires over { All (IsOver gates.old.variables) a.now × All (IsOver gates.old.variables) b.now }
     ensures { IfOk result (λ out. MakesBit gates.old gates.new (48 * length a.now) out (λ v. nat_lt (number v a.now) (number v b.now))) }
 {
+    let width = a.len();
     let mut borrowed = gates.falsity();
-    for at in 0..a.len() {
+    for at in 0..width {
         borrowed = borrow_bit(gates, a[at], b[at], borrowed)?;
     }
     Ok(borrowed)
