@@ -147,17 +147,19 @@ fn blasted(alloc: Global, terms: &Terms, fact: TermId) -> Result<Blasted, Fail>
     Ok(blast(alloc, terms, &[fact])?)
 }
 
-// Whether the last clause has just these literals, each given once.
+// Whether the last clause has just these literals, which are different.
 fn ends_with(clauses: &Clauses, numbers: &[i32]) -> bool {
     let count = clauses.len();
     if count == 0 {
         return false;
     }
     let last = clauses.get(count - 1);
+    for number in numbers {
+        if !last.iter().any(|literal| literal.number() == *number) {
+            return false;
+        }
+    }
     last.len() == numbers.len()
-        && last
-            .iter()
-            .all(|literal| numbers.contains(&literal.number()))
 }
 
 #[test]

@@ -44,12 +44,13 @@ pub record IsReduced (clauses : List (List ℤ)) (some few : List ℤ) : Type 0 
   pub follows_it : follows clauses (some ++ few) ≡ true
   pub needed : (k : ℤ) → holds few k ≡ true → LeavesOpen clauses (some ++ without k few)
 
--- where what is assumed, others and a list make a clause that follows, it is reduced by taking some literals for the list
+-- where what is assumed, others and a list are a clause that follows, a few literals can stand for the list, and none of them can be left out
 abbrev pub AreNeededBeside : Search → List ℤ → List ℤ → List ℤ → Type 0
 AreNeededBeside s others list few =
     (assumed : List ℤ) → Assumes s assumed → IsClauseOver s.variables ((assumed ++ others) ++ list) → follows s.clauses ((assumed ++ others) ++ list) ≡ true →
     IsReduced s.clauses (assumed ++ others) few
 
+-- the same with no others
 abbrev pub AreNeeded : Search → List ℤ → List ℤ → Type 0
 AreNeeded s list few =
     (assumed : List ℤ) → Assumes s assumed → IsClauseOver s.variables (assumed ++ list) → follows s.clauses (assumed ++ list) ≡ true → IsReduced s.clauses assumed few

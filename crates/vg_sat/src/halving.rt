@@ -9,8 +9,8 @@ use std::alloc::{AllocError, Global};
 use vg_cnf::Lit;
 use vg_units::Propagator;
 
-#[cycle(halving)]
 /// Those literals of a list that are needed beside what is assumed, where the clause of both follows.
+#[cycle(halving)]
 fn needed(alloc: Global, search: &mut Propagator, list: &[Lit]) -> Result<Vec<Lit>, AllocError>
     requires at_end { search.old.head ≡ length search.old.trail }
     requires over { All (IsOver search.old.variables) list.now }
@@ -31,8 +31,8 @@ fn needed(alloc: Global, search: &mut Propagator, list: &[Lit]) -> Result<Vec<Li
     Ok(kept)
 }
 
-#[cycle(halving)]
 /// Those literals of a list that are needed beside others and what is assumed, where the clause of all follows.
+#[cycle(halving)]
 pub(crate) fn needed_beside(
     alloc: Global,
     search: &mut Propagator,

@@ -61,7 +61,7 @@ fn learn(
     }
 }
 
-/// The clause without those literals, after the first, with whose others it still follows.
+/// The clause without those literals after the first that aren't needed.
 fn shorten(alloc: Global, search: &mut Propagator, clause: &[Lit]) -> Result<Vec<Lit>, AllocError>
     requires at_rest { IsAtRest search.old }
     requires learnable { IsLearnable search.old.variables search.old.clauses clause.now }

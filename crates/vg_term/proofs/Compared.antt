@@ -17,7 +17,7 @@ use Rattle.vg_term.specs.Operations.{Bits, answer, width_two, Fits, FitsTwo}
 use Rattle.vg_term.specs.Terms.{Term, AreTerms, Stands, Needs, operation, width_at, width_in, listed}
 use Rattle.vg_term.specs.Value.{value_of, bits_at, Assigns}
 use Rattle.vg_term.specs.Folding.{Grows, StandsFor, Builds, IsWord}
-use Rattle.vg_term.specs.Wiring.{wire_value, AllCarry, AnswersAs, IsPositive, IsWired, SameWire, Grown}
+use Rattle.vg_term.specs.Wiring.{wire_value, AllCarry, AnswersAs, IsNonnegative, IsWired, SameWire, Grown}
 use Rattle.vg_term.specs.Narrowing.{AreNarrower, AreOff, IsComparison, IsExtended, IsExtendedWord, IsLess}
 use Rattle.vg_term.specs.declared.wire.Wire.{Wire}
 use Rattle.vg_term.specs.declared.wire.Wire.TheVariants.{Fixed, Bit}
@@ -261,8 +261,8 @@ top_zero v k below none =
     let whole : 0 * 2 ^ k + v % 2 ^ k ≡ v = ap (λ n. n * 2 ^ k + v % 2 ^ k) (sym z) ∙ shr_split v k in
     omega (arith, r, whole)
 
-pub positive : (terms : List Term) (term : TermId) (at : ℕ) (wire : Wire) → AreTerms terms → Stands terms term → at + 1 ≡ width_at terms term → SameWire terms (Bit term at) wire → wire ≡ Fixed false → IsPositive terms term
-positive terms term at wire made there top same off words assigns =
+pub nonnegative : (terms : List Term) (term : TermId) (at : ℕ) (wire : Wire) → AreTerms terms → Stands terms term → at + 1 ≡ width_at terms term → SameWire terms (Bit term at) wire → wire ≡ Fixed false → IsNonnegative terms term
+nonnegative terms term at wire made there top same off words assigns =
     let wide : width_at terms term ≡ 1 + at = omega (arith, top) in
     let k : at ≡ width_at terms term - 1 = omega (arith, top) in
     subst (λ n. value_of terms words term < 2 ^ n) k
@@ -275,7 +275,7 @@ same_answers terms op op' other p q e f stand fits base =
     (subst (λ (r : Parts). AnswersAs terms op' other (listed r)) (sym f)
     (base (subst (λ (r : Parts). All (Stands terms) (listed r)) f stand) (subst (λ (r : Parts). Fits op' (map (width_at terms) (listed r))) f (subst (λ (o : Op). Fits o (map (width_at terms) (listed p))) e fits))))
 
-pub zeros_for_sign : (terms : List Term) (w : ℕ) (a : TermId) → AreTerms terms → IsPositive terms a → All (Stands terms) (a ∷ []) → Fits (ops.Sext w) (map (width_at terms) (a ∷ [])) → AnswersAs terms (ops.Sext w) (ops.Zext w) (a ∷ [])
+pub zeros_for_sign : (terms : List Term) (w : ℕ) (a : TermId) → AreTerms terms → IsNonnegative terms a → All (Stands terms) (a ∷ []) → Fits (ops.Sext w) (map (width_at terms) (a ∷ [])) → AnswersAs terms (ops.Sext w) (ops.Zext w) (a ∷ [])
 zeros_for_sign terms w a made small stand fits = record {
   fits = fits;
   width = refl;
@@ -288,7 +288,7 @@ zeros_for_sign terms w a made small stand fits = record {
       sym (rw (signed_pos v va (small words assigns)) (mod-eq_of_lt (omega (arith, below, whole))));
 }
 
-pub shift_for_sign : (terms : List Term) (a b : TermId) → AreTerms terms → IsPositive terms a → All (Stands terms) (a ∷ b ∷ []) → Fits ops.Ashr (map (width_at terms) (a ∷ b ∷ [])) → AnswersAs terms ops.Ashr ops.Lshr (a ∷ b ∷ [])
+pub shift_for_sign : (terms : List Term) (a b : TermId) → AreTerms terms → IsNonnegative terms a → All (Stands terms) (a ∷ b ∷ []) → Fits ops.Ashr (map (width_at terms) (a ∷ b ∷ [])) → AnswersAs terms ops.Ashr ops.Lshr (a ∷ b ∷ [])
 shift_for_sign terms a b made small stand fits = record {
   fits = fits;
   width = refl;

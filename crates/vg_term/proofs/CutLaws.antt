@@ -1,13 +1,13 @@
 -- Bits that are cut from what an operation answers, as what it answers on bits of its parts.
 use Rattle.std.proofs.Common.{◌≡◌, ℕ, ◌+◌, ◌-◌, ◌*◌, ◌/◌, ◌%◌, ◌^◌, ◌<◌, ◌≤◌, [], ◌∷◌, Bool, true, false, cond, refl, sym, ap, subst, ◌∙◌, inl, inr, arith}
 use Rattle.std.specs.Int.{bit_at}
-use Rattle.std.proofs.Math.Nat.{div-one, add-mul-mod_self_right, add-mod, mod-add-mod}
-use Rattle.std.proofs.Math.Pow.{mod-mod-pow}
+use Rattle.std.proofs.Math.Nat.{mod-eq_of_lt, div-one, add-mul-mod_self_right, add-mod, mod-add-mod}
+use Rattle.std.proofs.Math.Pow.{mod-mod-pow, pow_mono}
 use Rattle.std.proofs.lemmas.Bool.{cases_lt}
 use Rattle.std.proofs.lemmas.Nat.{pow_pos, pow-add, mod_below, mod_low, shr_split, shr_high, shr_below, mul-mod}
-use Rattle.std.proofs.lemmas.Nat.Bits.{same_from_bits, bit_at_above}
+use Rattle.std.proofs.lemmas.Nat.Bits.{same_from_bits, bit_at_above, bit_at_cat_low}
 use Rattle.vg_bits.specs.Words as words
-use Rattle.vg_bits.proofs.Machine.{sub-is}
+use Rattle.vg_bits.proofs.Machine.{sub-is, signed_pos, signed_neg}
 use Rattle.vg_term.specs.Operations.{Bits, answer}
 use Rattle.vg_term.specs.Wiring.{IsBitOp, bit_op}
 use Rattle.vg_term.specs.Narrowing.{IsArithmetic}
@@ -143,6 +143,69 @@ cut_low ops.Add n w a b is le below = lowest w (words.add n a b) ∙ low_add n w
 cut_low ops.Sub n w a b is le below = lowest w (words.sub n a b) ∙ low_sub n w a b le below ∙ (λ j. words.sub w (sym (lowest w a) j) (sym (lowest w b) j))
 cut_low ops.Mul n w a b is le below = lowest w (words.mul n a b) ∙ low_mul n w a b le ∙ (λ j. words.mul w (sym (lowest w a) j) (sym (lowest w b) j))
 cut_low _ n w a b is le below = absurd is
+
+-- ---- extended words
+
+above_ones_at : (q p a : ℕ) → a < p → (q + 1) * p - 1 - (p - 1 - a) ≡ q * p + a
+above_ones_at q p a h = omega arith
+
+above_ones : (m p a : ℕ) → 0 < m → a < p → m * p - 1 - (p - 1 - a) ≡ (m - 1) * p + a
+above_ones m p a some h = let e : m ≡ (m - 1) + 1 = omega arith in ap (λ n. n * p - 1 - (p - 1 - a)) e ∙ above_ones_at (m - 1) p a h
+
+-- the bits of an extended word that it had before
+low_signed : (v w a i : ℕ) → 0 < v → v ≤ w → a < 2 ^ v → i < v → bit_at (words.sext v w a) i ≡ bit_at a i
+low_signed v w a i some wider below low =
+    let whole : 2 ^ v ≤ 2 ^ w = pow_mono wider in
+    elim (cases_lt a (2 ^ (v - 1))) [
+      | inl small ↦
+          let e : words.sext v w a ≡ a = rw (signed_pos v a small) (mod-eq_of_lt (omega arith)) in
+          ap (λ n. bit_at n i) e
+      | inr large ↦
+          let c = 2 ^ v - 1 - a in
+          let m : c % 2 ^ w ≡ c = mod-eq_of_lt (omega arith) in
+          let e : words.sext v w a ≡ 2 ^ w - 1 - c = rw (signed_neg v a large below, m) refl in
+          let split : 2 ^ w ≡ 2 ^ (w - v) * 2 ^ v = ap (λ n. 2 ^ n) (let t : w ≡ (w - v) + v = omega (arith, wider) in t) ∙ pow-add 2 (w - v) v in
+          let joined : 2 ^ w - 1 - c ≡ (2 ^ (w - v) - 1) * 2 ^ v + a = ap (λ n. n - 1 - c) split ∙ above_ones (2 ^ (w - v)) (2 ^ v) a (pow_pos (w - v)) below in
+          ap (λ n. bit_at n i) (e ∙ joined) ∙ bit_at_cat_low (2 ^ (w - v) - 1) v a i low
+    ]
+
+pub cut_signed : (from w v n a : ℕ) → 0 < v → v ≤ n → a < 2 ^ v → from + w ≤ v → words.extract from w (words.sext v n a) ≡ words.extract from w a
+cut_signed from w v n a some wider below within =
+    let s = words.sext v n a in
+    same_from_bits (words.extract from w s) (words.extract from w a)
+    (λ i.
+    elim (cases_lt i w) [
+      | inl low ↦ bit_cut s from w i low ∙ low_signed v n a (from + i) some wider below (omega (arith, low, within)) ∙ sym (bit_cut a from w i low)
+      | inr high ↦ bit_at_above (words.extract from w s) w i (none_below (s / 2 ^ from) w) high ∙ sym (bit_at_above (words.extract from w a) w i (none_below (a / 2 ^ from) w) high)
+    ])
+
+ones_above_at : (q p c : ℕ) → c < p → (q + 1) * p - 1 - c ≡ q * p + (p - 1 - c)
+ones_above_at q p c h = omega arith
+
+ones_above : (m p c : ℕ) → 0 < m → c < p → m * p - 1 - c ≡ (m - 1) * p + (p - 1 - c)
+ones_above m p c some h = let e : m ≡ (m - 1) + 1 = omega arith in ap (λ n. n * p - 1 - c) e ∙ ones_above_at (m - 1) p c h
+
+-- the lowest bits, where all of the word before is among them
+pub cut_extended : (w v n a : ℕ) → 0 < v → v ≤ w → w ≤ n → a < 2 ^ v → words.extract 0 w (words.sext v n a) ≡ words.sext v w a
+cut_extended w v n a some wide wider below =
+    let half : 2 ^ v ≤ 2 ^ w = pow_mono wide in
+    let whole : 2 ^ w ≤ 2 ^ n = pow_mono wider in
+    lowest w (words.sext v n a)
+    ∙ elim (cases_lt a (2 ^ (v - 1))) [
+      | inl small ↦
+          let far : words.sext v n a ≡ a = rw (signed_pos v a small) (mod-eq_of_lt (omega arith)) in
+          let near : words.sext v w a ≡ a = rw (signed_pos v a small) (mod-eq_of_lt (omega arith)) in
+          ap (λ k. k % 2 ^ w) far ∙ mod-eq_of_lt (omega (arith, half, below)) ∙ sym near
+      | inr large ↦
+          let c = 2 ^ v - 1 - a in
+          let m : c % 2 ^ n ≡ c = mod-eq_of_lt (omega arith) in
+          let l : c % 2 ^ w ≡ c = mod-eq_of_lt (omega arith) in
+          let far : words.sext v n a ≡ 2 ^ n - 1 - c = rw (signed_neg v a large below, m) refl in
+          let near : words.sext v w a ≡ 2 ^ w - 1 - c = rw (signed_neg v a large below, l) refl in
+          let split : 2 ^ n ≡ 2 ^ (n - w) * 2 ^ w = ap (λ k. 2 ^ k) (let t : n ≡ (n - w) + w = omega (arith, wider) in t) ∙ pow-add 2 (n - w) w in
+          let joined : 2 ^ n - 1 - c ≡ (2 ^ (n - w) - 1) * 2 ^ w + (2 ^ w - 1 - c) = ap (λ k. k - 1 - c) split ∙ ones_above (2 ^ (n - w)) (2 ^ w) c (pow_pos (n - w)) (omega arith) in
+          ap (λ k. k % 2 ^ w) (far ∙ joined) ∙ mod_low (2 ^ (n - w) - 1) w (2 ^ w - 1 - c) (omega (arith, pow_pos w)) ∙ sym near
+    ]
 
 -- ---- cut twice
 

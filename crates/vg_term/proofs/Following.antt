@@ -4,15 +4,11 @@ use Rattle.std.specs.Prelude.{IfSome, nat_eq}
 use Rattle.std.specs.Int.{bit_at}
 use Rattle.std.proofs.lemmas.Bool.Decides.{eqb_tells}
 use Rattle.std.proofs.lemmas.List.Elements.{All-head, All-tail, All-weaker}
-use Rattle.std.proofs.Math.Nat.{mod-eq_of_lt}
-use Rattle.std.proofs.Math.Pow.{pow_mono}
-use Rattle.std.proofs.lemmas.Bool.{cases_lt}
-use Rattle.std.proofs.lemmas.Nat.{pow_pos, pow-add, mod_below}
+use Rattle.std.proofs.lemmas.Nat.{pow_pos, mod_below}
 use Rattle.std.proofs.lemmas.Nat.Bits.{bit_at-zero, bit_at_and, bit_at_or, bit_at_xor, bit_at_above, bit_at_cat_low, bit_at_cat_high}
 use Rattle.std.proofs.lemmas.Option.{slice_get_within}
 use Rattle.vg_bits.specs.Words as formulas
 use Rattle.vg_bits.specs.declared.word.Word.{Word}
-use Rattle.vg_bits.proofs.Machine.{signed_pos, signed_neg}
 use Rattle.vg_term.specs.Operations.{Bits, answer, width_of, Fits}
 use Rattle.vg_term.specs.Terms.{Term, AreTerms, Stands, width_at, width_in, listed}
 use Rattle.vg_term.specs.Value.{value_of, bits_at, entry_value}
@@ -28,7 +24,7 @@ use Rattle.vg_term.specs.declared.node.Parts.TheVariants as parts
 use Rattle.vg_term.specs.declared.node.Node.TheVariants as nodes
 use Rattle.vg_term.proofs.Made.{is_made}
 use Rattle.vg_term.proofs.Values.{value_follows}
-use Rattle.vg_term.proofs.Ranges.{term_range, width_some, width_most}
+use Rattle.vg_term.proofs.Ranges.{term_range, width_most}
 use Rattle.vg_term.proofs.RuleLaws.{zero_of}
 use Rattle.vg_term.proofs.Wires.{bit_within, bit_moved, bit_cut}
 
@@ -42,29 +38,6 @@ set_bit n set e =
     elim (eqb_tells (n % 2) 1) [
       | inl one ↦ ap formulas.bit (e ∙ one.0) ∙ sym one.1
       | inr none ↦ ap formulas.bit (e ∙ none.0) ∙ sym (zero_of (n % 2) below none.1)
-    ]
-
-above_ones_at : (q p a : ℕ) → a < p → (q + 1) * p - 1 - (p - 1 - a) ≡ q * p + a
-above_ones_at q p a h = omega arith
-
-above_ones : (m p a : ℕ) → 0 < m → a < p → m * p - 1 - (p - 1 - a) ≡ (m - 1) * p + a
-above_ones m p a some h = let e : m ≡ (m - 1) + 1 = omega arith in ap (λ n. n * p - 1 - (p - 1 - a)) e ∙ above_ones_at (m - 1) p a h
-
--- the bits of an extended word that it had before
-low_signed : (v w a i : ℕ) → 0 < v → v ≤ w → a < 2 ^ v → i < v → bit_at (formulas.sext v w a) i ≡ bit_at a i
-low_signed v w a i some wider below low =
-    let whole : 2 ^ v ≤ 2 ^ w = pow_mono wider in
-    elim (cases_lt a (2 ^ (v - 1))) [
-      | inl small ↦
-          let e : formulas.sext v w a ≡ a = rw (signed_pos v a small) (mod-eq_of_lt (omega arith)) in
-          ap (λ n. bit_at n i) e
-      | inr large ↦
-          let c = 2 ^ v - 1 - a in
-          let m : c % 2 ^ w ≡ c = mod-eq_of_lt (omega arith) in
-          let e : formulas.sext v w a ≡ 2 ^ w - 1 - c = rw (signed_neg v a large below, m) refl in
-          let split : 2 ^ w ≡ 2 ^ (w - v) * 2 ^ v = ap (λ n. 2 ^ n) (let t : w ≡ (w - v) + v = omega (arith, wider) in t) ∙ pow-add 2 (w - v) v in
-          let joined : 2 ^ w - 1 - c ≡ (2 ^ (w - v) - 1) * 2 ^ v + a = ap (λ n. n - 1 - c) split ∙ above_ones (2 ^ (w - v)) (2 ^ v) a (pow_pos (w - v)) below in
-          ap (λ n. bit_at n i) (e ∙ joined) ∙ bit_at_cat_low (2 ^ (w - v) - 1) v a i low
     ]
 
 -- ---- cuts
@@ -118,19 +91,6 @@ module _ (terms : List Term) (op : Op) (p : Parts) (at : ℕ) (stand : All (Stan
       (λ asked. record {
         carries = record { stands = tt; value = λ words assigns. sym (bit_at_above (value_of terms words t) (width_at terms t) at (term_range made words assigns t (All-head (Stands terms) t [] asked.0)).below high) };
         below = λ n all. omega arith;
-      })
-
-  pub cut_signed : AreTerms terms → (w : ℕ) (t : TermId) → op ≡ ops.Sext w → p ≡ parts.One t → at < width_at terms t → IsCut terms op (listed p) at (Bit t at)
-  cut_signed made w t e f low =
-      cut_at terms op (ops.Sext w) p (parts.One t) at (Bit t at) e f stand fits within
-      (λ asked. record {
-        carries = record {
-          stands = (All-head (Stands terms) t [] asked.0, low);
-          value = λ words assigns.
-              let there = All-head (Stands terms) t [] asked.0 in
-              sym (low_signed (width_at terms t) w (value_of terms words t) at (width_some made t there) asked.1.0 (term_range made words assigns t there).below low);
-        };
-        below = λ n all. first_below n t [] all;
       })
 
   pub cut_low : (high low : TermId) → op ≡ ops.Concat → p ≡ parts.Two high low → at < width_at terms low → IsCut terms op (listed p) at (Bit low at)

@@ -22,9 +22,9 @@ use Rattle.vg_term.specs.declared.stops.TermStop.{TermStop}
 use Rattle.vg_term.proofs.Made.{is_made, stays, same_widths}
 use Rattle.vg_term.proofs.Values.{value_follows, bits_stay}
 use Rattle.vg_term.proofs.Meanings.{folds_to_itself}
-use Rattle.vg_term.proofs.Ranges.{term_range}
+use Rattle.vg_term.proofs.Ranges.{term_range, width_some}
 use Rattle.vg_term.proofs.Wires.{grown_on, stands_later, width_later, value_later, assigns_later}
-use Rattle.vg_term.proofs.CutLaws.{word, cut_not, cut_bits, cut_choice, cut_low, cut_twice}
+use Rattle.vg_term.proofs.CutLaws.{word, cut_not, cut_bits, cut_choice, cut_low, cut_signed, cut_extended, cut_twice}
 
 -- ---- what stays where terms are added
 
@@ -82,6 +82,56 @@ turned_cut {terms} made term a x id wd from w here within part for =
           ∙ sym (cut_not (width_at terms a) from w (value_of terms words a) (omega (arith, within, wide)) (term_range made words assigns a there).below)
           ∙ ap (formulas.extract from w) (sym (node_value made term ops.Not (parts.One a) wd here words));
     }
+
+-- ---- extended words
+
+module _ (old new : List Term) (term a : TermId) (k wd from w : ℕ) (made : AreTerms old) (here : slice_get old term.0 ≡ Some (nodes.Op (ops.Sext k) (parts.One a), wd)) (now : AreTerms new) (g : Grows old new) (words : List Word) (assigns : Assigns words new) where
+  part_there : Stands old a
+  part_there = All-head (Stands old) a [] (node_parts made term (ops.Sext k) (parts.One a) wd here)
+
+  part_wide : width_at new a ≡ width_at old a
+  part_wide = width_later old new g a part_there
+
+  part_narrower : width_at new a ≤ k
+  part_narrower = let fits = node_fits made term (ops.Sext k) (parts.One a) wd here in omega (arith, fits.0, part_wide)
+
+  part_some : 0 < width_at new a
+  part_some = width_some now a (stands_later old new g a part_there)
+
+  part_below : value_of new words a < 2 ^ width_at new a
+  part_below = (term_range now words assigns a (stands_later old new g a part_there)).below
+
+  term_is : value_of new words term ≡ formulas.sext (width_at new a) k (value_of new words a)
+  term_is = node_value now term (ops.Sext k) (parts.One a) wd (node_later old new g term (nodes.Op (ops.Sext k) (parts.One a), wd) here) words
+
+  from_part : from + w ≤ width_at old a → formulas.extract from w (value_of new words a) ≡ formulas.extract from w (value_of new words term)
+  from_part within = sym (ap (formulas.extract from w) term_is ∙ cut_signed from w (width_at new a) k (value_of new words a) part_some part_narrower part_below (omega (arith, within, part_wide)))
+
+  as_extension : from ≡ 0 → width_at old a ≤ w → w ≤ k → formulas.sext (width_at new a) w (value_of new words a) ≡ formulas.extract from w (value_of new words term)
+  as_extension lowest more most =
+      sym ((λ j. formulas.extract (lowest j) w (term_is j)) ∙ cut_extended w (width_at new a) k (value_of new words a) part_some (omega (arith, more, part_wide)) most part_below)
+
+pub signed_builds : (old new : List Term) (term a : TermId) (k wd from w : ℕ) (result : Result TermId TermStop) → AreTerms old → slice_get old term.0 ≡ Some (nodes.Op (ops.Sext k) (parts.One a), wd) → from + w ≤ width_at old a →
+    Builds old new (ops.Extract from w) (a ∷ []) result → Builds old new (ops.Extract from w) (term ∷ []) result
+signed_builds old new term a k wd from w (Ok id) made here within h =
+    record {
+      made = h.made;
+      grows = h.grows;
+      means = record { stands = h.means.stands; width = h.means.width; value = λ words assigns. h.means.value words assigns ∙ from_part old new term a k wd from w made here h.made h.grows words assigns within };
+    }
+signed_builds old new term a k wd from w (Err stop) made here within h = record { made = h.made; grows = h.grows; means = tt }
+
+pub extended_builds : (old new : List Term) (term a : TermId) (k wd from w : ℕ) (result : Result TermId TermStop) → AreTerms old → slice_get old term.0 ≡ Some (nodes.Op (ops.Sext k) (parts.One a), wd) → from ≡ 0 → width_at old a ≤ w → w ≤ wd →
+    Builds old new (ops.Sext w) (a ∷ []) result → Builds old new (ops.Extract from w) (term ∷ []) result
+extended_builds old new term a k wd from w (Ok id) made here lowest more most h =
+    let is_k : wd ≡ k = node_width made term (ops.Sext k) (parts.One a) wd here in
+    record {
+      made = h.made;
+      grows = h.grows;
+      means =
+          record { stands = h.means.stands; width = h.means.width; value = λ words assigns. h.means.value words assigns ∙ as_extension old new term a k wd from w made here h.made h.grows words assigns lowest more (omega (arith, most, is_k)) };
+    }
+extended_builds old new term a k wd from w (Err stop) made here lowest more most h = record { made = h.made; grows = h.grows; means = tt }
 
 -- ---- choices
 

@@ -1,4 +1,4 @@
--- Operations in a narrower width: bits that are cut from what an operation answers, and comparisons of extended words.
+-- Operations in a narrower width: bits that are cut from what an operation answers, and comparisons of extended words. No public clause rests on this file.
 use Rattle.std.specs.Prelude.{◌≡◌, ℕ, ◌<◌, ◌≤◌, List, ◌⊎◌, false, slice_index_or}
 use Rattle.vg_bits.specs.Words.{sext}
 use Rattle.vg_bits.specs.declared.word.Word.{Word}

@@ -107,8 +107,8 @@ pub record AreApart (terms : List Term) (a b : TermId) (n : ℕ) : Type 0 where
   pub each : (i : ℕ) → i < n → (words : List Word) → Assigns words terms → min (bit_at (value_of terms words a) i) (bit_at (value_of terms words b) i) ≡ 0
 
 -- its highest bit is 0 under every assignment
-abbrev pub IsPositive : List Term → TermId → Type 0
-IsPositive terms a = (words : List Word) → Assigns words terms → value_of terms words a < 2 ^ (width_at terms a - 1)
+abbrev pub IsNonnegative : List Term → TermId → Type 0
+IsNonnegative terms a = (words : List Word) → Assigns words terms → value_of terms words a < 2 ^ (width_at terms a - 1)
 
 -- the other operation answers the same on these parts
 pub record AnswersAs (terms : List Term) (op other : Op) (parts : List TermId) : Type 0 where

@@ -15,7 +15,7 @@ use crate::wire::Wire;
 use crate::wiring::is_off;
 use vg_bits::Word;
 
-// How many of the lowest wires aren't fixed to 0 above, at least one.
+// The width up to the highest wire that isn't fixed to 0, at least 1.
 fn used(wires: &[Wire], width: u8) -> u8
     requires some { 0 < width }
     requires most { width ≤ 64 }

@@ -1,4 +1,4 @@
-//! Bits that are cut from a term: from the parts of its operation, where these tell them.
+//! Bits that are cut from a term, or from the parts of its operation where these tell them.
 
 ghost use Rattle.std.specs.Prelude.{◌≡◌, ◌<◌, ◌≤◌, ◌+◌, [], ◌∷◌, slice_get, Some, IsTrue};
 ghost use Rattle.vg_term.specs.Terms.{AreTerms, Stands, width_at};
@@ -14,7 +14,7 @@ use crate::node::{Node, Op, Parts, TermId};
 use crate::stops::TermStop;
 use crate::terms::Terms;
 
-/// How many operations may be cut while one term is built. Without a bound, terms that share their parts would cost more than there are terms.
+/// How many operations may be cut while one term is built. Without a bound, a part would be cut once for each way down to it, which takes time exponential in the depth.
 pub(crate) const MOST_CUTS: u8 = 64;
 
 fn is_bitwise(op: Op) -> bool
@@ -36,7 +36,7 @@ fn is_arithmetic(op: Op) -> bool
 }
 
 impl Terms {
-    /// Bits of a term from one on, rebuilt from their wires.
+    /// `width` bits of a term from place `from` on, rebuilt from their wires.
     #[cycle(cutting)]
     pub(crate) fn slice(
         &mut self,
@@ -60,7 +60,7 @@ impl Terms {
         }
     }
 
-    /// Bits of a term from one on, cut from the parts of its operation where these tell them.
+    /// `width` bits of a term from place `from` on, cut from the parts of its operation where these tell them.
     #[cycle(cutting)]
     pub(crate) fn cut_from(
         &mut self,
@@ -115,7 +115,7 @@ impl Terms {
         }
     }
 
-    // Of turned bits.
+    // Of a `not`, or of an extension with the sign, whose lowest bits are its part's.
     #[cycle(cutting)]
     fn cut_of_one(
         &mut self,
@@ -138,6 +138,15 @@ impl Terms {
             Op::Not => {
                 let part = self.slice(a, from, width, cuts)?;
                 self.wired(Op::Not, &[part], cuts)
+            }
+            Op::Sext(_) => {
+                if from + width <= self.width(a) {
+                    return self.slice(a, from, width, cuts);
+                }
+                if from == 0 {
+                    return self.wired(Op::Sext(width), &[a], cuts);
+                }
+                self.make(Op::Extract { from, width }, &[term])
             }
             _ => self.make(Op::Extract { from, width }, &[term]),
         }

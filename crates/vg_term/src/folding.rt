@@ -56,7 +56,7 @@ impl Terms {
         requires parts_stand { All (Stands self.old) parts.now }
         requires fits { Fits op (map (width_at self.old) parts.now) }
         ensures builds { Builds self.old self.new op parts.now result }
-        ensures few { length self.new ≤ length self.old + 33088 }
+        ensures few { length self.new ≤ length self.old + 33026 }
         ensures full { IsFull self.new result }
         ensures folded { All (IsConstant self.old) parts.now → IfOk result (λ id. IsFolded self.old self.new op parts.now id) }
     {

@@ -380,14 +380,28 @@ fn signs(terms: &mut Terms) -> Result<bool, Fail> {
     Ok(same && cut(terms, signed, 0, 8)? == x)
 }
 
+// Whether an extension with the sign stays one where nothing is added to it, and where its lowest bits are cut.
+fn extensions(terms: &mut Terms) -> Result<bool, Fail> {
+    let x = terms.var(8)?;
+    let signed = one(terms, Op::Sext(32), x)?;
+    let wide = one(terms, Op::Sext(64), x)?;
+    let zero = word(terms, 32, 0)?;
+    let ones = word(terms, 32, 0xffff_ffff)?;
+    let sum = two(terms, Op::Add, signed, zero)? == signed;
+    let masked = two(terms, Op::And, signed, ones)? == signed;
+    let whole = cut(terms, signed, 0, 32)? == signed;
+    Ok(sum && masked && whole && cut(terms, wide, 0, 32)? == signed)
+}
+
 #[test]
 fn signs_that_are_known(rt: HostRuntime) -> Result<(), Fail> {
     let mut terms = Terms::new(rt.alloc())?;
     assert!(rt; signs(&mut terms)?);
+    assert!(rt; extensions(&mut terms)?);
     Ok(())
 }
 
-// Of 40 products each has the one before it twice below it, so that there are 2 ^ 40 ways down: the lowest bits of the last one cost few terms.
+// Of 40 products each has the one before it twice below it, so that there are 2 ^ 40 ways down. Cutting the lowest bits of the last one ends after 64 cuts. There are 81 terms before, and a cut makes at most four.
 #[test]
 fn cuts_of_shared_parts_are_few(rt: HostRuntime) -> Result<(), Fail> {
     let mut terms = Terms::new(rt.alloc())?;
@@ -397,6 +411,6 @@ fn cuts_of_shared_parts_are_few(rt: HostRuntime) -> Result<(), Fail> {
         product = two(&mut terms, Op::Mul, product, turned)?;
     }
     let _low = cut(&mut terms, product, 0, 32)?;
-    assert!(rt; terms.len() < 2000);
+    assert!(rt; terms.len() < 400);
     Ok(())
 }

@@ -87,7 +87,7 @@ fn is_set(wire: Wire) -> bool
 }
 
 impl Terms {
-    /// A term of these wires. It is the same term for the same wires.
+    /// A term of these wires. It is the same term for the same wires, as long as cuts are left.
     #[cycle(cutting)]
     pub(crate) fn rebuild(
         &mut self,

@@ -4,7 +4,7 @@ ghost use Rattle.std.specs.Prelude.{◌≡◌, ◌<◌, ◌≤◌, ◌/◌, ◌%
 ghost use Rattle.vg_term.specs.Operations.{Fits, width_of};
 ghost use Rattle.vg_term.specs.Terms.{AreTerms, Stands, listed, width_at};
 ghost use Rattle.vg_term.specs.declared.wire.Wire.TheVariants as kinds;
-ghost use Rattle.vg_term.specs.Wiring.{AllCarry, AnswersAs, AreApart, Carries, IsBitwise, IsCut, IsPositive, SameWire, WireStands, wire_depth};
+ghost use Rattle.vg_term.specs.Wiring.{AllCarry, AnswersAs, AreApart, Carries, IsBitwise, IsCut, IsNonnegative, SameWire, WireStands, wire_depth};
 
 use crate::node::{Node, Op, Parts, TermId};
 use crate::terms::Terms;
@@ -79,21 +79,21 @@ impl Terms {
         match (op, parts) {
             (Op::Add, Parts::Two(a, b)) => { if self.are_apart(a, b) { Op::Or } else { op } }
             (Op::Sext(width), Parts::One(a)) => {
-                if self.is_positive(a) {
+                if self.is_nonnegative(a) {
                     Op::Zext(width)
                 } else {
                     op
                 }
             }
-            (Op::Ashr, Parts::Two(a, _)) => { if self.is_positive(a) { Op::Lshr } else { op } }
+            (Op::Ashr, Parts::Two(a, _)) => { if self.is_nonnegative(a) { Op::Lshr } else { op } }
             _ => op,
         }
     }
 
     // Whether the sign of a term is 0 under each assignment.
-    fn is_positive(&self, term: TermId) -> bool
+    fn is_nonnegative(&self, term: TermId) -> bool
         requires { Stands self.now term }
-        ensures { IsTrue result → IsPositive self.now term }
+        ensures { IsTrue result → IsNonnegative self.now term }
     {
         let at = self.width(term) - 1;
         is_off(self.followed(Wire::Bit { term, at }))
@@ -146,12 +146,6 @@ impl Terms {
                     term: high,
                     at: at - width,
                 })
-            }
-            (Op::Sext(_), Parts::One(term)) => {
-                if at < self.width(term) {
-                    return Some(Wire::Bit { term, at });
-                }
-                None
             }
             _ => None,
         }

@@ -194,7 +194,9 @@ impl Propagator {
 
     /// Takes back all decisions but the first ones, if there are more.
     pub fn return_to(&mut self, level: usize)
-        ensures { IsReturned level self.old self.new }
+        ensures returned { IsReturned level self.old self.new }
+        ensures taken_back { level < length self.old.starts → self.new ≡ record self.old { trail = take (start_in self.old.starts level) self.old.trail; starts = take level self.old.starts; head = start_in self.old.starts level } }
+        ensures unchanged { length self.old.starts ≤ level → self.new ≡ self.old }
     {
         if self.level() > level {
             self.back_to(level);

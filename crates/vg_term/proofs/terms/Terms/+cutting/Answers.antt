@@ -8,7 +8,7 @@ use Rattle.vg_term.specs.declared.node.Parts.TheVariants as held
 use Rattle.vg_term.specs.declared.node.Node.TheVariants as nodes
 use Rattle.vg_term.proofs.Ranges.{op_width_range, width_most}
 use Rattle.vg_term.proofs.Building.{parts_stand, rebuilt, carried_stand, slice_built}
-use Rattle.vg_term.proofs.Slices.{node_stands, one_stands, one_part_stands, turned_wide, left_stands, right_stands, left_wide, right_wide, first_stands, second_stands, first_wide, second_wide, turned_builds, two_ready, two_builds, choice_ready, choice_builds, twice_builds, made_cut}
+use Rattle.vg_term.proofs.Slices.{node_stands, one_stands, one_part_stands, turned_wide, left_stands, right_stands, left_wide, right_wide, first_stands, second_stands, first_wide, second_wide, turned_builds, two_ready, two_builds, choice_ready, choice_builds, twice_builds, made_cut, signed_builds, extended_builds}
 use Rattle.vg_term.proofs.terms.Terms.+cutting.Goals as goal
 
 pub piece-returns-then-width-clause-builds : goal.piece-returns-then-width-clause-builds
@@ -111,6 +111,10 @@ pub cut_of_one-make-requires : goal.cut_of_one-make-requires
 cut_of_one-make-requires t c =
     record { parts_stand = one_stands c.args.self.now c.args.term (node_stands c.requires.made c.args.term c.args.op (held.One c.args.a) (width_at c.args.self.now c.args.term) c.requires.node); fits = (c.requires.some, c.requires.within) }
 
+pub cut_of_one-make-requires-in_default : goal.cut_of_one-make-requires-in_default
+cut_of_one-make-requires-in_default t c =
+    record { parts_stand = one_stands c.args.self.now c.args.term (node_stands c.requires.made c.args.term c.args.op (held.One c.args.a) (width_at c.args.self.now c.args.term) c.requires.node); fits = (c.requires.some, c.requires.within) }
+
 pub cut_of_one-returns-in_ok-part-in-Not-clause-builds : goal.cut_of_one-returns-in_ok-part-in-Not-clause-builds
 cut_of_one-returns-in_ok-part-in-Not-clause-builds t c =
     let node = subst (λ (o : Op). slice_get c.args.self.now c.args.term.0 ≡ Some (nodes.Op o (held.One c.args.a), width_at c.args.self.now c.args.term)) c.in-Not.is c.requires.node in
@@ -118,7 +122,7 @@ cut_of_one-returns-in_ok-part-in-Not-clause-builds t c =
 
 pub cut_of_one-returns-in_default-clause-builds : goal.cut_of_one-returns-in_default-clause-builds
 cut_of_one-returns-in_default-clause-builds t c =
-    made_cut c.args.self.now c.make.new.self c.args.term c.args.from c.args.width c.make.result c.make.ensures.made (node_stands c.requires.made c.args.term c.args.op (held.One c.args.a) (width_at c.args.self.now c.args.term) c.requires.node) c.requires.some c.requires.within c.make.ensures.term
+    made_cut c.args.self.now c.make-in_default.new.self c.args.term c.args.from c.args.width c.make-in_default.result c.make-in_default.ensures.made (node_stands c.requires.made c.args.term c.args.op (held.One c.args.a) (width_at c.args.self.now c.args.term) c.requires.node) c.requires.some c.requires.within c.make-in_default.ensures.term
 
 pub cut_of_three-slice-requires : goal.cut_of_three-slice-requires
 cut_of_three-slice-requires t c =
@@ -190,3 +194,28 @@ cut_parts-wired-requires t c =
 pub cut_parts-returns-clause-builds : goal.cut_parts-returns-clause-builds
 cut_parts-returns-clause-builds t c =
     two_builds c.args.self.now c.slice.new.self c.slice-2.new.self c.wired.new.self c.args.term c.args.a c.args.b c.in_ok-left.left c.in_ok-right.right c.args.op (width_at c.args.self.now c.args.term) c.args.from c.args.width c.wired.result c.requires.made c.requires.node c.requires.cuts c.requires.within c.in_ok-left.ensures.builds c.in_ok-right.ensures.builds c.wired.ensures.builds
+
+pub cut_of_one-overflow_add-from : goal.cut_of_one-overflow_add-from
+cut_of_one-overflow_add-from t c = record { fits = omega (arith, c.requires.within, width_most c.requires.made c.args.term (node_stands c.requires.made c.args.term c.args.op (held.One c.args.a) (width_at c.args.self.now c.args.term) c.requires.node)) }
+
+pub cut_of_one-width-requires : goal.cut_of_one-width-requires
+cut_of_one-width-requires t c = one_part_stands c.requires.made c.args.term c.args.op c.args.a (width_at c.args.self.now c.args.term) c.requires.node
+
+pub cut_of_one-wired-requires-then-from-eq0 : goal.cut_of_one-wired-requires-then-from-eq0
+cut_of_one-wired-requires-then-from-eq0 t c =
+    let most = width_most c.requires.made c.args.term (node_stands c.requires.made c.args.term c.args.op (held.One c.args.a) (width_at c.args.self.now c.args.term) c.requires.node) in
+    (omega (arith, c.decreases), (c.requires.made, (one_stands c.args.self.now c.args.a (one_part_stands c.requires.made c.args.term c.args.op c.args.a (width_at c.args.self.now c.args.term) c.requires.node), (omega (arith, c.if-from-width.false, c.if-from-eq0.true, c.width.ensures.width), omega (arith, c.requires.within, most)))))
+
+pub cut_of_one-returns-then-from-width-clause-builds : goal.cut_of_one-returns-then-from-width-clause-builds
+cut_of_one-returns-then-from-width-clause-builds t c =
+    let node = subst (λ (o : Op). slice_get c.args.self.now c.args.term.0 ≡ Some (nodes.Op o (held.One c.args.a), width_at c.args.self.now c.args.term)) c.in-Sext.is c.requires.node in
+    signed_builds c.args.self.now c.slice-then-from-width.new.self c.args.term c.args.a c.in-Sext.field-0 (width_at c.args.self.now c.args.term) c.args.from c.args.width c.slice-then-from-width.result c.requires.made node (omega (arith, c.if-from-width.true, c.width.ensures.width)) c.slice-then-from-width.ensures.builds
+
+pub cut_of_one-returns-then-from-eq0-clause-builds : goal.cut_of_one-returns-then-from-eq0-clause-builds
+cut_of_one-returns-then-from-eq0-clause-builds t c =
+    let node = subst (λ (o : Op). slice_get c.args.self.now c.args.term.0 ≡ Some (nodes.Op o (held.One c.args.a), width_at c.args.self.now c.args.term)) c.in-Sext.is c.requires.node in
+    extended_builds c.args.self.now c.wired-then-from-eq0.new.self c.args.term c.args.a c.in-Sext.field-0 (width_at c.args.self.now c.args.term) c.args.from c.args.width c.wired-then-from-eq0.result c.requires.made node c.if-from-eq0.true (omega (arith, c.if-from-width.false, c.if-from-eq0.true, c.width.ensures.width)) (omega (arith, c.requires.within)) c.wired-then-from-eq0.ensures.builds
+
+pub cut_of_one-returns-else-from-eq0-clause-builds : goal.cut_of_one-returns-else-from-eq0-clause-builds
+cut_of_one-returns-else-from-eq0-clause-builds t c =
+    made_cut c.args.self.now c.make.new.self c.args.term c.args.from c.args.width c.make.result c.make.ensures.made (node_stands c.requires.made c.args.term c.args.op (held.One c.args.a) (width_at c.args.self.now c.args.term) c.requires.node) c.requires.some c.requires.within c.make.ensures.term

@@ -1,5 +1,5 @@
 use Rattle.std.proofs.Common.{arith}
-use Rattle.vg_term.proofs.Following.{cut_fits, cut_extract, cut_above, cut_low, cut_high, cut_signed}
+use Rattle.vg_term.proofs.Following.{cut_fits, cut_extract, cut_above, cut_low, cut_high}
 use Rattle.vg_term.proofs.terms.Terms.cut.Goals as goal
 
 pub overflow_add-result : goal.overflow_add-result
@@ -18,6 +18,3 @@ returns-else-at-width c = cut_above c.args.self.now c.args.op c.args.parts c.arg
 
 pub returns-else-at-width-2 : goal.returns-else-at-width-2
 returns-else-at-width-2 c = cut_high c.args.self.now c.args.op c.args.parts c.args.at c.requires.parts_stand c.requires.fits c.requires.within c.width-width.ensures.made c.in-Concat-Two.high c.in-Concat-Two.low c.width-width.result c.in-Concat-Two.is-0 c.in-Concat-Two.is-1 c.width-width.ensures.width c.if-at-width-2.false
-
-pub returns-then-at-width-3 : goal.returns-then-at-width-3
-returns-then-at-width-3 c = cut_signed c.args.self.now c.args.op c.args.parts c.args.at c.requires.parts_stand c.requires.fits c.requires.within c.requires.made c.in-Sext-One.field-0-0 c.in-Sext-One.term c.in-Sext-One.is-0 c.in-Sext-One.is-1 (omega (arith, c.width-in-Sext-One.ensures.width, c.if-at-width-3.true))
