@@ -1,8 +1,6 @@
 //! What no clause says: small operations and facts worked by hand.
 
-ghost use Rattle.std.specs.Prelude.{IfOk};
 ghost use Rattle.vg_term.specs.Operations.{FitsTwo};
-ghost use Rattle.vg_blast.specs.Blasting.{AreNames};
 
 use crate::assigning::assignment;
 use crate::blasting::{Blasted, blast};
@@ -21,7 +19,6 @@ use vg_term::{Op, TermId, Terms};
 enum Pair {
     And,
     Or,
-    Eq,
 }
 
 // Whether the circuit of an operation on known words is the known answer, without a gate.
@@ -132,15 +129,12 @@ fn two(terms: &mut Terms, op: Pair, a: TermId, b: TermId) -> Result<TermId, Fail
     let made = match op {
         Pair::And => terms.make(Op::And, &[a, b])?,
         Pair::Or => terms.make(Op::Or, &[a, b])?,
-        Pair::Eq => terms.make(Op::Eq, &[a, b])?,
     };
     Ok(made)
 }
 
 // What `blast` answers for one fact.
-fn blasted(alloc: Global, terms: &Terms, fact: TermId) -> Result<Blasted, Fail>
-    ensures { IfOk result (λ b. AreNames terms.now b.clauses.variables b.bits.items) }
-{
+fn blasted(alloc: Global, terms: &Terms, fact: TermId) -> Result<Blasted, Fail> {
     if fact.0 >= terms.len() || terms.width(fact) != 1 {
         return Err(Fail::from("no fact"));
     }
@@ -219,28 +213,5 @@ fn a_negated_conjunction_in_a_disjunction(rt: HostRuntime) -> Result<(), Fail> {
     let fact = two(&mut terms, Pair::Or, x, none)?;
     let blasted = blasted(rt.alloc(), &terms, fact)?;
     assert!(rt; ends_with(&blasted.clauses, &[2, -3, -4]));
-    Ok(())
-}
-
-// The bits of a word of 8 bits, of which those of 1 and 4 are true, are 5.
-#[test]
-fn a_word_from_its_bits(rt: HostRuntime) -> Result<(), Fail> {
-    let mut terms = Terms::new(rt.alloc())?;
-    let x = terms.var(8)?;
-    let y = terms.var(8)?;
-    let fact = two(&mut terms, Pair::Eq, x, y)?;
-    let blasted = blasted(rt.alloc(), &terms, fact)?;
-    assert_eq!(rt; blasted.bits.len(), 16);
-    let count = blasted.clauses.variables();
-    let mut values = Values::all_false(rt.alloc(), count)?;
-    for (id, at, literal) in &blasted.bits {
-        if *id == x && (*at == 0 || *at == 2) && literal.variable() <= count {
-            values.set(literal.variable(), true);
-        }
-    }
-    let assign = assignment(rt.alloc(), &terms, &blasted, &values)?;
-    assert_eq!(rt; assign.words.len(), 2);
-    assert_eq!(rt; assign.words[0].value, 5);
-    assert_eq!(rt; assign.words[1].value, 0);
     Ok(())
 }
