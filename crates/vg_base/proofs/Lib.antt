@@ -1,6 +1,2 @@
 pub mod Disks
 pub mod HandleLists
-pub mod PageRoles
-pub mod PageBytes
-pub mod PageCalls
-pub mod NamedLists

@@ -1,11 +1,5 @@
 pub mod Files
 pub mod Loading
 pub mod Sink
-pub mod Plan
-pub mod Calls
-pub mod Named
-pub mod Pages
-pub mod Memory
-pub mod MemorySink
 pub mod Handle
 pub mod Several

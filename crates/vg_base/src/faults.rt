@@ -6,11 +6,6 @@ use thiserror::Error;
 #[error("a file or a sink failed")]
 pub struct Failed;
 
-/// Memory ran out.
-#[derive(Clone, Copy, Debug, PartialEq, Eq, Error)]
-#[error("out of memory")]
-pub struct Memory;
-
 /// Why a file was not loaded.
 #[derive(Clone, Copy, Debug, PartialEq, Eq, Error)]
 pub enum LoadFault {

@@ -4,7 +4,7 @@ ghost use Rattle.vg_bench.specs.Statuses.{status_of};
 
 use std::alloc::AllocError;
 use thiserror::Error;
-use vg_base::Memory;
+use vg_parts::Memory;
 
 /// Why a run ends without counts. What is shown of it is the line that is printed.
 #[derive(Clone, Copy, Debug, PartialEq, Eq, Error)]

@@ -12,7 +12,8 @@ use crate::blasting::Blasted;
 use std::alloc::{AllocError, Global};
 use vg_bits::Word;
 use vg_cnf::{Lit, Values};
-use vg_term::{Assign, Memory, Node, TermId, Terms};
+use vg_parts::Memory;
+use vg_term::{Assign, Node, TermId, Terms};
 
 /// The words that truth values stand for: each named bit of a variable is 1 where its literal is true, and the others are 0. Where the values satisfy the
 /// clauses, every fact is true that `blast` was given.

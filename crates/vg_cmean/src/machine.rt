@@ -18,7 +18,8 @@ use std::alloc::Global;
 use std::marker::Model;
 use vg_cint::{INT, Value, reading};
 use vg_cmemory::{FrameMemory, Variable};
-use vg_core::{CType, Integer, Kind, Memory, Node, Reason, Target, Unit, erase, target_layout};
+use vg_core::{CType, Integer, Kind, Node, Reason, Target, Unit, erase, target_layout};
+use vg_parts::Memory;
 
 /// What comes of a frame.
 #[derive(Clone, Copy, Debug, PartialEq, Eq)]

@@ -6,7 +6,8 @@ ghost use Rattle.vg_cmean.specs.Nesting.{highest, heights_below};
 
 use crate::typings::{kind_at, referent_at};
 use std::alloc::Global;
-use vg_core::{Kind, Memory, Parts, Referent, Unit, erase};
+use vg_core::{Kind, Parts, Referent, Unit, erase};
+use vg_parts::Memory;
 
 /// So many nodes may stand in one another, calls of functions included: the machine's own stack grows with them.
 pub const MOST_NESTED: u32 = 1000;

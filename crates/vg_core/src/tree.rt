@@ -2,24 +2,9 @@
 ghost use Rattle.std.specs.Prelude.{◌≡◌, ◌+◌, ◌<◌, ◌^◌, ◌++◌, [], ◌∷◌, length, IfOk, OnOk, OnErr};
 ghost use Rattle.vg_core.specs.Syntax.{Syntax, with_node, with_parts, listed};
 
-use std::alloc::{AllocError, AllocFailed, Global};
+use std::alloc::Global;
 use std::marker::Model;
-
-/// Memory ran out, or a tree would get more nodes than numbers of 32 bits can name.
-#[derive(Clone, Copy, Debug, PartialEq, Eq)]
-pub struct Memory;
-
-impl From<AllocError> for Memory {
-    fn from(_e: AllocError) -> Memory {
-        Memory
-    }
-}
-
-impl<T: Drop> From<AllocFailed<T>> for Memory {
-    fn from(_e: AllocFailed<T>) -> Memory {
-        Memory
-    }
-}
+use vg_parts::Memory;
 
 /// A name, by the bytes of the text that spell it, from `from` up to but not with `to`.
 #[derive(Clone, Copy, Debug, PartialEq, Eq)]
@@ -298,6 +283,16 @@ impl Tree {
             node_list: Vec::new(alloc),
             item_list: Vec::new(alloc),
         }
+    }
+
+    /// The same tree, in memory of its own.
+    pub fn copy(&self, alloc: Global) -> Result<Tree, Memory>
+        ensures { IfOk result (λ copy. copy ≡ self.now) }
+    {
+        Ok(Tree {
+            node_list: Vec::from_slice(alloc, &self.node_list)?,
+            item_list: Vec::from_slice(alloc, &self.item_list)?,
+        })
     }
 
     /// The nodes, in the order of their numbers.

@@ -1,10 +1,12 @@
 //! A typed C text: its tree, and what typing says of each node.
-ghost use Rattle.std.specs.Prelude.{◌≡◌, ◌≤◌, slice_get};
+ghost use Rattle.std.specs.Prelude.{◌≡◌, ◌≤◌, IfOk, slice_get};
 ghost use Rattle.vg_core.specs.Layouts.{layout, offset, field_of_node};
 
 use crate::tree::{Kind, Tree};
 use crate::types::{CType, Layout, Target};
+use std::alloc::Global;
 use std::marker::Model;
+use vg_parts::Memory;
 
 /// What a name stands for.
 #[derive(Clone, Copy, Debug, PartialEq, Eq)]
@@ -58,6 +60,17 @@ impl Unit {
             syntax: tree,
             note_list: notes,
         }
+    }
+
+    /// The same typed text, in memory of its own.
+    pub fn copy(&self, alloc: Global) -> Result<Unit, Memory>
+        ensures { IfOk result (λ copy. copy ≡ self.now) }
+    {
+        Ok(Unit {
+            bytes: Vec::from_slice(alloc, &self.bytes)?,
+            syntax: self.syntax.copy(alloc)?,
+            note_list: Vec::from_slice(alloc, &self.note_list)?,
+        })
     }
 
     /// The bytes of the text.

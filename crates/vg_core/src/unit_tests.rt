@@ -1,6 +1,7 @@
 use super::*;
 use std::alloc::Global;
 use std::test::Fail;
+use vg_parts::Memory;
 
 const BLANK: Note = Note {
     of: None,

@@ -11,8 +11,9 @@ ghost use Rattle.vg_cread.specs.declared.reader.Stop.TheVariants as stops;
 use crate::kinds::{begins_base, is_sign, is_word, name_of};
 use std::alloc::{AllocError, AllocFailed, Global};
 use std::marker::Model;
-use vg_core::{Kind, Memory, Name, Parts, Tree};
+use vg_core::{Kind, Name, Parts, Tree};
 use vg_ctok::{Keyword, Sign, Token};
+use vg_parts::Memory;
 
 /// Tokens, how many constructs may still be nested in one another, and where memory comes from.
 #[derive(Clone, Copy)]

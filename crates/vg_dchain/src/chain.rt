@@ -8,7 +8,7 @@ use crate::spare::Spare;
 use std::alloc::Global;
 use std::marker::Model;
 use std::sync::ledger::Ledger;
-use vg_base::{Memory, Steps};
+use vg_parts::{Memory, Steps};
 
 /// Indices below a range, each free or handed out with the time of its last use. Times are in
 /// nanoseconds and never fall. Each call that counts `steps` makes at most twelve accesses to links.

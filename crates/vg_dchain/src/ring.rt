@@ -5,7 +5,7 @@ ghost use Rattle.vg_dchain.specs.Indices.{IsAbsent, without};
 use std::alloc::Global;
 use std::marker::Model;
 use std::sync::ledger::Ledger;
-use vg_base::{Memory, Slots, Steps};
+use vg_parts::{Memory, Slots, Steps};
 
 /// Indices below a bound in an order. The links go round: the slot at the bound, which is no index,
 /// comes before the first and after the last.

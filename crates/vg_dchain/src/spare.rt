@@ -6,7 +6,7 @@ ghost use Rattle.vg_dchain.specs.Indices.{IsAbsent};
 use std::alloc::Global;
 use std::marker::Model;
 use std::sync::ledger::Ledger;
-use vg_base::{Memory, Slots, Steps};
+use vg_parts::{Memory, Slots, Steps};
 
 /// Indices below a bound, of which the first is taken first. The slot at the bound, which is no
 /// index, comes before the first.

@@ -5,7 +5,7 @@ use std::alloc::{AllocError, Global};
 use std::marker::Brand;
 use std::sync::ledger::{Blank, Ledger};
 use std::test::Fail;
-use vg_base::{Memory, Steps};
+use vg_parts::{Memory, Steps};
 
 // What three allocations at 1, 2 and 3 hand out; then 0 is used at 4, and what is older than 4
 // expires, one by one; then what is handed out next.

@@ -6,7 +6,7 @@ ghost use Rattle.vg_lpm.specs.Building.{passed};
 use crate::inserting::insert;
 use crate::levels::Levels;
 use std::alloc::Global;
-use vg_base::Memory;
+use vg_parts::Memory;
 use vg_stree::Route;
 
 // How many values 16 bits have.

@@ -5,7 +5,7 @@ ghost use Rattle.vg_lpm.specs.Building.{taken};
 
 use crate::entry::leaf_with;
 use crate::levels::{BLOCK, Levels, fill, open};
-use vg_base::Memory;
+use vg_parts::Memory;
 use vg_stree::Route;
 
 // The place of an entry: the lowest 8 bits choose it within its block.

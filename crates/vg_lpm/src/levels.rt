@@ -4,7 +4,7 @@ ghost use Rattle.vg_lpm.specs.Table.{link, AreLinks};
 ghost use Rattle.vg_lpm.specs.Building.{Fills, Opens};
 
 use crate::entry::{Entry, entry_of, link_to};
-use vg_base::Memory;
+use vg_parts::Memory;
 
 /// How many entries a block has.
 pub const BLOCK: usize = 256;

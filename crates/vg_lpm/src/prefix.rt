@@ -8,7 +8,7 @@ use std::alloc::Global;
 use std::marker::Model;
 use std::snapshot::Snapshot;
 use std::sync::ledger::Ledger;
-use vg_base::{Memory, Slots, Steps};
+use vg_parts::{Memory, Slots, Steps};
 use vg_stree::Route;
 
 /// A prefix table. Contracts see it as the list of its routes.

@@ -5,7 +5,7 @@ use std::alloc::Global;
 use std::marker::Brand;
 use std::sync::ledger::{Blank, Ledger};
 use std::test::Fail;
-use vg_base::{Memory, Steps};
+use vg_parts::{Memory, Steps};
 use vg_stree::Route;
 
 // An address, a length and a value.

@@ -4,10 +4,10 @@ ghost use Rattle.std.specs.FinMap as map;
 ghost use Rattle.vg_map.specs.Map.{empty_map, with_key, without_key};
 
 use crate::hash::home;
-use crate::memory::Memory;
 use crate::slots::{close_gap, find, write_key};
 use std::alloc::Global;
 use std::marker::Model;
+use vg_parts::Memory;
 
 /// A map from keys of `key_len` bytes to indices, with room for `capacity` keys.
 ///

@@ -3,8 +3,6 @@
 
 mod fixed;
 mod hash;
-mod memory;
 mod slots;
 
 pub use fixed::HashMapFixed;
-pub use memory::Memory;

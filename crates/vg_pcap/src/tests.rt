@@ -1,10 +1,11 @@
 ghost use Rattle.std.specs.Prelude.{◌<◌, IfOk};
-ghost use Rattle.vg_base.specs.Memory.{disk_of};
+ghost use Rattle.vg_doubles.specs.Memory.{disk_of};
 
 use super::*;
 use std::alloc::{AllocError, Global};
 use std::test::Fail;
-use vg_base::{Failed, MemFiles};
+use vg_base::Failed;
+use vg_doubles::MemFiles;
 
 const MICROSECONDS: u32 = 0xa1b2_c3d4;
 

@@ -5,7 +5,7 @@ use Rattle.vg_base.proofs.Disks.{SameHeld-trans}
 use Rattle.vg_base.specs.declared.faults.Failed.{Failed}
 use Rattle.vg_base.specs.Files.{Disk}
 use Rattle.vg_base.specs.Several.{DiffersBy}
-use Rattle.vg_core.specs.declared.small.Small.{Small}
+use Rattle.vg_small.specs.declared.small.Small.{Small}
 use Rattle.vg_pcap.specs.declared.merge.MergeFault.{MergeFault}
 use Rattle.vg_pcap.proofs.Filling.{none_come}
 use Rattle.vg_pcap.proofs.Opening.{few_ids}

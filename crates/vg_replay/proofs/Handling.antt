@@ -4,7 +4,7 @@ use Rattle.std.proofs.lemmas.Option.{slice_get_within}
 use Rattle.std.proofs.Common.{◌≡◌, ◌≢◌, ◌<◌, ◌+◌, ◌^◌, ◌∙◌, ℕ, List, [], ◌∷◌, ◌++◌, length, All, IsTrue, false, Ok, Err, sym, ap, subst, length-append, arith}
 use Rattle.vg_base.specs.declared.faults.Failed.{Failed}
 use Rattle.vg_base.specs.Files.{Disk, WriteKeeps}
-use Rattle.vg_core.specs.Meaning.{steps_at}
+use Rattle.vg_small.specs.Meaning.{steps_at}
 use Rattle.vg_pcap.specs.declared.merge.MergeFault.{MergeFault}
 use Rattle.vg_pcap.proofs.Staying.{SameReading-writes, Comes-stays}
 use Rattle.vg_pcap.proofs.Merging.{IsChanged-same}

@@ -5,10 +5,10 @@ use Rattle.std.proofs.lemmas.List.Elements.{All-map}
 use Rattle.std.proofs.lemmas.List.Sums.{count_by-le-length, sum_by-append, sum_by-le}
 use Rattle.std.specs.List.{sum_by}
 use Rattle.std.proofs.Common.{◌≡◌, ◌<◌, ◌≤◌, ◌+◌, ◌^◌, ◌∙◌, ℕ, suc, List, [], ◌∷◌, ◌++◌, length, get_or, count_by, if◌then◌else◌, Bool, All, refl, sym, ap, append-nil, append_assoc, length-append, add-zero, zero-add, arith}
-use Rattle.vg_core.specs.declared.small.Small.{Small}
+use Rattle.vg_small.specs.declared.small.Small.{Small}
 use Rattle.vg_core.specs.declared.verdict.Verdict.{Verdict}
 use Rattle.vg_core.specs.declared.verdict.Verdict.TheVariants.{Drop, Send, Flood}
-use Rattle.vg_core.specs.Meaning.{steps_at}
+use Rattle.vg_small.specs.Meaning.{steps_at}
 use Rattle.vg_pcap.specs.Frames.{header}
 use Rattle.vg_pcap.specs.Arrivals.{Arrival}
 use Rattle.vg_replay.specs.declared.totals.Totals.{Totals}

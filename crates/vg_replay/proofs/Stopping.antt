@@ -6,7 +6,7 @@ use Rattle.std.proofs.Common.{◌≡◌, ◌≢◌, ◌≤◌, ◌+◌, ◌∙�
 use Rattle.vg_base.proofs.Disks.{SameHeld-trans}
 use Rattle.vg_base.specs.declared.faults.Failed.{Failed}
 use Rattle.vg_base.specs.Files.{Disk, Reads, Writes, Opened, IsOpen, writing, WriteKeeps}
-use Rattle.vg_core.specs.declared.small.Small.{Small}
+use Rattle.vg_small.specs.declared.small.Small.{Small}
 use Rattle.vg_pcap.specs.declared.faults.CaptureFault.{CaptureFault}
 use Rattle.vg_pcap.specs.declared.faults.CaptureFault.TheVariants as faults
 use Rattle.vg_pcap.specs.declared.merge.MergeFault.{MergeFault}

@@ -1,7 +1,7 @@
 -- What the calls on a replay do.
 use Rattle.std.specs.Prelude.{◌≡◌, List, [], ◌∷◌, ◌++◌, false, All, Result, Ok, Err}
 use Rattle.vg_base.specs.Files.{Disk}
-use Rattle.vg_core.specs.declared.small.Small.{Small}
+use Rattle.vg_small.specs.declared.small.Small.{Small}
 use Rattle.vg_pcap.specs.Arrivals.{Arrival}
 use Rattle.vg_pcap.specs.Merge.{IsNext}
 use Rattle.vg_replay.specs.declared.under_way.Next.{Next}

@@ -1,10 +1,10 @@
 -- What a replay writes: the capture of each port, and the log.
 use Rattle.std.specs.Prelude.{ℕ, ◌+◌, List, [], ◌∷◌, ◌++◌, codes, decimal, map, length, count_by, sum_by, ◌==◌, if◌then◌else◌, Bool, true, false}
 use Rattle.std.specs.List.{flat_map}
-use Rattle.vg_core.specs.declared.small.Small.{Small}
+use Rattle.vg_small.specs.declared.small.Small.{Small}
 use Rattle.vg_core.specs.declared.verdict.Verdict.{Verdict}
 use Rattle.vg_core.specs.declared.verdict.Verdict.TheVariants.{Drop, Send, Flood}
-use Rattle.vg_core.specs.Meaning.{verdict_at, steps_at}
+use Rattle.vg_small.specs.Meaning.{verdict_at, steps_at}
 use Rattle.vg_pcap.specs.Frames.{Framed, header, record_of}
 use Rattle.vg_pcap.specs.Arrivals.{Arrival}
 use Rattle.vg_replay.specs.declared.totals.Totals.{Totals}

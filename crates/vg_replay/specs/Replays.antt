@@ -1,8 +1,8 @@
 -- What a replay does: which frames it handles, what it leaves in the files, and why it stops.
 use Rattle.std.specs.Prelude.{ℕ, ◌+◌, ◌-◌, ◌<◌, ◌≤◌, ◌^◌, ◌≡◌, ◌≢◌, ◌⊎◌, List, [], ◌∷◌, ◌++◌, length, IsTrue, Some, Result, IfOk, IfErr, All, AllPairs, slice_get}
 use Rattle.vg_base.specs.Files.{Disk, Rose, SameHeld, SameIds}
-use Rattle.vg_core.specs.declared.small.Small.{Small}
-use Rattle.vg_core.specs.Meaning.{steps_at}
+use Rattle.vg_small.specs.declared.small.Small.{Small}
+use Rattle.vg_small.specs.Meaning.{steps_at}
 use Rattle.vg_pcap.specs.declared.faults.CaptureFault.{CaptureFault}
 use Rattle.vg_pcap.specs.declared.faults.CaptureFault.TheVariants as faults
 use Rattle.vg_pcap.specs.declared.faults.HeaderField.{HeaderField}

@@ -2,7 +2,7 @@
 use Rattle.std.specs.Prelude.{ℕ, ◌≤◌, ◌≡◌, ◌≢◌, List, [], ◌∷◌, ◌++◌, length, IsTrue, Some, AllPairs, slice_get}
 use Rattle.vg_base.specs.Files.{Disk, Writes, writing, SameHeld}
 use Rattle.vg_base.specs.Several.{DiffersBy, AreOpen}
-use Rattle.vg_core.specs.declared.small.Small.{Small}
+use Rattle.vg_small.specs.declared.small.Small.{Small}
 use Rattle.vg_pcap.specs.Frames.{Stream}
 use Rattle.vg_pcap.specs.Arrivals.{Arrival}
 use Rattle.vg_pcap.specs.Incoming.{AllComeIn}

@@ -1,6 +1,6 @@
 //! Replaying captures through a function.
 ghost use Rattle.std.specs.Prelude.{◌≤◌, ◌+◌, length, map, string_bytes};
-ghost use Rattle.vg_core.specs.Meaning.{SendsBelow};
+ghost use Rattle.vg_small.specs.Meaning.{SendsBelow};
 ghost use Rattle.vg_replay.specs.Replays.{AreReplayFiles, TakesFewSteps, Replays, ReplayFiles};
 
 use crate::stop::RunStop;
@@ -8,7 +8,7 @@ use crate::totals::Totals;
 use crate::under_way::Replay;
 use std::alloc::Global;
 use vg_base::{Files, MAX_OPEN};
-use vg_core::Small;
+use vg_small::Small;
 
 /// Replays the captures `ins` through a function, and writes the captures `outs` and the log.
 pub fn replay<F: Files>(

@@ -1,14 +1,15 @@
 ghost use Rattle.std.specs.Prelude.{◌≡◌, ◌<◌, IfOk, [], ◌∷◌, codes, length, map, string_bytes};
-ghost use Rattle.vg_base.specs.Memory.{disk_of};
-ghost use Rattle.vg_core.specs.Meaning.{SendsBelow};
+ghost use Rattle.vg_doubles.specs.Memory.{disk_of};
+ghost use Rattle.vg_small.specs.Meaning.{SendsBelow};
 ghost use Rattle.vg_replay.specs.Replays.{TakesFewSteps};
 
 use super::*;
 use std::alloc::{AllocError, Global};
 use std::test::Fail;
-use vg_base::{Files, MemFiles};
-use vg_core::{Lang, Small, read_small};
+use vg_base::Files;
+use vg_doubles::MemFiles;
 use vg_pcap::{CaptureFault, HeaderField};
+use vg_small::{Lang, Small, read_small};
 
 // What port 0 gets goes to port 2, and the rest to port 0.
 const TO_TWO: &str =

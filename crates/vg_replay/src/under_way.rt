@@ -2,7 +2,7 @@
 ghost use Rattle.std.specs.Prelude.{◌≡◌, ◌<◌, ◌≤◌, ◌+◌, ◌≢◌, ◌^◌, List, length, map, string_bytes, IfOk};
 ghost use Rattle.vg_base.specs.Files.{Disk, Writes};
 ghost use Rattle.vg_base.specs.Several.{AreOpen};
-ghost use Rattle.vg_core.specs.Meaning.{SendsBelow};
+ghost use Rattle.vg_small.specs.Meaning.{SendsBelow};
 ghost use Rattle.vg_pcap.specs.Frames.{Framed, Fits};
 ghost use Rattle.vg_pcap.specs.Arrivals.{Arrival};
 ghost use Rattle.vg_pcap.specs.Merge.{IsNext, AreReadable, StartsMerge};
@@ -20,8 +20,8 @@ use crate::totals::Totals;
 use std::alloc::Global;
 use std::marker::Model;
 use vg_base::{Failed, Files, MAX_OPEN};
-use vg_core::Small;
 use vg_pcap::Merge;
+use vg_small::Small;
 
 /// A replay that is under way: captures that come in, a function, the captures that go out, and the log.
 #[derive(Drop)]

@@ -4,7 +4,6 @@
 mod answer;
 mod halving;
 mod learning;
-mod memory;
 mod order;
 mod restarts;
 mod solver;
@@ -14,5 +13,4 @@ mod tracing;
 mod walking;
 
 pub use answer::Answer;
-pub use memory::Memory;
 pub use solver::solve;

@@ -8,10 +8,10 @@ ghost use Rattle.vg_sat.specs.Answers.{IsAnswer, IsDecided};
 
 use crate::answer::Answer;
 use crate::learning::{Step, next_step};
-use crate::memory::Memory;
 use crate::order::Order;
 use std::alloc::{AllocError, Global};
 use vg_cnf::{Clauses, Refutation};
+use vg_parts::Memory;
 use vg_units::Propagator;
 
 /// Searches for a model of the clauses, or for a refutation, in which each step is a clause that was learned. After `limit` clauses it gives up: these are

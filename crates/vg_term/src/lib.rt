@@ -19,6 +19,6 @@ mod wiring;
 
 pub use applying::apply;
 pub use node::{Node, Op, Parts, TermId};
-pub use stops::{Memory, TermStop};
+pub use stops::TermStop;
 pub use terms::{MOST_TERMS, Terms};
 pub use valuing::{Assign, value};

@@ -6,11 +6,6 @@ ghost use Rattle.vg_term.specs.declared.stops.TermStop.TheVariants as stops;
 use std::alloc::AllocError;
 use thiserror::Error;
 
-/// Memory ran out.
-#[derive(Clone, Copy, Debug, PartialEq, Eq, Error)]
-#[error("out of memory")]
-pub struct Memory;
-
 /// Why a term was not made. The terms are then as they were.
 #[derive(Clone, Copy, Debug, PartialEq, Eq, Error)]
 pub enum TermStop {

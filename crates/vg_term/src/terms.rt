@@ -7,10 +7,11 @@ ghost use Rattle.vg_term.specs.Folding.{IsMark};
 ghost use Rattle.vg_term.specs.declared.node.Node.TheVariants as nodes;
 
 use crate::node::{Node, Op, Parts, TermId};
-use crate::stops::{Memory, TermStop};
+use crate::stops::TermStop;
 use indexmap::IndexMap;
 use std::alloc::Global;
 use std::marker::Model;
+use vg_parts::Memory;
 
 /// How many terms may stand.
 pub const MOST_TERMS: u32 = 4_194_304;

@@ -3,7 +3,7 @@ use Rattle.std.proofs.Common.{◌≡◌, ◌⊎◌, inl, inr, ℕ, List, refl, a
 use Rattle.vg_base.specs.Files.{Disk}
 use Rattle.vg_base.specs.Sink.{Flow}
 use Rattle.vg_command.specs.Commands.{Files}
-use Rattle.vg_core.specs.declared.small.Lang.{Lang}
+use Rattle.vg_small.specs.declared.small.Lang.{Lang}
 use Rattle.vg_pcap.specs.declared.faults.HeaderField.{HeaderField}
 use Rattle.vg_top.specs.declared.stop.Damage.{Damage}
 use Rattle.vg_top.specs.declared.stop.Stop.{Stop}

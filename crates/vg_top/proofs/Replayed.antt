@@ -3,7 +3,7 @@ use Rattle.std.proofs.Common.{◌≡◌, inl, inr, ◌∙◌, ℕ, List, IsTrue,
 use Rattle.vg_base.proofs.Disks.{SameHeld-trans, SameIds-trans}
 use Rattle.vg_base.specs.Files.{Disk, SameHeld, SameIds}
 use Rattle.vg_command.specs.Commands.{Files}
-use Rattle.vg_core.specs.declared.small.Small.{Small}
+use Rattle.vg_small.specs.declared.small.Small.{Small}
 use Rattle.vg_pcap.specs.declared.faults.CaptureFault.{CaptureFault}
 use Rattle.vg_pcap.specs.declared.faults.CaptureFault.TheVariants as faults
 use Rattle.vg_pcap.specs.declared.faults.HeaderField.{HeaderField}

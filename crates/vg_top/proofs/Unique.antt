@@ -5,11 +5,11 @@ use Rattle.std.proofs.Math.Nat.{eq-or-lt_of_le}
 use Rattle.vg_base.specs.Files.{Disk}
 use Rattle.vg_command.proofs.Decoding as commands
 use Rattle.vg_command.specs.Commands.{Files, Run}
-use Rattle.vg_core.specs.declared.small.Small.{Small}
-use Rattle.vg_core.specs.declared.small.Lang.TheVariants.{C, Spec}
-use Rattle.vg_core.specs.Meaning.{SendsBelow}
-use Rattle.vg_core.specs.Spelling.{Spells, SpellsNone}
-use Rattle.vg_core.proofs.SpellingLaws.{Spells-unique}
+use Rattle.vg_small.specs.declared.small.Small.{Small}
+use Rattle.vg_small.specs.declared.small.Lang.TheVariants.{C, Spec}
+use Rattle.vg_small.specs.Meaning.{SendsBelow}
+use Rattle.vg_small.specs.Spelling.{Spells, SpellsNone}
+use Rattle.vg_small.proofs.SpellingLaws.{Spells-unique}
 use Rattle.vg_pcap.specs.declared.faults.HeaderField.{HeaderField}
 use Rattle.vg_pcap.specs.Arrivals.{Arrival}
 use Rattle.vg_pcap.specs.Incoming.{IsFirstBadHeader}

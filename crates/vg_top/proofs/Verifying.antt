@@ -3,10 +3,10 @@ use Rattle.std.proofs.Common.{◌≡◌, inl, inr, ℕ, List, length, Result, Ok
 use Rattle.std.specs.Result.{IsErrAnd}
 use Rattle.vg_base.specs.Files.{Disk}
 use Rattle.vg_command.specs.Commands.{Files}
-use Rattle.vg_core.specs.declared.small.Small.{Small}
-use Rattle.vg_core.specs.declared.small.Lang.TheVariants.{C, Spec}
-use Rattle.vg_core.specs.Spelling.{Spells}
-use Rattle.vg_core.proofs.SpellingLaws.{Spells-steps}
+use Rattle.vg_small.specs.declared.small.Small.{Small}
+use Rattle.vg_small.specs.declared.small.Lang.TheVariants.{C, Spec}
+use Rattle.vg_small.specs.Spelling.{Spells}
+use Rattle.vg_small.proofs.SpellingLaws.{Spells-steps}
 use Rattle.vg_replay.specs.Replays.{TakesFewSteps}
 use Rattle.vg_top.specs.declared.setup.Functions.{Functions}
 use Rattle.vg_top.specs.declared.setup.Texts.{Texts}

@@ -1,7 +1,7 @@
 -- What a C text and its specification have to agree on.
 use Rattle.std.specs.Prelude.{ℕ, ◌≡◌, ◌≢◌, ◌<◌, ◌≤◌, List, length, Bool, All, AllPairs, Contains}
-use Rattle.vg_core.specs.declared.small.Small.{Small}
-use Rattle.vg_core.specs.Meaning.{steps_at, sides_at}
+use Rattle.vg_small.specs.declared.small.Small.{Small}
+use Rattle.vg_small.specs.Meaning.{steps_at, sides_at}
 use Rattle.vg_replay.specs.Outputs.{verdict_by}
 
 -- two functions do the same with a frame of this port

@@ -3,7 +3,7 @@ use Rattle.std.specs.Prelude.{ℕ, ◌≡◌, ◌≤◌, ◌⊎◌, List, ◌++�
 use Rattle.vg_base.specs.Files.{Disk, Rose}
 use Rattle.vg_base.specs.Sink.{Flow}
 use Rattle.vg_command.specs.Commands.{Files}
-use Rattle.vg_core.specs.declared.small.Small.{Small}
+use Rattle.vg_small.specs.declared.small.Small.{Small}
 use Rattle.vg_pcap.specs.Arrivals.{Arrival}
 use Rattle.vg_replay.specs.Outputs.{handled_by, capture_to, log_of, totals_of}
 use Rattle.vg_replay.specs.Replays.{KeepsOthers, WroteAll, AreAll, AreUpTo, AreTooMany, HavePorts, Began, NoFault}

@@ -2,11 +2,11 @@
 use Rattle.std.specs.Prelude.{ℕ, ◌≡◌, ◌≢◌, ◌<◌, ◌≤◌, ◌⊎◌, List, length, IsTrue, Some}
 use Rattle.vg_base.specs.Files.{Disk}
 use Rattle.vg_command.specs.Commands.{Files, SpellsNone}
-use Rattle.vg_core.specs.declared.small.Small.{Small}
-use Rattle.vg_core.specs.declared.small.Lang.TheVariants.{C, Spec}
-use Rattle.vg_core.specs.Meaning.{SendsBelow}
-use Rattle.vg_core.specs.Spelling as small
-use Rattle.vg_core.specs.Spelling.{Spells}
+use Rattle.vg_small.specs.declared.small.Small.{Small}
+use Rattle.vg_small.specs.declared.small.Lang.TheVariants.{C, Spec}
+use Rattle.vg_small.specs.Meaning.{SendsBelow}
+use Rattle.vg_small.specs.Spelling as small
+use Rattle.vg_small.specs.Spelling.{Spells}
 use Rattle.vg_pcap.specs.Arrivals.{Arrival}
 use Rattle.vg_pcap.specs.Incoming.{IsFirstBadHeader}
 use Rattle.vg_replay.specs.Replays.{AreAll, AreUpTo, AreTooMany}

@@ -1,7 +1,7 @@
 -- What a run prints when its status is known.
 use Rattle.std.specs.Prelude.{ℕ, List, ◌++◌, codes, decimal}
-use Rattle.vg_core.specs.declared.small.Lang.{Lang}
-use Rattle.vg_core.specs.declared.small.Lang.TheVariants.{C, Spec}
+use Rattle.vg_small.specs.declared.small.Lang.{Lang}
+use Rattle.vg_small.specs.declared.small.Lang.TheVariants.{C, Spec}
 use Rattle.vg_pcap.specs.declared.faults.HeaderField.{HeaderField}
 use Rattle.vg_pcap.specs.declared.faults.HeaderField.TheVariants as fields
 use Rattle.vg_replay.specs.declared.totals.Totals.{Totals}

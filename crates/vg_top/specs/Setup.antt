@@ -3,11 +3,11 @@ use Rattle.std.specs.Prelude.{ℕ, ◌≡◌, ◌≢◌, ◌⊎◌, List, Result
 use Rattle.std.specs.declared.alloc.Global.{Global}
 use Rattle.vg_base.specs.Files.{Disk, Rose, ReadKeeps, SameIds}
 use Rattle.vg_command.specs.Commands.{Files}
-use Rattle.vg_core.specs.declared.small.Small.{Small}
-use Rattle.vg_core.specs.declared.small.Lang.{Lang}
-use Rattle.vg_core.specs.declared.small.Lang.TheVariants.{C, Spec}
-use Rattle.vg_core.specs.Meaning.{SendsBelow}
-use Rattle.vg_core.specs.Spelling.{Spells, SpellsNone}
+use Rattle.vg_small.specs.declared.small.Small.{Small}
+use Rattle.vg_small.specs.declared.small.Lang.{Lang}
+use Rattle.vg_small.specs.declared.small.Lang.TheVariants.{C, Spec}
+use Rattle.vg_small.specs.Meaning.{SendsBelow}
+use Rattle.vg_small.specs.Spelling.{Spells, SpellsNone}
 use Rattle.vg_replay.specs.Replays.{TakesFewSteps}
 use Rattle.vg_top.specs.declared.setup.Texts.{Texts}
 use Rattle.vg_top.specs.declared.setup.Functions.{Functions}

@@ -1,6 +1,6 @@
 -- Whether the frames of a port go a way of their own. No public clause rests on this file.
 use Rattle.std.specs.Prelude.{ℕ, ◌≡◌, ◌≢◌, ◌<◌}
-use Rattle.vg_core.specs.declared.small.Small.{Small}
+use Rattle.vg_small.specs.declared.small.Small.{Small}
 use Rattle.vg_top.specs.Agreement.{sides}
 
 -- the frames of a port go another way through the tests of both texts than those of each lower port

@@ -3,7 +3,7 @@ ghost use Rattle.std.specs.Prelude.{◌≡◌, ◌<◌, IsTrue, false, IfSome, I
 ghost use Rattle.vg_top.specs.Agreement.{Agree, IsFirstDifference, IsPathCount, IsMostSteps};
 ghost use Rattle.vg_top.specs.Ways.{GoesNewWay, GoesOldWay};
 
-use vg_core::Small;
+use vg_small::Small;
 
 /// The least port at which they give different verdicts.
 pub fn first_difference(c: &Small, spec: &Small) -> Option<u16>

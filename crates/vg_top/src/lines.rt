@@ -6,9 +6,9 @@ use crate::report::Report;
 use crate::stop::{Damage, Stop, Unbuilt};
 use arrayvec::ArrayString;
 use itoa::Buffer;
-use vg_core::Lang;
 use vg_pcap::HeaderField;
 use vg_replay::Totals;
+use vg_small::Lang;
 
 // What is printed where the C function meets its specification.
 #[tactic(auto, unfolding(crate::specs::Lines::verified_line))]

@@ -1,7 +1,7 @@
 //! Reading what a run needs, and verifying it.
 ghost use Rattle.std.specs.Prelude.{◌<◌, ◌^◌, length, IfOk, IfErr};
 ghost use Rattle.vg_command.specs.View.{files_of};
-ghost use Rattle.vg_core.specs.Spelling.{Spells};
+ghost use Rattle.vg_small.specs.Spelling.{Spells};
 ghost use Rattle.vg_top.specs.Setup.{LoadsText, LoadsTexts, StopsReading, Verifies, ReadsFunctions};
 
 use crate::agreement::first_difference;
@@ -10,7 +10,7 @@ use crate::stop::{Stop, Unbuilt};
 use std::alloc::Global;
 use vg_base::{Files, LoadFault, MAX_OPEN, load};
 use vg_command::FileNames;
-use vg_core::{Lang, Small, SmallFault, read_small};
+use vg_small::{Lang, Small, SmallFault, read_small};
 
 /// The C text and the specification.
 #[derive(Drop)]

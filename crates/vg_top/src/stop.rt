@@ -3,9 +3,9 @@ ghost use Rattle.std.specs.Prelude.{◌≡◌};
 ghost use Rattle.vg_replay.specs.declared.stop.RunStop.{RunStop};
 ghost use Rattle.vg_top.specs.Stops.{stop_of};
 
-use vg_core::Lang;
 use vg_pcap::{CaptureFault, HeaderField};
 use vg_replay::RunStop;
+use vg_small::Lang;
 
 /// What isn't built yet.
 #[derive(Clone, Copy, Debug, PartialEq, Eq)]

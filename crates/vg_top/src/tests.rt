@@ -1,10 +1,10 @@
 ghost use Rattle.std.specs.Prelude.{◌≡◌, IfOk};
-ghost use Rattle.vg_base.specs.Memory.{disk_of};
+ghost use Rattle.vg_doubles.specs.Memory.{disk_of};
 
 use super::*;
 use std::alloc::{AllocError, Global};
 use std::test::Fail;
-use vg_base::{MemFiles, MemSink};
+use vg_doubles::{MemFiles, MemSink};
 
 const SWAP_C: &str =
     "int nf_process(uint16_t port, uint64_t now) { if (port == 0) return 1; return 0; }";

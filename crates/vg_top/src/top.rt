@@ -3,7 +3,7 @@ ghost use Rattle.std.specs.Prelude.{◌≡◌, ◌≤◌, ◌+◌, ◌*◌, ◌�
 ghost use Rattle.vg_base.specs.Files.{SameHeld, SameIds};
 ghost use Rattle.vg_command.specs.Commands.{words_in, AreFiles};
 ghost use Rattle.vg_command.specs.View.{files_of};
-ghost use Rattle.vg_core.specs.declared.small.Lang.{Lang};
+ghost use Rattle.vg_small.specs.declared.small.Lang.{Lang};
 ghost use Rattle.vg_pcap.specs.declared.faults.HeaderField.{HeaderField};
 ghost use Rattle.vg_top.specs.declared.stop.Damage.{Damage};
 ghost use Rattle.vg_top.specs.declared.stop.Stop.{Stop};

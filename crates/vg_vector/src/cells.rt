@@ -3,9 +3,9 @@ ghost use Rattle.std.specs.Prelude.{◌≡◌, ◌<◌, ◌+◌, ◌*◌, ℕ, t
 ghost use Rattle.std.specs.Borrow.{sem};
 ghost use Rattle.vg_vector.specs.Cells.{with_loan};
 
-use crate::faults::Memory;
 use std::alloc::Global;
 use std::marker::Model;
+use vg_parts::Memory;
 
 /// A list of cells, each of the same number of bytes, in one block of memory. A cell may be lent,
 /// to one borrower at a time; that is noted here, and stops nobody from reading or writing it.

@@ -2,9 +2,7 @@
 #![tactic(auto)]
 
 mod cells;
-mod faults;
 #[cfg(test)]
 mod tests;
 
 pub use cells::{CellLoan, Cells};
-pub use faults::Memory;

@@ -5,8 +5,8 @@ ghost use Rattle.vg_bench.specs.Sizes.{IsSized};
 use super::CAPACITY;
 use crate::keys::{flow_of, key_of, next_state};
 use std::alloc::Global;
-use vg_base::Memory;
 use vg_map::HashMapFixed;
+use vg_parts::Memory;
 
 // A map with the key of every flow, as many as it has room for.
 fn full_map(alloc: Global) -> Result<HashMapFixed, Memory>

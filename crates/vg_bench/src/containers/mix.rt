@@ -8,9 +8,9 @@ use crate::keys::{Key, flow_of, key_of, next_state};
 use std::alloc::Global;
 use std::marker::Brand;
 use std::sync::ledger::{Blank, Ledger};
-use vg_base::{Memory, Steps};
 use vg_dchain::Chain;
 use vg_map::HashMapFixed;
+use vg_parts::{Memory, Steps};
 
 // How many nanoseconds lie between two packets.
 const BETWEEN: u64 = 1_000;

@@ -2,7 +2,7 @@
 ghost use Rattle.std.specs.Prelude.{◌≡◌, length};
 
 use super::HashMapFixed;
-use crate::memory::Memory;
+use vg_parts::Memory;
 
 /// The key of 13 bytes for a number: its low byte comes last.
 fn key_of(number: u8) -> [u8; 13] {

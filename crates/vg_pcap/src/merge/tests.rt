@@ -7,7 +7,7 @@ use super::*;
 use crate::faults::HeaderField;
 use std::alloc::AllocError;
 use std::test::Fail;
-use vg_base::MemFiles;
+use vg_doubles::MemFiles;
 
 // A header: the magic of nanoseconds in little-endian order, version 2.4, zone and accuracy 0, snap length 262,144, and link type 1.
 const HEADER: [u8; 24] = [

@@ -1,4 +1,4 @@
-use Rattle.vg_base.specs.Memory.{disk_of}
+use Rattle.vg_doubles.specs.Memory.{disk_of}
 use Rattle.vg_pcap.specs.Reader.{IsReadable}
 use Rattle.vg_pcap.proofs.tests.times_do_not_fall.Given as goal
 

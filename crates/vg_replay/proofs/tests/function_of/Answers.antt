@@ -1,6 +1,6 @@
 use Rattle.std.proofs.Common.{ap, arith, length}
-use Rattle.vg_core.proofs.SpellingLaws.{Spells-steps}
-use Rattle.vg_core.specs.declared.small.Lang.TheVariants.{C}
+use Rattle.vg_small.proofs.SpellingLaws.{Spells-steps}
+use Rattle.vg_small.specs.declared.small.Lang.TheVariants.{C}
 use Rattle.vg_replay.proofs.tests.function_of.Goals as goal
 
 pub returns-then-sends_below-clause-steps : goal.returns-then-sends_below-clause-steps

@@ -1,9 +1,0 @@
-use Rattle.std.proofs.Common.{◌≡◌, drop}
-use Rattle.vg_base.specs.Pages.{free_pages}
-use Rattle.vg_base.proofs.pages.free_page.Given as goal
-
-abbrev pub invariant-loop-page : goal.invariant-loop-page
-invariant-loop-page l = record {
-  index : l.i ≡ l.page-index;
-  none : free_pages (drop l.page-index l.pages) ≡ free_pages l.pages;
-}

@@ -1,8 +1,0 @@
-use Rattle.std.proofs.Common.{◌∙◌, sym, ap}
-use Rattle.vg_base.specs.Named.{Named}
-use Rattle.vg_base.proofs.NamedLists.{bytes_at-get}
-use Rattle.vg_base.proofs.reading.bytes_of.Goals as goal
-
-pub returns : goal.returns
-returns c =
-    c.as_slice.ensures.value ∙ ap (λ (file : Named). file.1.items) (sym c.index-held-i.is) ∙ sym (bytes_at-get c.args.held.now c.args.i c.index-held-i.result c.requires c.index-held-i.is)

@@ -1,5 +1,0 @@
-use Rattle.vg_core.proofs.SpellingLaws.{Spells-value}
-use Rattle.vg_core.proofs.reading.sends_to_ports.Goals as goal
-
-pub returns : goal.returns
-returns c = Spells-value

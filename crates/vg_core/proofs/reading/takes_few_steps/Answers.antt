@@ -1,5 +1,0 @@
-use Rattle.vg_core.proofs.SpellingLaws.{Spells-steps}
-use Rattle.vg_core.proofs.reading.takes_few_steps.Goals as goal
-
-pub returns : goal.returns
-returns c = Spells-steps

@@ -1,0 +1,4 @@
+pub mod PageRoles
+pub mod PageBytes
+pub mod PageCalls
+pub mod NamedLists
