@@ -7,7 +7,8 @@ use Rattle.vg_base.specs.Files.{Disk}
 use Rattle.vg_base.proofs.Disks.{SameHeld-refl}
 use Rattle.vg_pcap.specs.declared.faults.CaptureFault.{CaptureFault}
 use Rattle.vg_pcap.specs.declared.faults.CaptureFault.TheVariants as faults
-use Rattle.vg_pcap.specs.Captures.{Damage, Refused}
+use Rattle.vg_pcap.specs.declared.faults.Damage.{Damage}
+use Rattle.vg_pcap.specs.Captures.{Refused}
 use Rattle.vg_pcap.specs.Frames.{Stream}
 use Rattle.vg_pcap.specs.Arrivals.{stream_at, Precedes, ComeFirst, ComeUpTo}
 use Rattle.vg_pcap.specs.Incoming.{fault_of}

@@ -8,7 +8,8 @@ use Rattle.std.proofs.lemmas.Option.{same_Some, slice_get_within}
 use Rattle.vg_base.specs.Files.{Disk}
 use Rattle.vg_pcap.specs.declared.faults.CaptureFault.{CaptureFault}
 use Rattle.vg_pcap.specs.declared.faults.CaptureFault.TheVariants as faults
-use Rattle.vg_pcap.specs.Captures.{Damage, Whole, Refused}
+use Rattle.vg_pcap.specs.declared.faults.Damage.{Damage}
+use Rattle.vg_pcap.specs.Captures.{Whole, Refused}
 use Rattle.vg_pcap.specs.Frames.{Framed, Stream, Fits}
 use Rattle.vg_pcap.specs.Arrivals.{Arrival, no_frames, stream_at, frames_from, Precedes, ComeFirst, AllCome, ComeUpTo}
 use Rattle.vg_pcap.specs.Incoming.{fault_of}

@@ -16,7 +16,7 @@ use Rattle.vg_pcap.specs.declared.faults.CaptureFault.TheVariants as faults
 use Rattle.vg_pcap.specs.declared.faults.HeaderField.{HeaderField}
 use Rattle.vg_pcap.specs.Frames.{Stream, HoldsStream}
 use Rattle.vg_pcap.specs.Arrivals.{no_frames, stream_at}
-use Rattle.vg_pcap.specs.Incoming.{ComesIn, HasBadHeader, AllComeIn}
+use Rattle.vg_pcap.specs.Incoming.{header_fault, ComesIn, HasBadHeader, AllComeIn}
 use Rattle.vg_pcap.specs.Reader.{Reader, StillComes, IsReadable, Starts}
 use Rattle.vg_pcap.specs.Merge.{Input, AreReadable, ids_of, AreToCome, StartsMerge, ClosesInputs}
 use Rattle.vg_pcap.specs.Inputs.{AreApart, AreInputs, IsSound, OpensPort}
@@ -288,7 +288,7 @@ opening-refused {s} {t} {u} {v} {names} {inputs} {fault} {result} name more port
           (λ (read : fault ≡ faults.Read). inl read)
           (λ other. ⊎_elim
           (λ (memory : fault ≡ faults.Memory). inr (inl memory))
-          (λ (bad : (field : HeaderField) × (fault ≡ faults.Header field) × (IsTrue t.tells_held → HasBadHeader t name field)).
+          (λ (bad : (field : HeaderField) × (fault ≡ header_fault field) × (IsTrue t.tells_held → HasBadHeader t name field)).
           inr (inr (
             bad.0,
             bad.1,

@@ -3,7 +3,8 @@ use Rattle.std.proofs.Common.{◌≡◌, ◌≢◌, ℕ, suc, ◌≤◌, ◌⊎�
 use Rattle.std.proofs.lemmas.Bool.{cases_eq}
 use Rattle.std.proofs.lemmas.List.{map-append, append_cancel_left}
 use Rattle.std.proofs.lemmas.List.Elements.{All-head, All-tail, filter-append}
-use Rattle.vg_pcap.specs.Captures.{Damage, Refused}
+use Rattle.vg_pcap.specs.declared.faults.Damage.{Damage}
+use Rattle.vg_pcap.specs.Captures.{Refused}
 use Rattle.vg_pcap.specs.Frames.{Framed, Stream}
 use Rattle.vg_pcap.specs.Arrivals.{Arrival, stream_at, frames_from, Precedes, ComeFirst, EndsAt, IsAtDamage, AllCome, ComeUpTo}
 

@@ -6,7 +6,9 @@ use Rattle.std.proofs.lemmas.List.Elements.{All-nil, All-cons}
 use Rattle.std.proofs.lemmas.Bool.{cases_lt}
 use Rattle.std.proofs.lemmas.Bool.Decides.{nat_tests}
 use Rattle.vg_base.specs.Files.{AreBytes}
-use Rattle.vg_pcap.specs.Captures.{Encoding, Microseconds, Nanoseconds, Record, RecordHead, HasHead, head_of, IsGood, record_bytes, head_bytes, Damage, Cut, Long, Fraction, IsDamaged, CaptureEnd, Whole, Refused, EndsWith, AreRecords, units_per_second, longest}
+use Rattle.vg_pcap.specs.declared.faults.Damage.{Damage}
+use Rattle.vg_pcap.specs.declared.faults.Damage.TheVariants.{Cut, Long, Fraction}
+use Rattle.vg_pcap.specs.Captures.{Encoding, Microseconds, Nanoseconds, Record, RecordHead, HasHead, head_of, IsGood, record_bytes, head_bytes, IsDamaged, CaptureEnd, Whole, Refused, EndsWith, AreRecords, units_per_second, longest}
 use Rattle.vg_pcap.specs.Reading.{HasRecord}
 use Rattle.vg_pcap.proofs.NumberBytes.{AreBytes-drop}
 use Rattle.vg_pcap.proofs.Pieces.{same_front, no_items}

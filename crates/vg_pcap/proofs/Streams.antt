@@ -5,7 +5,8 @@ use Rattle.vg_base.specs.Files.{Disk}
 use Rattle.vg_base.proofs.Disks.{told_before}
 use Rattle.vg_pcap.specs.declared.faults.CaptureFault.{CaptureFault}
 use Rattle.vg_pcap.specs.declared.records.RecordHead as coded_head
-use Rattle.vg_pcap.specs.Captures.{Encoding, Microseconds, Nanoseconds, units_per_second, nanoseconds_per_unit, longest, Record, Damage, IsDamaged}
+use Rattle.vg_pcap.specs.declared.faults.Damage.{Damage}
+use Rattle.vg_pcap.specs.Captures.{Encoding, Microseconds, Nanoseconds, units_per_second, nanoseconds_per_unit, longest, Record, IsDamaged}
 use Rattle.vg_pcap.specs.Frames.{Framed, Stream, frames_after, frame_of, time_of}
 use Rattle.vg_pcap.specs.Incoming.{fault_of}
 use Rattle.vg_pcap.specs.Reader.{Reader, ReadsRecord, IsBefore, StillComes, IsNextOf, number_after}

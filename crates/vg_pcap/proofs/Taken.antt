@@ -2,7 +2,9 @@
 use Rattle.std.proofs.Common.{◌≡◌, ◌≢◌, ◌≤◌, ◌<◌, inl, inr, ℕ, List, ◌++◌, length, take, drop, take_all, sym, ap, ◌∙◌, append_assoc, Ok, Err, IsErrOf, arith}
 use Rattle.std.proofs.lemmas.List.{take_at, take-append-drop, length-take-le}
 use Rattle.vg_base.specs.Files.{Disk}
-use Rattle.vg_pcap.specs.Captures.{Encoding, RecordHead, HasHead, head_bytes, Damage, Cut, Long, Fraction, IsDamaged, units_per_second, longest}
+use Rattle.vg_pcap.specs.declared.faults.Damage.{Damage}
+use Rattle.vg_pcap.specs.declared.faults.Damage.TheVariants.{Cut, Long, Fraction}
+use Rattle.vg_pcap.specs.Captures.{Encoding, RecordHead, HasHead, head_bytes, IsDamaged, units_per_second, longest}
 use Rattle.vg_pcap.specs.declared.faults.CaptureFault.{CaptureFault}
 use Rattle.vg_pcap.specs.declared.faults.CaptureFault.TheVariants as faults
 use Rattle.vg_pcap.specs.Incoming.{fault_of}
@@ -67,9 +69,7 @@ pub cause_else : {A : Type 0} (s t : Disk) (fault : CaptureFault) → fault ≢ 
 cause_else s t fault other same = record { fault = λ is. absurd (other (cc)); same = tt; same_else = λ ne. same; rises = omega arith }
 
 pub damage_unread : (damage : Damage) (number : ℕ) → fault_of damage number ≢ faults.Read
-damage_unread Cut number e = cc (e)
-damage_unread Long number e = cc (e)
-damage_unread Fraction number e = cc (e)
+damage_unread damage number e = cc (e)
 
 -- the cause of a fault is the same, whatever else might have been answered
 pub cause_same : {A B : Type 0} {s t : Disk} (fault : CaptureFault) → HasReadCause {A = A} s t (Err fault) → HasReadCause {A = B} s t (Err fault)

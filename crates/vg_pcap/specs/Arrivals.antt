@@ -1,6 +1,7 @@
 -- The one order of the frames that come in at several ports: by time, then by port, then by their place in the port's capture.
 use Rattle.std.specs.Prelude.{ℕ, ◌≡◌, ◌<◌, ◌≤◌, ◌⊎◌, ◌==◌, ◌++◌, List, [], ◌∷◌, length, get_or, map, filter, All, AllPairs, Contains}
-use Rattle.vg_pcap.specs.Captures.{Damage, Whole, Refused}
+use Rattle.vg_pcap.specs.declared.faults.Damage.{Damage}
+use Rattle.vg_pcap.specs.Captures.{Whole, Refused}
 use Rattle.vg_pcap.specs.Frames.{Framed, Stream}
 
 -- a frame, and the port at which it came in

@@ -2,6 +2,8 @@
 use Rattle.std.specs.Prelude.{ℕ, ◌≡◌, ◌≢◌, ◌<◌, ◌≤◌, ◌^◌, ◌++◌, ◌⊎◌, List, [], length, take, drop, All}
 use Rattle.std.specs.List.{flat_map}
 use Rattle.byteorder.specs.Endian.{little_bytes, big_bytes}
+use Rattle.vg_pcap.specs.declared.faults.Damage.{Damage}
+use Rattle.vg_pcap.specs.declared.faults.Damage.TheVariants.{Cut, Long, Fraction}
 use Rattle.vg_pcap.specs.declared.faults.HeaderField.{HeaderField}
 use Rattle.vg_pcap.specs.declared.faults.HeaderField.TheVariants.{Length, Magic, Version, Link}
 
@@ -126,15 +128,6 @@ pub record HasHead (encoding : Encoding) (bytes : List ℕ) (h : RecordHead) (be
   pub whole : bytes ≡ head_bytes encoding h ++ behind
 
 -- ---- damage
-
--- why a record is refused
-pub data Damage : Type 0 where
-  -- the file ends inside it
-  Cut : Damage
-  -- more than the longest was captured
-  Long : Damage
-  -- its fraction is a second or more
-  Fraction : Damage
 
 -- A record begins with these bytes, of which there are some, and is refused. The fraction is looked at first, then how much was captured, and
 -- then whether that is there.

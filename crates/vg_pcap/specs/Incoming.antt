@@ -3,8 +3,10 @@ use Rattle.std.specs.Prelude.{ℕ, ◌<◌, ◌≡◌, ◌≢◌, ◌⊎◌, Lis
 use Rattle.vg_base.specs.Files.{Disk}
 use Rattle.vg_pcap.specs.declared.faults.CaptureFault.{CaptureFault}
 use Rattle.vg_pcap.specs.declared.faults.CaptureFault.TheVariants as faults
+use Rattle.vg_pcap.specs.declared.faults.CaptureRefusal.TheVariants.{Header, Record}
+use Rattle.vg_pcap.specs.declared.faults.Damage.{Damage}
 use Rattle.vg_pcap.specs.declared.faults.HeaderField.{HeaderField}
-use Rattle.vg_pcap.specs.Captures.{IsBadHeader, Damage, Cut, Long, Fraction}
+use Rattle.vg_pcap.specs.Captures.{IsBadHeader}
 use Rattle.vg_pcap.specs.Frames.{Stream, HoldsStream}
 use Rattle.vg_pcap.specs.Arrivals.{no_frames, stream_at}
 
@@ -29,8 +31,10 @@ pub record IsFirstBadHeader (s : Disk) (names : List (List ℕ)) (port : ℕ) (f
   pub bad : HasBadHeader s name field
   pub first : (before : ℕ) (other : List ℕ) → before < port → slice_get names before ≡ Some other → (stream : Stream) × ComesIn s other stream
 
--- the fault of a damaged record of this number
+-- the fault where a header is refused
+abbrev pub header_fault : HeaderField → CaptureFault
+header_fault field = faults.Refused (Header field)
+
+-- the fault where the record of this number is refused
 abbrev pub fault_of : Damage → ℕ → CaptureFault
-fault_of Cut number = faults.Cut number
-fault_of Long number = faults.Long number
-fault_of Fraction number = faults.Fraction number
+fault_of why number = faults.Refused (Record number why)

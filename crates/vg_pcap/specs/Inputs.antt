@@ -3,7 +3,8 @@ use Rattle.std.specs.Prelude.{ℕ, ◌+◌, ◌<◌, ◌≤◌, ◌≡◌, ◌�
 use Rattle.vg_base.specs.Files.{Disk, ReadKeeps}
 use Rattle.vg_pcap.specs.declared.faults.CaptureFault.{CaptureFault}
 use Rattle.vg_pcap.specs.declared.faults.CaptureFault.TheVariants as faults
-use Rattle.vg_pcap.specs.Captures.{Damage, Refused}
+use Rattle.vg_pcap.specs.declared.faults.Damage.{Damage}
+use Rattle.vg_pcap.specs.Captures.{Refused}
 use Rattle.vg_pcap.specs.Frames.{Stream, Fits}
 use Rattle.vg_pcap.specs.Arrivals.{Precedes}
 use Rattle.vg_pcap.specs.Incoming.{fault_of}

@@ -7,10 +7,11 @@ use Rattle.vg_pcap.specs.declared.faults.CaptureFault.{CaptureFault}
 use Rattle.vg_pcap.specs.declared.faults.CaptureFault.TheVariants as faults
 use Rattle.vg_pcap.specs.declared.faults.HeaderField.{HeaderField}
 use Rattle.vg_pcap.specs.declared.merge.MergeFault.{MergeFault}
-use Rattle.vg_pcap.specs.Captures.{Damage, Whole}
+use Rattle.vg_pcap.specs.declared.faults.Damage.{Damage}
+use Rattle.vg_pcap.specs.Captures.{Whole}
 use Rattle.vg_pcap.specs.Frames.{Framed, Stream}
 use Rattle.vg_pcap.specs.Arrivals.{Arrival, stream_at, frames_from, Precedes, ComeFirst, ComeUpTo}
-use Rattle.vg_pcap.specs.Incoming.{AllComeIn, IsFirstBadHeader, fault_of}
+use Rattle.vg_pcap.specs.Incoming.{AllComeIn, IsFirstBadHeader, header_fault, fault_of}
 use Rattle.vg_pcap.specs.Reader.{Reader, StillComes, IsReadable, number_after}
 
 -- what is seen of a port's input: its reader, and whether the reader's frame waits to be handled
@@ -78,7 +79,7 @@ pub record HasMergeCause {A : Type 0} (s t : Disk) (result : Result A MergeFault
 abbrev pub RefusesStart : Disk → List (List ℕ) → MergeFault → Type 0
 RefusesStart s names e =
     (e.fault ≡ faults.Read) ⊎ ((e.fault ≡ faults.Memory)
-    ⊎ ((field : HeaderField) × (e.fault ≡ faults.Header field) × (IsTrue s.tells_held → IsFirstBadHeader s names e.port field)))
+    ⊎ ((field : HeaderField) × (e.fault ≡ header_fault field) × (IsTrue s.tells_held → IsFirstBadHeader s names e.port field)))
 
 -- the captures of these names were opened and their headers read, or one is refused
 pub record StartsMerge (s t : Disk) (names : List (List ℕ)) (result : Result (List Input) MergeFault) : Type 0 where

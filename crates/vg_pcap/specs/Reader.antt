@@ -5,9 +5,10 @@ use Rattle.vg_base.specs.declared.faults.Failed.{Failed}
 use Rattle.vg_pcap.specs.declared.faults.CaptureFault.{CaptureFault}
 use Rattle.vg_pcap.specs.declared.faults.CaptureFault.TheVariants as faults
 use Rattle.vg_pcap.specs.declared.faults.HeaderField.{HeaderField}
-use Rattle.vg_pcap.specs.Captures.{Encoding, Record, AreRecords, Damage, Whole, Refused}
+use Rattle.vg_pcap.specs.declared.faults.Damage.{Damage}
+use Rattle.vg_pcap.specs.Captures.{Encoding, Record, AreRecords, Whole, Refused}
 use Rattle.vg_pcap.specs.Frames.{Framed, Stream, frames_after, Fits}
-use Rattle.vg_pcap.specs.Incoming.{ComesIn, HasBadHeader, fault_of}
+use Rattle.vg_pcap.specs.Incoming.{ComesIn, HasBadHeader, header_fault, fault_of}
 
 -- what is seen of a reader: its open id, where it reads a file; the bytes that it has read ahead of what it has given; how the file's numbers
 -- are written; the latest time of a record so far, and how many records there were; and the last frame
@@ -77,7 +78,7 @@ pub record Starts (s t : Disk) (name : List ℕ) (result : Result Reader Capture
   -- a refusal leaves nothing open
   pub closed : OnErr result (SameIds s t)
   pub refused : IfErr result (λ e. (e ≡ faults.Read) ⊎ ((e ≡ faults.Memory)
-      ⊎ ((field : HeaderField) × (e ≡ faults.Header field) × (IsTrue s.tells_held → HasBadHeader s name field))))
+      ⊎ ((field : HeaderField) × (e ≡ header_fault field) × (IsTrue s.tells_held → HasBadHeader s name field))))
 
 -- the next frame of a stream is there, or the stream has ended, or its next record is refused
 abbrev pub IsNextOf : Disk → Reader → Reader → Stream → Result Bool CaptureFault → Type 0

@@ -6,15 +6,15 @@ use Rattle.vg_pcap.specs.declared.encoding.Order.TheVariants as orders
 use Rattle.vg_pcap.specs.declared.encoding.Resolution as coded_resolution
 use Rattle.vg_pcap.specs.declared.encoding.Resolution.TheVariants as resolutions
 use Rattle.vg_pcap.specs.declared.encoding.Encoding as coded_encoding
-use Rattle.vg_pcap.specs.declared.records.Damage as coded_damage
-use Rattle.vg_pcap.specs.declared.records.Damage.TheVariants as damages
 use Rattle.vg_pcap.specs.declared.records.RecordHead as coded_head
 use Rattle.vg_base.specs.Files.{Disk}
 use Rattle.vg_pcap.specs.declared.faults.CaptureFault.{CaptureFault}
 use Rattle.vg_pcap.specs.declared.faults.CaptureFault.TheVariants as faults
 use Rattle.vg_pcap.specs.declared.faults.HeaderField.{HeaderField}
-use Rattle.vg_pcap.specs.Captures.{Order, Little, Big, Resolution, Microseconds, Nanoseconds, Encoding, HasHeader, IsBadHeader, RecordHead, HasHead, Record, IsGood, record_bytes, Damage, Cut, Long, Fraction, IsDamaged, units_per_second, nanoseconds_per_unit, longest}
-use Rattle.vg_pcap.specs.Incoming.{fault_of}
+use Rattle.vg_pcap.specs.declared.faults.Damage.{Damage}
+use Rattle.vg_pcap.specs.declared.faults.Damage.TheVariants.{Cut, Long, Fraction}
+use Rattle.vg_pcap.specs.Captures.{Order, Little, Big, Resolution, Microseconds, Nanoseconds, Encoding, HasHeader, IsBadHeader, RecordHead, HasHead, Record, IsGood, record_bytes, IsDamaged, units_per_second, nanoseconds_per_unit, longest}
+use Rattle.vg_pcap.specs.Incoming.{header_fault, fault_of}
 use Rattle.vg_pcap.specs.Reader.{IsBefore, HasReadCause}
 use Rattle.vg_pcap.specs.Buffered.{Source, Stays}
 
@@ -30,11 +30,6 @@ resolution_view resolutions.Nanoseconds = Nanoseconds
 
 abbrev pub encoding_view : coded_encoding.Encoding → Encoding
 encoding_view e = record { order = order_view e.order; resolution = resolution_view e.resolution }
-
-abbrev pub damage_view : coded_damage.Damage → Damage
-damage_view damages.Cut = Cut
-damage_view damages.Long = Long
-damage_view damages.Fraction = Fraction
 
 abbrev pub head_view : coded_head.RecordHead → RecordHead
 head_view h = record { seconds = h.seconds; fraction = h.fraction; size = h.size; original = h.original }
@@ -73,7 +68,7 @@ pub record TakesHeader (s t : Disk) (old new : Source) (result : Result coded_en
   pub stays : Stays s t old new
   pub good : IfOk result (λ e. IsTrue s.tells_held → (file : List ℕ) → IsBefore s old.id old.ahead file →
       (behind : List ℕ) × HasHeader (encoding_view e) file behind × IsBefore t new.id new.ahead behind)
-  pub refused : IfErr result (λ fault. (fault ≡ faults.Read) ⊎ ((field : HeaderField) × (fault ≡ faults.Header field)
+  pub refused : IfErr result (λ fault. (fault ≡ faults.Read) ⊎ ((field : HeaderField) × (fault ≡ header_fault field)
       × (IsTrue s.tells_held → (file : List ℕ) → IsBefore s old.id old.ahead file → IsBadHeader file field)))
 
 -- the bytes are at their end, or they begin with a record of this head, whose captured bytes stand in the frame

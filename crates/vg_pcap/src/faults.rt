@@ -14,21 +14,32 @@ pub enum HeaderField {
     Link,
 }
 
-/// Why a capture couldn't be read on. A record is told by its number in its file, counted from 1; a number that would pass `u64::MAX` stays there.
+/// Why a record is refused; of several reasons `Fraction` comes first, then `Long`.
+#[derive(Clone, Copy, Debug, PartialEq, Eq)]
+pub enum Damage {
+    /// The file ends inside the record.
+    Cut,
+    /// The record says that more than `MAX_CAPTURED` bytes of it were captured.
+    Long,
+    /// The fraction of the record's time is a second or more.
+    Fraction,
+}
+
+/// What of a capture is refused.
+#[derive(Clone, Copy, Debug, PartialEq, Eq)]
+pub enum CaptureRefusal {
+    /// Its header.
+    Header(HeaderField),
+    /// The record of this number, counted from 1; a number that would pass `u64::MAX` stays there.
+    Record { number: u64, why: Damage },
+}
+
+/// Why a capture couldn't be opened or read on.
 #[derive(Clone, Copy, Debug, PartialEq, Eq, Error)]
 pub enum CaptureFault {
-    /// The header is refused.
-    #[error("the header is refused")]
-    Header(HeaderField),
-    /// The file ends inside this record.
-    #[error("record {0} is cut")]
-    Cut(u64),
-    /// This record says that more than `MAX_CAPTURED` bytes of it were captured.
-    #[error("record {0} is too long")]
-    Long(u64),
-    /// The fraction of this record's time is a second or more.
-    #[error("record {0} has a fraction of a second or more")]
-    Fraction(u64),
+    /// Its bytes are refused.
+    #[error("the capture is refused")]
+    Refused(CaptureRefusal),
     /// The file couldn't be opened or read.
     #[error("a file could not be read")]
     Read,

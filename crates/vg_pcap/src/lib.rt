@@ -18,7 +18,7 @@ mod tests;
 mod writer;
 
 pub use captures::{stream_or_bad, written_is_read};
-pub use faults::{CaptureFault, HeaderField};
+pub use faults::{CaptureFault, CaptureRefusal, Damage, HeaderField};
 pub use format::MAX_CAPTURED;
 pub use merge::{Merge, MergeFault};
 pub use reader::CaptureReader;

@@ -6,7 +6,7 @@ ghost use Rattle.vg_pcap.specs.Reading.{encoding_view, TakesHeader, TakesRecord}
 
 use crate::buffered::Buffered;
 use crate::encoding::Encoding;
-use crate::faults::{CaptureFault, HeaderField};
+use crate::faults::{CaptureFault, CaptureRefusal, Damage, HeaderField};
 use crate::format::{HEADER_SIZE, RECORD_HEAD_SIZE};
 use crate::headers::read_header;
 use crate::records::{RecordHead, read_head};
@@ -25,11 +25,11 @@ pub(crate) fn take_header<F: Files>(
         return Err(CaptureFault::Read);
     };
     if got < HEADER_SIZE {
-        return Err(CaptureFault::Header(HeaderField::Length));
+        return Err(CaptureFault::Refused(CaptureRefusal::Header(HeaderField::Length)));
     }
     match read_header(&header) {
         Ok(encoding) => Ok(encoding),
-        Err(field) => Err(CaptureFault::Header(field)),
+        Err(field) => Err(CaptureFault::Refused(CaptureRefusal::Header(field))),
     }
 }
 
@@ -53,18 +53,24 @@ pub(crate) fn take_record<F: Files>(
         return Ok(None);
     }
     if got < RECORD_HEAD_SIZE {
-        return Err(CaptureFault::Cut(number));
+        return Err(CaptureFault::Refused(CaptureRefusal::Record {
+            number,
+            why: Damage::Cut,
+        }));
     }
     let head = match read_head(encoding, &bytes) {
         Ok(head) => head,
-        Err(damage) => return Err(damage.fault(number)),
+        Err(why) => return Err(CaptureFault::Refused(CaptureRefusal::Record { number, why })),
     };
     let size = head.size as usize;
     let Ok(got) = source.read_into(files, &mut frame[..size]) else {
         return Err(CaptureFault::Read);
     };
     if got < size {
-        return Err(CaptureFault::Cut(number));
+        return Err(CaptureFault::Refused(CaptureRefusal::Record {
+            number,
+            why: Damage::Cut,
+        }));
     }
     Ok(Some(head))
 }

@@ -1,33 +1,11 @@
 //! The numbers that stand before each captured packet.
 ghost use Rattle.std.specs.Prelude.{◌≡◌, ◌≤◌, [], length, List, ℕ, ◌++◌, IfOk, IfErr};
 ghost use Rattle.vg_pcap.specs.Captures.{HasHead, IsDamaged, units_per_second};
-ghost use Rattle.vg_pcap.specs.Reading.{encoding_view, head_view, damage_view, HasGoodHead, nanoseconds_of};
-ghost use Rattle.vg_pcap.specs.Incoming.{fault_of};
+ghost use Rattle.vg_pcap.specs.Reading.{encoding_view, head_view, HasGoodHead, nanoseconds_of};
 
 use crate::encoding::Encoding;
-use crate::faults::CaptureFault;
+use crate::faults::Damage;
 use crate::format::{MAX_CAPTURED, NANOSECONDS_PER_SECOND};
-
-// Why a record is refused.
-#[derive(Clone, Copy)]
-pub(crate) enum Damage {
-    Cut,
-    Long,
-    Fraction,
-}
-
-impl Damage {
-    // The fault of a record of this number.
-    pub(crate) fn fault(self, number: u64) -> CaptureFault
-        ensures { result ≡ fault_of (damage_view self) number }
-    {
-        match self {
-            Damage::Cut => CaptureFault::Cut(number),
-            Damage::Long => CaptureFault::Long(number),
-            Damage::Fraction => CaptureFault::Fraction(number),
-        }
-    }
-}
 
 #[derive(Clone, Copy)]
 pub(crate) struct RecordHead {
@@ -65,7 +43,7 @@ impl RecordHead {
 pub(crate) fn read_head(encoding: Encoding, bytes: &[u8]) -> Result<RecordHead, Damage>
     requires { length bytes.now ≡ 16 }
     ensures good { IfOk result (λ head. HasGoodHead (encoding_view encoding) bytes.now (head_view head)) }
-    ensures refused { IfErr result (λ damage. (behind : List ℕ) → IsDamaged (encoding_view encoding) (bytes.now ++ behind) (damage_view damage)) }
+    ensures refused { IfErr result (λ damage. (behind : List ℕ) → IsDamaged (encoding_view encoding) (bytes.now ++ behind) damage) }
 {
     let head = RecordHead::read(encoding, bytes);
     if head.fraction >= encoding.units_per_second() {

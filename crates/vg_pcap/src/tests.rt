@@ -60,6 +60,16 @@ fn file(alloc: Global, bytes: &[u8], fails: &[u64]) -> Result<MemFiles, Fail>
     Ok(MemFiles::new(alloc, held, 2, 100_000, Vec::from_slice(alloc, fails)?)?)
 }
 
+// The refusal of a record of this number.
+fn damaged(number: u64, why: Damage) -> CaptureFault {
+    CaptureFault::Refused(CaptureRefusal::Record { number, why })
+}
+
+// The refusal of a header.
+fn bad_header(field: HeaderField) -> CaptureFault {
+    CaptureFault::Refused(CaptureRefusal::Header(field))
+}
+
 // How the reader of a file starts.
 fn started(alloc: Global, bytes: &[u8]) -> Result<Option<CaptureFault>, Fail> {
     let mut files = file(alloc, bytes, &[])?;
@@ -109,11 +119,11 @@ fn refuses_headers(rt: HostRuntime) -> Result<(), Fail> {
             *byte = 0x55;
         }
         let refused = started(alloc, bytes.as_slice())?;
-        assert_eq!(rt; refused, Some(CaptureFault::Header(field)), "at {place}");
+        assert_eq!(rt; refused, Some(bad_header(field)), "at {place}");
     }
     bytes.truncate(23);
     let refused = started(alloc, bytes.as_slice())?;
-    assert_eq!(rt; refused, Some(CaptureFault::Header(HeaderField::Length)));
+    assert_eq!(rt; refused, Some(bad_header(HeaderField::Length)));
     Ok(())
 }
 
@@ -149,28 +159,28 @@ fn tells_records(rt: HostRuntime) -> Result<(), Fail> {
             MICROSECONDS,
             [1, 1_000_000, 3, 60],
             1,
-            Err(CaptureFault::Cut(2)),
+            Err(damaged(2, Damage::Cut)),
         ),
         (
             "half a head",
             MICROSECONDS,
             [1, 1_000_000, 3, 60],
             15,
-            Err(CaptureFault::Cut(2)),
+            Err(damaged(2, Damage::Cut)),
         ),
         (
             "a head alone",
             MICROSECONDS,
             [1, 2, 3, 60],
             16,
-            Err(CaptureFault::Cut(2)),
+            Err(damaged(2, Damage::Cut)),
         ),
         (
             "one byte is missing",
             MICROSECONDS,
             [1, 2, 3, 60],
             18,
-            Err(CaptureFault::Cut(2)),
+            Err(damaged(2, Damage::Cut)),
         ),
         ("whole", MICROSECONDS, [1, 2, 3, 60], 19, Ok(true)),
         (
@@ -185,7 +195,7 @@ fn tells_records(rt: HostRuntime) -> Result<(), Fail> {
             MICROSECONDS,
             [1, 1_000_000, 262_145, 0],
             16,
-            Err(CaptureFault::Fraction(2)),
+            Err(damaged(2, Damage::Fraction)),
         ),
         (
             "the last nanosecond",
@@ -199,7 +209,7 @@ fn tells_records(rt: HostRuntime) -> Result<(), Fail> {
             NANOSECONDS,
             [1, 1_000_000_000, 0, 0],
             16,
-            Err(CaptureFault::Fraction(2)),
+            Err(damaged(2, Damage::Fraction)),
         ),
         (
             "the longest",
@@ -213,7 +223,7 @@ fn tells_records(rt: HostRuntime) -> Result<(), Fail> {
             MICROSECONDS,
             [1, 2, 262_145, 0],
             16,
-            Err(CaptureFault::Long(2)),
+            Err(damaged(2, Damage::Long)),
         ),
     ];
     for (name, magic, numbers, size, want) in table {

@@ -9,11 +9,13 @@ use Rattle.vg_base.specs.Files.{Disk, Reads, Writes, Opened, IsOpen, writing, Wr
 use Rattle.vg_small.specs.declared.small.Small.{Small}
 use Rattle.vg_pcap.specs.declared.faults.CaptureFault.{CaptureFault}
 use Rattle.vg_pcap.specs.declared.faults.CaptureFault.TheVariants as faults
+use Rattle.vg_pcap.specs.declared.faults.CaptureRefusal.TheVariants.{Header, Record}
 use Rattle.vg_pcap.specs.declared.merge.MergeFault.{MergeFault}
 use Rattle.vg_pcap.proofs.Staying.{SameReading, AreReadable-stays, ids_open}
 use Rattle.vg_pcap.proofs.Arriving.{EndsAt-push, frames_from-push_other}
 use Rattle.vg_pcap.proofs.Merging.{no_damage, no_damage_past, input_at}
-use Rattle.vg_pcap.specs.Captures.{Damage, Cut, Long, Fraction}
+use Rattle.vg_pcap.specs.declared.faults.Damage.{Damage}
+use Rattle.vg_pcap.specs.declared.faults.Damage.TheVariants.{Cut, Long, Fraction}
 use Rattle.vg_pcap.specs.Frames.{Framed, Stream}
 use Rattle.vg_pcap.specs.Arrivals.{Arrival, stream_at, frames_from, ComeFirst, EndsAt, IsAtDamage}
 use Rattle.vg_pcap.specs.Incoming.{fault_of, AllComeIn}
@@ -132,36 +134,32 @@ read_goes {s} {t} {u} {n} {totals = totals} x reads counts come = record {
   few = x.few;
 }
 
--- the fault of a record is no fault at reading
-record_read : (damage : Damage) (number : ℕ) → fault_of damage number ≡ faults.Read → ⊥
-record_read Cut number e = absurd cc
-record_read Long number e = absurd cc
-record_read Fraction number e = absurd cc
-
 -- no more frames of a port than of all
 few_from : (port : ℕ) (frames : List Arrival) → length (frames_from port frames) ≤ length frames
 few_from port frames = omega (arith, length-map (filter (λ (x : Arrival). eqb x.port port) frames) (λ (x : Arrival). x.frame), length-filter (λ (x : Arrival). eqb x.port port) frames, count_by-le-length (λ (x : Arrival). eqb x.port port) frames)
 
-up_to_of : {s : Disk} {ins : List (List ℕ)} {frames : List Arrival} {port : ℕ} {fault : CaptureFault} (damage : Damage) (number : ℕ) → fault ≡ fault_of damage number → length frames ≤ most_frames →
-    ((streams : List Stream) × AllComeIn s ins streams × RefusesRecord streams frames (record { port = port; fault = fault })) → AreUpTo s ins frames port fault
-up_to_of {s} {ins} {frames} {port} {fault} damage number is few (streams, all, inl read) = absurd (record_read damage number (sym is ∙ read))
-up_to_of {s} {ins} {frames} {port} {fault} damage number is few (streams, all, inr refused) =
+up_to_of : {s : Disk} {ins : List (List ℕ)} {frames : List Arrival} {port number : ℕ} {why : Damage} → length frames ≤ most_frames →
+    ((streams : List Stream) × AllComeIn s ins streams × RefusesRecord streams frames (record { port = port; fault = fault_of why number })) → AreUpTo s ins frames port number why
+up_to_of few (streams, all, inl read) = absurd cc
+up_to_of {frames = frames} {port} {number} {why} few (streams, all, inr refused) =
     let up_to = refused.2 in
     let come = up_to.first.in_turn port ∙ ap (λ l. frames_from port frames ++ l) up_to.at_damage.none_left ∙ append-nil (frames_from port frames) in
     let number_is : number_after (length (stream_at streams port).frames) ≡ length (stream_at streams port).frames + 1 = omega (arith, few, few_from port frames, ap length come) in
-    (streams, refused.0, all, up_to, refused.1 ∙ ap (fault_of refused.0) number_is, few)
+    let same_why : why ≡ refused.0 = let is = refused.1 in cc in
+    let same_number : number ≡ number_after (length (stream_at streams port).frames) = let is = refused.1 in cc in
+    (streams, all, rw (← same_why) at up_to, same_number ∙ number_is, few)
 
 -- a record is refused
-pub record_stops : {s t u : Disk} {n : ReplayFiles} {r : Replaying} {frames : List Arrival} {new : List Input} {port : ℕ} {fault : CaptureFault} (damage : Damage) (number : ℕ) → fault ≡ fault_of damage number → IsRead s t n r frames
-    → ReadsInputs t u r.inputs new (Err (record { port = port; fault = fault }))
-    → (IsTrue s.tells_held → (streams : List Stream) × AllComeIn s n.ins streams × RefusesRecord streams frames (record { port = port; fault = fault }))
-    → StopsAtRecord s u n r.function port fault
-record_stops {frames = frames} damage number is x reads refused = record {
+record_stops : {s t u : Disk} {n : ReplayFiles} {r : Replaying} {frames : List Arrival} {new : List Input} {port : ℕ} (number : ℕ) (why : Damage) → IsRead s t n r frames
+    → ReadsInputs t u r.inputs new (Err (record { port = port; fault = fault_of why number }))
+    → (IsTrue s.tells_held → (streams : List Stream) × AllComeIn s n.ins streams × RefusesRecord streams frames (record { port = port; fault = fault_of why number }))
+    → StopsAtRecord s u n r.function port number why
+record_stops {frames = frames} number why x reads refused = record {
   frames = frames;
   ports = x.ports;
-  up_to = λ told. up_to_of damage number is x.few (refused told);
+  up_to = λ told. up_to_of x.few (refused told);
   wrote = λ told. wrote_same reads.keeps.made (x.wrote told);
-  read_faults = reads.cause.same_else (λ read. record_read damage number (sym is ∙ read)) ∙ x.no_fault.read_faults;
+  read_faults = reads.cause.same_else (λ read. cc) ∙ x.no_fault.read_faults;
 }
 
 stops_by : {s t u : Disk} {n : ReplayFiles} {r : Replaying} {frames : List Arrival} {new : List Input} {port : ℕ} (fault : CaptureFault) → IsReadOrSomeRecord fault → IsRead s t n r frames
@@ -171,16 +169,10 @@ stops_by : {s t u : Disk} {n : ReplayFiles} {r : Replaying} {frames : List Arriv
 stops_by {frames = frames} faults.Read kind x reads refused =
     (rw x.no_fault.read_faults at (reads.cause.fault refl), record { frames = frames; ports = x.ports; first = x.first; wrote = λ told. whole_parts (wrote_same reads.keeps.made (x.wrote told)) })
 stops_by faults.Memory (inl read) x reads refused = absurd cc
-stops_by faults.Memory (inr (Cut, number, is)) x reads refused = absurd cc
-stops_by faults.Memory (inr (Long, number, is)) x reads refused = absurd cc
-stops_by faults.Memory (inr (Fraction, number, is)) x reads refused = absurd cc
-stops_by (faults.Header field) (inl read) x reads refused = absurd cc
-stops_by (faults.Header field) (inr (Cut, number, is)) x reads refused = absurd cc
-stops_by (faults.Header field) (inr (Long, number, is)) x reads refused = absurd cc
-stops_by (faults.Header field) (inr (Fraction, number, is)) x reads refused = absurd cc
-stops_by (faults.Cut number) kind x reads refused = record_stops Cut number refl x reads refused
-stops_by (faults.Long number) kind x reads refused = record_stops Long number refl x reads refused
-stops_by (faults.Fraction number) kind x reads refused = record_stops Fraction number refl x reads refused
+stops_by faults.Memory (inr (why, number, is)) x reads refused = absurd cc
+stops_by (faults.Refused (Header field)) (inl read) x reads refused = absurd cc
+stops_by (faults.Refused (Header field)) (inr (why, number, is)) x reads refused = absurd cc
+stops_by (faults.Refused (Record number why)) kind x reads refused = record_stops number why x reads refused
 
 pub read_stops : {s t u : Disk} {n : ReplayFiles} {r : Replaying} {frames : List Arrival} {new : List Input} {e : MergeFault} (totals : Totals) → IsRead s t n r frames → ReadsInputs t u r.inputs new (Err e) → IsReadOrSomeRecord e.fault
     → (IsTrue s.tells_held → (streams : List Stream) × AllComeIn s n.ins streams × RefusesRecord streams frames e) → HasStopped s u n (with_inputs r new totals) r.function (stop_of e)
@@ -267,17 +259,13 @@ closes_all {t} {u} {v} r (Err e) p x y = record {
 began_same : {s t u : Disk} {n : ReplayFiles} {f : Small} → u.made ≡ t.made → Began s t n f → Began s u n f
 began_same same b = record { frames = b.frames; ports = b.ports; first = b.first; wrote = λ told. parts_same same (b.wrote told) }
 
-record_same : {s t u : Disk} {n : ReplayFiles} {f : Small} {port : ℕ} {fault : CaptureFault} → u.made ≡ t.made → u.read_faults ≡ t.read_faults → StopsAtRecord s t n f port fault → StopsAtRecord s u n f port fault
+record_same : {s t u : Disk} {n : ReplayFiles} {f : Small} {port number : ℕ} {why : Damage} → u.made ≡ t.made → u.read_faults ≡ t.read_faults → StopsAtRecord s t n f port number why → StopsAtRecord s u n f port number why
 record_same made read x = record { frames = x.frames; ports = x.ports; up_to = x.up_to; wrote = λ told. wrote_same made (x.wrote told); read_faults = read ∙ x.read_faults }
 
 -- a stop stays one where what was opened is closed
 stops_closed : (s t u : Disk) (n : ReplayFiles) (f : Small) (stop : RunStop) → u.made ≡ t.made → u.read_faults ≡ t.read_faults → t.write_faults ≤ u.write_faults → StopsBegun s t n f stop → StopsBegun s u n f stop
-stops_closed s t u n f (stops.Capture port (faults.Header field)) made read write x = absurd x
-stops_closed s t u n f (stops.Capture port (faults.Cut number)) made read write x = record_same made read x
-stops_closed s t u n f (stops.Capture port (faults.Long number)) made read write x = record_same made read x
-stops_closed s t u n f (stops.Capture port (faults.Fraction number)) made read write x = record_same made read x
-stops_closed s t u n f (stops.Capture port faults.Read) made read write x = absurd x
-stops_closed s t u n f (stops.Capture port faults.Memory) made read write x = absurd x
+stops_closed s t u n f (stops.Capture port (Header field)) made read write x = absurd x
+stops_closed s t u n f (stops.Capture port (Record number why)) made read write x = record_same made read x
 stops_closed s t u n f stops.Read made read write x = (rw read x.0, began_same made x.1)
 stops_closed s t u n f stops.Write made read write x = (let rose = x.0 in omega (arith, rose, write), read ∙ x.1, began_same made x.2)
 stops_closed s t u n f stops.Frames made read write x = record { frames = x.frames; ports = x.ports; too_many = x.too_many; wrote = λ told. wrote_same made (x.wrote told); read_faults = read ∙ x.read_faults }
@@ -285,12 +273,8 @@ stops_closed s t u n f stops.Memory made read write x = absurd x
 
 -- one of a replay that began is one of a replay
 begun_stops : (s t : Disk) (n : ReplayFiles) (f : Small) (stop : RunStop) → StopsBegun s t n f stop → StopsReplay s t n f stop
-begun_stops s t n f (stops.Capture port (faults.Header field)) x = absurd x
-begun_stops s t n f (stops.Capture port (faults.Cut number)) x = x
-begun_stops s t n f (stops.Capture port (faults.Long number)) x = x
-begun_stops s t n f (stops.Capture port (faults.Fraction number)) x = x
-begun_stops s t n f (stops.Capture port faults.Read) x = absurd x
-begun_stops s t n f (stops.Capture port faults.Memory) x = absurd x
+begun_stops s t n f (stops.Capture port (Header field)) x = absurd x
+begun_stops s t n f (stops.Capture port (Record number why)) x = x
 begun_stops s t n f stops.Read x = (x.0, inr x.1)
 begun_stops s t n f stops.Write x = x
 begun_stops s t n f stops.Frames x = x

@@ -3,13 +3,12 @@ use Rattle.std.specs.Prelude.{ℕ, ◌+◌, ◌-◌, ◌<◌, ◌≤◌, ◌^◌
 use Rattle.vg_base.specs.Files.{Disk, Rose, SameHeld, SameIds}
 use Rattle.vg_small.specs.declared.small.Small.{Small}
 use Rattle.vg_small.specs.Meaning.{steps_at}
-use Rattle.vg_pcap.specs.declared.faults.CaptureFault.{CaptureFault}
-use Rattle.vg_pcap.specs.declared.faults.CaptureFault.TheVariants as faults
+use Rattle.vg_pcap.specs.declared.faults.CaptureRefusal.TheVariants.{Header, Record}
 use Rattle.vg_pcap.specs.declared.faults.HeaderField.{HeaderField}
-use Rattle.vg_pcap.specs.Captures.{Damage}
+use Rattle.vg_pcap.specs.declared.faults.Damage.{Damage}
 use Rattle.vg_pcap.specs.Frames.{Stream}
 use Rattle.vg_pcap.specs.Arrivals.{Arrival, stream_at, EndsAt, ComeFirst, AllCome, ComeUpTo, IsAtDamage}
-use Rattle.vg_pcap.specs.Incoming.{fault_of, AllComeIn, IsFirstBadHeader}
+use Rattle.vg_pcap.specs.Incoming.{AllComeIn, IsFirstBadHeader}
 use Rattle.vg_replay.specs.declared.totals.Totals.{Totals}
 use Rattle.vg_replay.specs.declared.stop.RunStop.{RunStop}
 use Rattle.vg_replay.specs.declared.stop.RunStop.TheVariants as stops
@@ -92,11 +91,11 @@ AreFirst s ins frames =
 abbrev pub AreAll : Disk → List (List ℕ) → List Arrival → Type 0
 AreAll s ins frames = (streams : List Stream) × AllComeIn s ins streams × AllCome streams frames × (length frames ≤ most_frames)
 
--- they are those up to a refused record of a port; the fault tells its number in its file
-abbrev pub AreUpTo : Disk → List (List ℕ) → List Arrival → ℕ → CaptureFault → Type 0
-AreUpTo s ins frames port fault =
-    (streams : List Stream) × (damage : Damage) × AllComeIn s ins streams × ComeUpTo streams frames port damage
-    × (fault ≡ fault_of damage (length (stream_at streams port).frames + 1)) × (length frames ≤ most_frames)
+-- they are those up to a refused record of a port, which has this number in its file
+abbrev pub AreUpTo : Disk → List (List ℕ) → List Arrival → (port number : ℕ) → Damage → Type 0
+AreUpTo s ins frames port number why =
+    (streams : List Stream) × AllComeIn s ins streams × ComeUpTo streams frames port why
+    × (number ≡ length (stream_at streams port).frames + 1) × (length frames ≤ most_frames)
 
 -- they are the most that there may be, and another is next
 abbrev pub AreTooMany : Disk → List (List ℕ) → List Arrival → Type 0
@@ -127,16 +126,16 @@ pub record HasReplayed (s t : Disk) (n : ReplayFiles) (f : Small) (totals : Tota
   pub no_fault : NoFault s t
 
 -- the header of a capture is refused, and nothing was created
-pub record StopsAtHeader (s t : Disk) (n : ReplayFiles) (port : ℕ) (fault : CaptureFault) : Type 0 where
+pub record StopsAtHeader (s t : Disk) (n : ReplayFiles) (port : ℕ) (field : HeaderField) : Type 0 where
   pub made : t.made ≡ s.made
-  pub header : IsTrue s.tells_held → (field : HeaderField) × (fault ≡ faults.Header field) × IsFirstBadHeader s n.ins port field
+  pub header : IsTrue s.tells_held → IsFirstBadHeader s n.ins port field
   pub no_fault : NoFault s t
 
 -- a record is refused, and the outputs are those of the frames before it
-pub record StopsAtRecord (s t : Disk) (n : ReplayFiles) (f : Small) (port : ℕ) (fault : CaptureFault) : Type 0 where
+pub record StopsAtRecord (s t : Disk) (n : ReplayFiles) (f : Small) (port number : ℕ) (why : Damage) : Type 0 where
   pub frames : List Arrival
   pub ports : HavePorts n frames
-  pub up_to : IsTrue s.tells_held → AreUpTo s n.ins frames port fault
+  pub up_to : IsTrue s.tells_held → AreUpTo s n.ins frames port number why
   pub wrote : IsTrue s.tells_made → WroteAll s t n f frames
   pub read_faults : t.read_faults ≡ s.read_faults
 
@@ -157,12 +156,8 @@ pub record Began (s t : Disk) (n : ReplayFiles) (f : Small) : Type 0 where
 
 -- why a replay stopped, and what it left; a fault in closing an output then is counted among those at writing, and changes nothing
 abbrev pub StopsReplay : Disk → Disk → ReplayFiles → Small → RunStop → Type 0
-StopsReplay s t n f (stops.Capture port (faults.Header field)) = StopsAtHeader s t n port (faults.Header field)
-StopsReplay s t n f (stops.Capture port (faults.Cut number)) = StopsAtRecord s t n f port (faults.Cut number)
-StopsReplay s t n f (stops.Capture port (faults.Long number)) = StopsAtRecord s t n f port (faults.Long number)
-StopsReplay s t n f (stops.Capture port (faults.Fraction number)) = StopsAtRecord s t n f port (faults.Fraction number)
-StopsReplay s t n f (stops.Capture port faults.Read) = ⊥
-StopsReplay s t n f (stops.Capture port faults.Memory) = ⊥
+StopsReplay s t n f (stops.Capture port (Header field)) = StopsAtHeader s t n port field
+StopsReplay s t n f (stops.Capture port (Record number why)) = StopsAtRecord s t n f port number why
 StopsReplay s t n f stops.Read = Rose s.read_faults t.read_faults × (((t.made ≡ s.made) × (t.write_faults ≡ s.write_faults)) ⊎ Began s t n f)
 StopsReplay s t n f stops.Write = Rose s.write_faults t.write_faults × (t.read_faults ≡ s.read_faults) × Began s t n f
 StopsReplay s t n f stops.Frames = StopsAtMost s t n f
@@ -170,12 +165,8 @@ StopsReplay s t n f stops.Memory = (t.made ≡ s.made) × NoFault s t
 
 -- why a replay stopped whose outputs were created, and what it left
 abbrev pub StopsBegun : Disk → Disk → ReplayFiles → Small → RunStop → Type 0
-StopsBegun s t n f (stops.Capture port (faults.Header field)) = ⊥
-StopsBegun s t n f (stops.Capture port (faults.Cut number)) = StopsAtRecord s t n f port (faults.Cut number)
-StopsBegun s t n f (stops.Capture port (faults.Long number)) = StopsAtRecord s t n f port (faults.Long number)
-StopsBegun s t n f (stops.Capture port (faults.Fraction number)) = StopsAtRecord s t n f port (faults.Fraction number)
-StopsBegun s t n f (stops.Capture port faults.Read) = ⊥
-StopsBegun s t n f (stops.Capture port faults.Memory) = ⊥
+StopsBegun s t n f (stops.Capture port (Header field)) = ⊥
+StopsBegun s t n f (stops.Capture port (Record number why)) = StopsAtRecord s t n f port number why
 StopsBegun s t n f stops.Read = Rose s.read_faults t.read_faults × Began s t n f
 StopsBegun s t n f stops.Write = Rose s.write_faults t.write_faults × (t.read_faults ≡ s.read_faults) × Began s t n f
 StopsBegun s t n f stops.Frames = StopsAtMost s t n f

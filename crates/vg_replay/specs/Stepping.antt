@@ -17,12 +17,9 @@ use Rattle.vg_replay.specs.UnderWay.{Replaying, HasOpened, Going, open_ids}
 
 -- why a replay stops where its inputs can't be read on
 abbrev pub stop_at : ℕ → CaptureFault → RunStop
+stop_at port (faults.Refused refusal) = stops.Capture port refusal
 stop_at port faults.Read = stops.Read
 stop_at port faults.Memory = stops.Memory
-stop_at port (faults.Header field) = stops.Capture port (faults.Header field)
-stop_at port (faults.Cut number) = stops.Capture port (faults.Cut number)
-stop_at port (faults.Long number) = stops.Capture port (faults.Long number)
-stop_at port (faults.Fraction number) = stops.Capture port (faults.Fraction number)
 
 abbrev pub stop_of : MergeFault → RunStop
 stop_of e = stop_at e.port e.fault

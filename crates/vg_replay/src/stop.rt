@@ -2,13 +2,13 @@
 ghost use Rattle.std.specs.Prelude.{◌≡◌};
 ghost use Rattle.vg_replay.specs.Stepping.{stop_of};
 
-use vg_pcap::{CaptureFault, MergeFault};
+use vg_pcap::{CaptureFault, CaptureRefusal, MergeFault};
 
 /// Why a replay stopped early.
 #[derive(Clone, Copy, Debug, PartialEq, Eq)]
 pub enum RunStop {
-    /// The capture of this port is refused. The fault is never `Read` or `Memory`.
-    Capture { port: u16, fault: CaptureFault },
+    /// The capture of this port is refused.
+    Capture { port: u16, refusal: CaptureRefusal },
     /// A file couldn't be read.
     Read,
     /// A file couldn't be written.
@@ -24,11 +24,11 @@ pub(crate) fn stop_of(e: MergeFault) -> RunStop
     ensures { result ≡ stop_of e }
 {
     match e.fault {
+        CaptureFault::Refused(refusal) => RunStop::Capture {
+            port: e.port,
+            refusal,
+        },
         CaptureFault::Read => RunStop::Read,
         CaptureFault::Memory => RunStop::Memory,
-        fault => RunStop::Capture {
-            port: e.port,
-            fault,
-        },
     }
 }

@@ -8,7 +8,7 @@ use std::alloc::{AllocError, Global};
 use std::test::Fail;
 use vg_base::Files;
 use vg_doubles::MemFiles;
-use vg_pcap::{CaptureFault, HeaderField};
+use vg_pcap::{CaptureRefusal, Damage, HeaderField};
 use vg_small::{Lang, Small, read_small};
 
 // What port 0 gets goes to port 2, and the rest to port 0.
@@ -126,7 +126,10 @@ fn a_cut_record_ends_it(rt: HostRuntime) -> Result<(), Fail> {
     let mut files = files_of(alloc, cut, capture(alloc, &[5])?, &[])?;
     let stop = RunStop::Capture {
         port: 0,
-        fault: CaptureFault::Cut(3),
+        refusal: CaptureRefusal::Record {
+            number: 3,
+            why: Damage::Cut,
+        },
     };
     assert_eq!(rt; replay_three(alloc, &mut files)?, Err(stop));
     let log = "1 in 0 to 2 steps 3\n2 in 0 to 2 steps 3\n";
@@ -146,7 +149,7 @@ fn a_bad_header_creates_nothing(rt: HostRuntime) -> Result<(), Fail> {
     let mut files = files_of(alloc, capture(alloc, &[5])?, short, &[])?;
     let stop = RunStop::Capture {
         port: 1,
-        fault: CaptureFault::Header(HeaderField::Length),
+        refusal: CaptureRefusal::Header(HeaderField::Length),
     };
     assert_eq!(rt; replay_three(alloc, &mut files)?, Err(stop));
     assert!(rt; files.written("out0").is_none());

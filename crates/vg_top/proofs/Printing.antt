@@ -8,7 +8,8 @@ use Rattle.vg_command.specs.Commands.{Files}
 use Rattle.vg_small.specs.declared.small.Small.{Small}
 use Rattle.vg_pcap.specs.Frames.{header, record_of}
 use Rattle.vg_pcap.specs.declared.faults.CaptureFault.{CaptureFault}
-use Rattle.vg_pcap.specs.Captures.{Damage, CaptureEnd, Whole, Refused}
+use Rattle.vg_pcap.specs.declared.faults.Damage.{Damage}
+use Rattle.vg_pcap.specs.Captures.{CaptureEnd, Whole, Refused}
 use Rattle.vg_pcap.specs.Arrivals.{Arrival}
 use Rattle.vg_core.specs.declared.verdict.Verdict.{Verdict}
 use Rattle.vg_replay.specs.Outputs.{goes_to, handle_at, handled_by, piece_to, capture_to}

@@ -4,7 +4,7 @@ ghost use Rattle.vg_pcap.specs.Merge.{AreReadable, IsNext};
 ghost use Rattle.vg_pcap.specs.Lending.{IsWritten};
 
 use super::*;
-use crate::faults::HeaderField;
+use crate::faults::{CaptureRefusal, Damage, HeaderField};
 use std::alloc::AllocError;
 use std::test::Fail;
 use vg_doubles::MemFiles;
@@ -133,7 +133,10 @@ fn a_cut_record_comes_right_after_the_one_before(rt: HostRuntime) -> Result<(), 
     assert_eq!(rt; next(&mut merge, &mut files), Ok(Some((0, 5, Some(1)))));
     let refused = MergeFault {
         port: 0,
-        fault: CaptureFault::Cut(3),
+        fault: CaptureFault::Refused(CaptureRefusal::Record {
+            number: 3,
+            why: Damage::Cut,
+        }),
     };
     assert_eq!(rt; next(&mut merge, &mut files), Err(refused));
     assert_eq!(rt; merge.close(&mut files), Ok(()));
@@ -171,7 +174,7 @@ fn the_port_of_a_short_header_is_told(rt: HostRuntime) -> Result<(), Fail> {
     let mut files = MemFiles::new(alloc, held, 2, 0, Vec::new(alloc))?;
     let refused = MergeFault {
         port: 1,
-        fault: CaptureFault::Header(HeaderField::Length),
+        fault: CaptureFault::Refused(CaptureRefusal::Header(HeaderField::Length)),
     };
     assert_eq!(rt; Merge::start(alloc, &mut files, &ins).err(), Some(refused));
     Ok(())

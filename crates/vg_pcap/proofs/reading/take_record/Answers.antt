@@ -1,8 +1,8 @@
 use Rattle.std.proofs.Common.{◌≡◌, ◌∙◌, length, drop, refl, inr, arith}
 use Rattle.std.proofs.lemmas.List.{length-take-le}
 use Rattle.vg_base.proofs.Disks.{told_before}
-use Rattle.vg_pcap.specs.Captures.{Cut}
-use Rattle.vg_pcap.specs.Reading.{encoding_view, damage_view, head_view}
+use Rattle.vg_pcap.specs.declared.faults.Damage.TheVariants.{Cut}
+use Rattle.vg_pcap.specs.Reading.{encoding_view, head_view}
 use Rattle.vg_pcap.proofs.ReadAhead.{Stays-trans}
 use Rattle.vg_pcap.proofs.Taken.{Gives-whole, Gives-part, cut_body, HasRecord-taken, cause_ok, cause_else, damage_unread}
 use Rattle.vg_pcap.proofs.reading.take_record.Goals as goal
@@ -11,19 +11,19 @@ pub returns-in-Err : goal.returns-in-Err
 returns-in-Err g c =
     let read = c.in-Ok.ensures in
     let all : c.in-Ok.got ≡ 16 = omega (arith, read.within, c.read_into.auto.into) in
-    rw c.fault.ensures (record {
-      cause = cause_else _ _ _ (damage_unread (damage_view c.in-Err.damage) c.args.number) read.faults.same;
+    record {
+      cause = cause_else _ _ _ (damage_unread c.in-Err.why c.args.number) read.faults.same;
       stays = read.stays;
       good = tt;
       begins = tt;
       refused = inr (
-        damage_view c.in-Err.damage,
+        c.in-Err.why,
         refl,
         λ told bytes is.
             let gives = rw all at (read.gives told bytes is) in
             rw (← Gives-whole (omega (arith, c.read_into.auto.into)) gives) at (c.in-Err.ensures.refused (drop 16 bytes)),
       );
-    })
+    }
 
 pub returns-then-got-size : goal.returns-then-got-size
 returns-then-got-size g c =
