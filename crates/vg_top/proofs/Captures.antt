@@ -3,18 +3,15 @@ use Rattle.std.proofs.Common.{◌≡◌, ◌<◌, inl, inr, ◌∙◌, ℕ, List
 use Rattle.std.proofs.lemmas.Bool.{cases_lt}
 use Rattle.std.proofs.Math.Nat.{eq-or-lt_of_le}
 use Rattle.vg_base.specs.Files.{Disk}
+use Rattle.vg_pcap.specs.declared.faults.Damage.{Damage}
 use Rattle.vg_pcap.specs.declared.faults.HeaderField.{HeaderField}
 use Rattle.vg_pcap.specs.Captures.{IsBadHeader}
-use Rattle.vg_pcap.specs.Captures as captures
 use Rattle.vg_pcap.specs.Frames.{Stream, HoldsStream}
 use Rattle.vg_pcap.specs.Arrivals.{Arrival, stream_at, ComeUpTo}
-use Rattle.vg_pcap.specs.Incoming.{ComesIn, HasBadHeader, fault_of, AllComeIn, IsFirstBadHeader}
+use Rattle.vg_pcap.specs.Incoming.{ComesIn, HasBadHeader, AllComeIn, IsFirstBadHeader}
 use Rattle.vg_pcap.proofs.Laws.{HoldsStream-same, IsBadHeader-none, IsBadHeader-same}
 use Rattle.vg_pcap.proofs.Orders.{AllCome-same, AllCome-whole, ComeUpTo-same, AllCome-most, ComeUpTo-most}
 use Rattle.vg_replay.specs.Replays.{AreAll, AreUpTo, AreTooMany}
-use Rattle.vg_top.specs.declared.stop.Damage.{Damage}
-use Rattle.vg_top.specs.declared.stop.Damage.TheVariants.{Cut, Long, Fraction}
-use Rattle.vg_top.specs.Records.{fault_of_record}
 
 -- ---- lists, names and numbers
 
@@ -37,35 +34,6 @@ same_list (x ∷ a) (y ∷ b) long same =
 
 same_name : (ins : List (List ℕ)) {p q : ℕ} {a b : List ℕ} → slice_get ins p ≡ Some a → slice_get ins q ≡ Some b → p ≡ q → a ≡ b
 same_name ins x y same = some_is (sym x ∙ ap (λ (i : ℕ). slice_get ins i) same ∙ y)
-
--- the damage and the number of a fault
-
-abbrev damages : Damage → captures.Damage
-damages Cut = captures.Cut
-damages Long = captures.Long
-damages Fraction = captures.Fraction
-
-same_kind : (d : Damage) (g : captures.Damage) (m n : ℕ) → fault_of_record d m ≡ fault_of g n → (damages d ≡ g) × (m ≡ n)
-same_kind Cut captures.Cut m n e = (refl, cc)
-same_kind Long captures.Long m n e = (refl, cc)
-same_kind Fraction captures.Fraction m n e = (refl, cc)
-same_kind Cut captures.Long m n e = absurd cc
-same_kind Cut captures.Fraction m n e = absurd cc
-same_kind Long captures.Cut m n e = absurd cc
-same_kind Long captures.Fraction m n e = absurd cc
-same_kind Fraction captures.Cut m n e = absurd cc
-same_kind Fraction captures.Long m n e = absurd cc
-
-damages_apart : (d e : Damage) → damages d ≡ damages e → d ≡ e
-damages_apart Cut Cut is = refl
-damages_apart Long Long is = refl
-damages_apart Fraction Fraction is = refl
-damages_apart Cut Long is = absurd cc
-damages_apart Cut Fraction is = absurd cc
-damages_apart Long Cut is = absurd cc
-damages_apart Long Fraction is = absurd cc
-damages_apart Fraction Cut is = absurd cc
-damages_apart Fraction Long is = absurd cc
 
 -- ---- one file
 
@@ -124,9 +92,8 @@ module _ (s : Disk) where
   pub header_all : {ins : List (List ℕ)} {p : ℕ} {f : HeaderField} {frames : List Arrival} → IsFirstBadHeader s ins p f → AreAll s ins frames → ⊥
   header_all x y = no_bad x y.1
 
-  pub header_up_to : {ins : List (List ℕ)} {p q : ℕ} (number : ℕ) {f : HeaderField} (damage : Damage) {frames : List Arrival} → IsFirstBadHeader s ins p f →
-      AreUpTo s ins frames q (fault_of_record damage number) → ⊥
-  header_up_to number damage x y = no_bad x y.2
+  pub header_up_to : {ins : List (List ℕ)} {p q number : ℕ} {f : HeaderField} {why : Damage} {frames : List Arrival} → IsFirstBadHeader s ins p f → AreUpTo s ins frames q number why → ⊥
+  header_up_to x y = no_bad x y.1
 
   pub header_many : {ins : List (List ℕ)} {p : ℕ} {f : HeaderField} {frames : List Arrival} → IsFirstBadHeader s ins p f → AreTooMany s ins frames → ⊥
   header_many x y = no_bad x y.2
@@ -136,8 +103,8 @@ module _ (s : Disk) where
   pub same_all : {ins : List (List ℕ)} (a b : List Arrival) → AreAll s ins a → AreAll s ins b → a ≡ b
   same_all a b x y = AllCome-same a b (rw (streams_same x.0 y.0 x.1 y.1) at x.2) y.2
 
-  pub all_up_to : {ins : List (List ℕ)} {a b : List Arrival} {port : ℕ} (number : ℕ) (damage : Damage) → AreAll s ins a → AreUpTo s ins b port (fault_of_record damage number) → ⊥
-  all_up_to number damage x y = AllCome-whole (rw (streams_same x.0 y.0 x.1 y.2) at x.2) y.3
+  pub all_up_to : {ins : List (List ℕ)} {a b : List Arrival} {port number : ℕ} {why : Damage} → AreAll s ins a → AreUpTo s ins b port number why → ⊥
+  all_up_to x y = AllCome-whole (rw (streams_same x.0 y.0 x.1 y.1) at x.2) y.2
 
   pub all_many : {ins : List (List ℕ)} (a b : List Arrival) → AreAll s ins a → AreTooMany s ins b → ⊥
   all_many a b x y =
@@ -145,18 +112,15 @@ module _ (s : Disk) where
       let next = y.5 in
       next.1 (AllCome-most a b all y.3 (omega (arith, x.3, y.4)) next.0)
 
-  pub same_up_to : {ins : List (List ℕ)} (a b : List Arrival) {p q : ℕ} (m n : ℕ) (d e : Damage) → AreUpTo s ins a p (fault_of_record d m) → AreUpTo s ins b q (fault_of_record e n) →
-      (p ≡ q) × (m ≡ n) × (d ≡ e)
+  pub same_up_to : {ins : List (List ℕ)} (a b : List Arrival) {p q : ℕ} (m n : ℕ) (d e : Damage) → AreUpTo s ins a p m d → AreUpTo s ins b q n e → (p ≡ q) × (m ≡ n) × (d ≡ e)
   same_up_to a b {p} {q} m n d e x y =
-      let streams : x.0 ≡ y.0 = streams_same x.0 y.0 x.2 y.2 in
-      let come : ComeUpTo y.0 a p x.1 = rw streams at x.3 in
-      let same = ComeUpTo-same a b come y.3 in
-      let one = same_kind d x.1 m _ x.4 in
-      let other = same_kind e y.1 n _ y.4 in
-      let number : m ≡ n = one.1 ∙ rw (streams, same.1) refl ∙ sym other.1 in
-      (same.1, number, damages_apart d e (one.0 ∙ same.2 ∙ sym other.0))
+      let streams : x.0 ≡ y.0 = streams_same x.0 y.0 x.1 y.1 in
+      let come : ComeUpTo y.0 a p d = rw streams at x.2 in
+      let same = ComeUpTo-same a b come y.2 in
+      let number : m ≡ n = x.3 ∙ rw (streams, same.1) refl ∙ sym y.3 in
+      (same.1, number, same.2)
 
-  pub up_to_many : {ins : List (List ℕ)} (a b : List Arrival) {port : ℕ} (number : ℕ) (damage : Damage) → AreUpTo s ins a port (fault_of_record damage number) → AreTooMany s ins b → ⊥
-  up_to_many a b {port} number damage x y =
-      let come = rw (streams_same x.0 y.0 x.2 y.2) at x.3 in
-      y.6 port x.1 (ComeUpTo-most a b come y.3 (omega (arith, x.5, y.4)))
+  pub up_to_many : {ins : List (List ℕ)} (a b : List Arrival) {port number : ℕ} {why : Damage} → AreUpTo s ins a port number why → AreTooMany s ins b → ⊥
+  up_to_many a b {port} {number} {why} x y =
+      let come = rw (streams_same x.0 y.0 x.1 y.2) at x.2 in
+      y.6 port why (ComeUpTo-most a b come y.3 (omega (arith, x.4, y.4)))

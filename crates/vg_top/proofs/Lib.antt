@@ -4,5 +4,4 @@ mod Replayed
 mod Verifying
 mod Captures
 mod Unique
-mod Leaving
 mod Printing

@@ -7,7 +7,7 @@ use Rattle.vg_base.specs.Sink.{Flow}
 use Rattle.vg_command.specs.Commands.{Files}
 use Rattle.vg_small.specs.declared.small.Small.{Small}
 use Rattle.vg_pcap.specs.Frames.{header, record_of}
-use Rattle.vg_pcap.specs.declared.faults.CaptureFault.{CaptureFault}
+use Rattle.vg_pcap.specs.declared.faults.CaptureRefusal.TheVariants.{Header, Record}
 use Rattle.vg_pcap.specs.declared.faults.Damage.{Damage}
 use Rattle.vg_pcap.specs.Captures.{CaptureEnd, Whole, Refused}
 use Rattle.vg_pcap.specs.Arrivals.{Arrival}
@@ -16,26 +16,15 @@ use Rattle.vg_replay.specs.Outputs.{goes_to, handle_at, handled_by, piece_to, ca
 use Rattle.vg_replay.specs.Replays.{ReplayFiles, IsPart, Holds, WroteAll, WroteParts, AreFirst, AreAll, AreUpTo, AreTooMany}
 use Rattle.vg_top.specs.declared.report.Report.{Report}
 use Rattle.vg_top.specs.declared.stop.Stop.{Stop}
-use Rattle.vg_top.specs.declared.stop.Stop.TheVariants.{Wrong, Usage, Header, Record, Read, Write, Memory, Limit, Frames, NotBuilt}
+use Rattle.vg_top.specs.declared.stop.Stop.TheVariants.{Wrong, Usage, Capture, Read, Write, Memory, Limit, Frames, NotBuilt}
 use Rattle.vg_top.specs.Agreement.{Agree, IsMostSteps}
-use Rattle.vg_top.specs.Effects.{Unwritten, BeganReplay, Finished, IsDone}
+use Rattle.vg_top.specs.Effects.{Unwritten, BeganReplay, Finished, StopsAfter, Leaves, RunsOn, HasStopped, Prints, Answers}
 use Rattle.vg_top.specs.Endings.{Ending, Stopped, Done, ComesTo}
-use Rattle.vg_top.specs.Lines.{verified_line, totals_line}
+use Rattle.vg_top.specs.Lines.{verified_line, totals_line, refusal_text}
 use Rattle.vg_top.specs.Runs.{IsRun, RefusesWords}
-use Rattle.vg_top.specs.Running.{HasRun, StopsRun, StopsAfter, Prints}
-use Rattle.vg_top.specs.Statuses.{status_of, status_at, IsStatus, IsFaultOrMemory}
-use Rattle.vg_top.proofs.Leaving.{begins}
+use Rattle.vg_top.specs.Running.{HasRun}
+use Rattle.vg_top.specs.Statuses.{status_of, status_at, IsFaultOrMemory}
 use Rattle.vg_top.proofs.Unique.{ComesTo-same}
-
--- ---- statuses
-
-pub known_stop : {u v : Flow} {text : List ℕ} {answer : ℕ} (stop : Stop) → Prints u v text (status_of stop) answer → IsStatus answer
-known_stop stop (inl printed) = inr (stop, printed.0)
-known_stop stop (inr failed) = inr (Write, failed.0)
-
-pub known_done : {u v : Flow} {text : List ℕ} {answer : ℕ} → Prints u v text 0 answer → IsStatus answer
-known_done (inl printed) = inl printed.0
-known_done (inr failed) = inr (Write, failed.0)
 
 -- ---- a run that was done
 
@@ -58,15 +47,13 @@ module _ (c spec : Small) (agree : Agree c spec) (to : ℕ) where
   unfolding capture_to
   same_capture frames below = ap (λ (bytes : List ℕ). header ++ bytes) (same_pieces frames below)
 
-pub has_finished : {words : List (List ℕ)} (s t : Disk) {n : Files} (r : Report) → IsRun words n → HasRun s t n r → Finished words s t (verified_line r.paths r.steps ++ totals_line r.totals)
-has_finished s t {n} r run has =
+pub has_finished : (s t : Disk) {n : Files} (r : Report) → HasRun s t n r → Finished s t n (verified_line r.paths r.steps ++ totals_line r.totals)
+has_finished s t {n} r has =
     let ports : length n.ins ≡ has.spec.ports = has.verified.functions.ports in
     let below : All (λ a. a.port < has.spec.ports) has.replayed.frames = rw ports at has.replayed.ports in
     record {
-      names = n;
       c = has.c;
       spec = has.spec;
-      run = run;
       verified = has.verified;
       frames = has.replayed.frames;
       all = has.replayed.all;
@@ -82,14 +69,20 @@ has_finished s t {n} r run has =
       no_fault = has.replayed.no_fault;
     }
 
-pub is_done : {words : List (List ℕ)} (s t : Disk) {u v : Flow} {n : Files} {answer : ℕ} (r : Report) → IsRun words n → HasRun s t n r →
-    Prints u v (verified_line r.paths r.steps ++ totals_line r.totals) 0 answer → answer ≡ 0 → IsDone words s t u v
-is_done s t r run has (inl printed) is = record {
-  report = verified_line r.paths r.steps ++ totals_line r.totals;
-  finished = has_finished s t r run has;
-  says = printed.1;
+-- ---- what is answered
+
+pub answers_done : {words : List (List ℕ)} (s t : Disk) {u v : Flow} {n : Files} {answer : ℕ} (r : Report) → IsRun words n → HasRun s t n r →
+    Prints u v (verified_line r.paths r.steps ++ totals_line r.totals) 0 answer → Answers words s t u v answer
+answers_done s t {n = n} r run has prints = record {
+  text = verified_line r.paths r.steps ++ totals_line r.totals;
+  status = 0;
+  comes = inl (refl, (n, run, has_finished s t r has));
+  prints = prints;
 }
-is_done s t r run has (inr failed) is = absurd (omega (arith, failed.0, is))
+
+pub answers_stopped : {words : List (List ℕ)} (s t : Disk) {u v : Flow} {answer : ℕ} (stop : Stop) → HasStopped words s t stop →
+    Prints u v (refusal_text stop) (status_of stop) answer → Answers words s t u v answer
+answers_stopped s t stop stopped prints = record { text = refusal_text stop; status = status_of stop; comes = inr (stop, refl, refl, stopped); prints = prints }
 
 -- ---- outputs that are whole are begun
 
@@ -119,60 +112,59 @@ first_of_all all = (all.0, all.2.left, all.1, all.2.first, (λ port damage at. a
     whole_refused : {a b : CaptureEnd} {damage : Damage} → b ≡ Whole → a ≡ b → a ≡ Refused damage → ⊥
     whole_refused whole ends refused = cc
 
-first_up_to : {s : Disk} {ins : List (List ℕ)} {frames : List Arrival} {port : ℕ} {fault : CaptureFault} → AreUpTo s ins frames port fault → AreFirst s ins frames
+first_up_to : {s : Disk} {ins : List (List ℕ)} {frames : List Arrival} {port number : ℕ} {why : Damage} → AreUpTo s ins frames port number why → AreFirst s ins frames
 first_up_to {frames = frames} {port = port} up_to = (
   up_to.0,
-  up_to.3.left,
-  up_to.2,
-  up_to.3.first,
-  (λ other damage at. elim (up_to.3.no_other other damage at) [
-    | inl same ↦ rw same up_to.3.right_after
+  up_to.2.left,
+  up_to.1,
+  up_to.2.first,
+  (λ other damage at. elim (up_to.2.no_other other damage at) [
+    | inl same ↦ rw same up_to.2.right_after
     | inr none ↦ rw none.0 tt
   ]),
-  up_to.5,
+  up_to.4,
 )
 
 first_of_many : {s : Disk} {ins : List (List ℕ)} {frames : List Arrival} → AreTooMany s ins frames → AreFirst s ins frames
 first_of_many many = (many.0, many.1, many.2, many.3, (λ port damage at. absurd (many.6 port damage at)), omega (arith, many.4))
 
-pub began_done : {words : List (List ℕ)} (s t : Disk) {n : Files} (r : Report) → IsRun words n → HasRun s t n r → BeganReplay words s t
-began_done s t {n} r run has = record {
-  names = n;
-  c = has.c;
-  spec = has.spec;
-  run = run;
-  verified = has.verified;
-  began = record {
-    frames = has.replayed.frames;
-    ports = has.replayed.ports;
-    first = λ told. first_of_all (has.replayed.all told);
-    wrote = λ told. parts_of_all s t has.replayed.frames (has.replayed.wrote told);
-  };
-  others = has.others;
-}
+pub began_done : {words : List (List ℕ)} (s t : Disk) {n : Files} (r : Report) → IsRun words n → HasRun s t n r → RunsOn words (BeganReplay s t)
+began_done s t {n} r run has = (
+  n,
+  run,
+  record {
+    c = has.c;
+    spec = has.spec;
+    verified = has.verified;
+    began = record {
+      frames = has.replayed.frames;
+      ports = has.replayed.ports;
+      first = λ told. first_of_all (has.replayed.all told);
+      wrote = λ told. parts_of_all s t has.replayed.frames (has.replayed.wrote told);
+    };
+    others = has.others;
+  },
+)
 
 -- ---- what stands in the outputs after a stop
 
-began_after : {words : List (List ℕ)} (s t : Disk) {n : Files} {Reason : List Arrival → Type 0} → IsRun words n → ((frames : List Arrival) → Reason frames → AreFirst s n.ins frames) →
-    StopsAfter s t n Reason → BeganReplay words s t
-began_after s t {n} run first x = record {
-  names = n;
+began_after : (s t : Disk) {n : Files} {Reason : List Arrival → Type 0} → ((frames : List Arrival) → Reason frames → AreFirst s n.ins frames) → StopsAfter s t n Reason → BeganReplay s t n
+began_after s t {n} first x = record {
   c = x.c;
   spec = x.spec;
-  run = run;
   verified = x.verified;
   began = record { frames = x.frames; ports = x.ports; first = λ told. first x.frames (x.handled told); wrote = λ told. parts_of_all s t x.frames (x.wrote told) };
   others = x.others;
 }
 
-pub outputs_after : {words : List (List ℕ)} (s t : Disk) {n : Files} (stop : Stop) → IsRun words n → StopsRun s t n stop → Unwritten s t ⊎ BeganReplay words s t
+pub outputs_after : {words : List (List ℕ)} (s t : Disk) {n : Files} (stop : Stop) → IsRun words n → Leaves s t n stop → Unwritten s t ⊎ RunsOn words (BeganReplay s t)
 outputs_after s t Read run (_, inl none) = inl none
-outputs_after s t Read run (_, inr b) = inr (begins s t run b)
-outputs_after s t Write run x = inr (begins s t run x.2)
+outputs_after s t {n} Read run (_, inr b) = inr (n, run, b)
+outputs_after s t {n} Write run x = inr (n, run, x.2)
 outputs_after s t Memory run x = inl x.0
-outputs_after s t {n} (Record port number damage) run x = inr (began_after s t run (λ frames up_to. first_up_to up_to) x)
-outputs_after s t {n} Frames run x = inr (began_after s t run (λ frames many. first_of_many many) x)
-outputs_after s t (Header port field) run x = inl x.unwritten
+outputs_after s t {n} (Capture port (Record number why)) run x = inr (n, run, began_after s t (λ frames up_to. first_up_to up_to) x)
+outputs_after s t {n} Frames run x = inr (n, run, began_after s t (λ frames many. first_of_many many) x)
+outputs_after s t (Capture port (Header field)) run x = inl x.unwritten
 outputs_after s t Usage run x = inl x.unwritten
 outputs_after s t (Wrong at port) run x = inl x.unwritten
 outputs_after s t (NotBuilt what) run x = inl x.unwritten
@@ -199,16 +191,16 @@ free_stop : {u v : Flow} {text : List ℕ} {answer : ℕ} (status : ℕ) → IsF
 free_stop status free (inl printed) = rw printed.0 free
 free_stop status free (inr failed) = inr (inl failed.0)
 
-pub exactly_stopped : {words : List (List ℕ)} (s t : Disk) {u v : Flow} {text : List ℕ} {n : Files} {answer : ℕ} (stop : Stop) → IsRun words n → StopsRun s t n stop → Prints u v text (status_of stop) answer →
+pub exactly_stopped : {words : List (List ℕ)} (s t : Disk) {u v : Flow} {text : List ℕ} {n : Files} {answer : ℕ} (stop : Stop) → IsRun words n → Leaves s t n stop → Prints u v text (status_of stop) answer →
     IsTrue s.tells_held → (ending : Ending) → ComesTo s words ending → (answer ≡ status_at ending) ⊎ IsFaultOrMemory answer
 exactly_stopped s t Read run stops printed told ending comes = inr (free_stop 6 (inl refl) printed)
 exactly_stopped s t Write run stops printed told ending comes = inr (free_stop 7 (inr (inl refl)) printed)
 exactly_stopped s t Memory run stops printed told ending comes = inr (free_stop 8 (inr (inr refl)) printed)
-exactly_stopped s t {n = n} (Record port number damage) run stops printed told ending comes =
-    exactly_reason s (Record port number damage) (inr (inr (n, run, record { c = stops.c; spec = stops.spec; verified = stops.verified; captures = λ held. (stops.frames, stops.handled held) }))) printed told ending comes
+exactly_stopped s t {n = n} (Capture port (Record number why)) run stops printed told ending comes =
+    exactly_reason s (Capture port (Record number why)) (inr (inr (n, run, record { c = stops.c; spec = stops.spec; verified = stops.verified; captures = λ held. (stops.frames, stops.handled held) }))) printed told ending comes
 exactly_stopped s t {n = n} Frames run stops printed told ending comes =
     exactly_reason s Frames (inr (inr (n, run, record { c = stops.c; spec = stops.spec; verified = stops.verified; captures = λ held. (stops.frames, stops.handled held) }))) printed told ending comes
-exactly_stopped s t {n = n} (Header port field) run stops printed told ending comes = exactly_reason s (Header port field) (inr (inr (n, run, stops.reason))) printed told ending comes
+exactly_stopped s t {n = n} (Capture port (Header field)) run stops printed told ending comes = exactly_reason s (Capture port (Header field)) (inr (inr (n, run, stops.reason))) printed told ending comes
 exactly_stopped s t {n = n} Usage run stops printed told ending comes = exactly_reason s Usage (inr (inr (n, run, stops.reason))) printed told ending comes
 exactly_stopped s t {n = n} (Wrong at port) run stops printed told ending comes = exactly_reason s (Wrong at port) (inr (inr (n, run, stops.reason))) printed told ending comes
 exactly_stopped s t {n = n} (NotBuilt what) run stops printed told ending comes = exactly_reason s (NotBuilt what) (inr (inr (n, run, stops.reason))) printed told ending comes

@@ -4,8 +4,8 @@ use Rattle.vg_base.proofs.Disks.{SameHeld-trans, SameIds-trans}
 use Rattle.vg_base.specs.Files.{Disk, SameHeld, SameIds}
 use Rattle.vg_command.specs.Commands.{Files}
 use Rattle.vg_small.specs.declared.small.Small.{Small}
-use Rattle.vg_pcap.specs.declared.faults.CaptureFault.{CaptureFault}
-use Rattle.vg_pcap.specs.declared.faults.CaptureFault.TheVariants as faults
+use Rattle.vg_pcap.specs.declared.faults.CaptureRefusal.TheVariants.{Header, Record}
+use Rattle.vg_pcap.specs.declared.faults.Damage.{Damage}
 use Rattle.vg_pcap.specs.declared.faults.HeaderField.{HeaderField}
 use Rattle.vg_pcap.specs.Arrivals.{Arrival}
 use Rattle.vg_pcap.specs.Frames.{Stream}
@@ -16,14 +16,11 @@ use Rattle.vg_replay.specs.declared.totals.Totals.{Totals}
 use Rattle.vg_replay.specs.Replays.{ReplayFiles, KeepsOthers, WroteAll, WroteParts, AreFirst, AreAll, AreUpTo, AreTooMany, HasReplayed, StopsAtHeader, StopsAtRecord, Began, StopsReplay, Replays}
 use Rattle.vg_top.specs.declared.setup.Functions.{Functions}
 use Rattle.vg_top.specs.declared.report.Report.{Report}
-use Rattle.vg_top.specs.declared.stop.Damage.{Damage}
-use Rattle.vg_top.specs.declared.stop.Damage.TheVariants.{Cut, Long, Fraction}
-use Rattle.vg_top.specs.declared.stop.Stop.TheVariants.{Header, Record}
+use Rattle.vg_top.specs.declared.stop.Stop.TheVariants.{Capture}
 use Rattle.vg_top.specs.Agreement.{IsPathCount, IsMostSteps}
-use Rattle.vg_top.specs.Effects.{Unwritten}
-use Rattle.vg_top.specs.Records.{fault_of_record}
+use Rattle.vg_top.specs.Effects.{Unwritten, BeganReplay, Leaves}
 use Rattle.vg_top.specs.Runs.{replay_files}
-use Rattle.vg_top.specs.Running.{HasRun, StopsIn, BeginsIn, StopsRun}
+use Rattle.vg_top.specs.Running.{HasRun}
 use Rattle.vg_top.specs.Setup.{ReadsFunctions}
 use Rattle.vg_top.specs.Stops.{stop_of}
 
@@ -39,8 +36,8 @@ module _ {s t : Disk} (same : t.held ≡ s.held) where
   AreAll-before : {ins : List (List ℕ)} {frames : List Arrival} → AreAll t ins frames → AreAll s ins frames
   AreAll-before x = (x.0, all_before x.1, x.2, x.3)
 
-  AreUpTo-before : {ins : List (List ℕ)} {frames : List Arrival} {port : ℕ} {fault : CaptureFault} → AreUpTo t ins frames port fault → AreUpTo s ins frames port fault
-  AreUpTo-before x = (x.0, x.1, all_before x.2, x.3, x.4, x.5)
+  AreUpTo-before : {ins : List (List ℕ)} {frames : List Arrival} {port number : ℕ} {why : Damage} → AreUpTo t ins frames port number why → AreUpTo s ins frames port number why
+  AreUpTo-before x = (x.0, all_before x.1, x.2, x.3, x.4)
 
   AreTooMany-before : {ins : List (List ℕ)} {frames : List Arrival} → AreTooMany t ins frames → AreTooMany s ins frames
   AreTooMany-before x = (x.0, x.1, all_before x.2, x.3, x.4, x.5, x.6)
@@ -86,7 +83,7 @@ module _ {s t : Disk} (u : Disk) {n : Files} (f : Functions) (x : ReadsFunctions
   others_before : (IsTrue t.tells_made → KeepsOthers t u (replay_files n)) → IsTrue s.tells_made → KeepsOthers s u (replay_files n)
   others_before keeps told = λ name none. keeps (made f x told) name none ∙ ap (λ (m : List ℕ → _). m name) x.reads.keeps.made
 
-  began_before : (IsTrue t.tells_made → KeepsOthers t u (replay_files n)) → Began t u (replay_files n) f.c → BeginsIn s u n
+  began_before : (IsTrue t.tells_made → KeepsOthers t u (replay_files n)) → Began t u (replay_files n) f.c → BeganReplay s u n
   began_before keeps b = record {
     c = f.c;
     spec = f.spec;
@@ -103,9 +100,9 @@ module _ {s t : Disk} (u : Disk) {n : Files} (f : Functions) (x : ReadsFunctions
   unwritten : u.made ≡ t.made → u.write_faults ≡ t.write_faults → Unwritten s u
   unwritten m w = record { made = m ∙ x.reads.keeps.made; write_faults = w ∙ x.reads.keeps.write_faults }
 
-  after_record : (port number : ℕ) (damage : Damage) → (IsTrue t.tells_made → KeepsOthers t u (replay_files n)) →
-      StopsAtRecord t u (replay_files n) f.c port (fault_of_record damage number) → StopsRun s u n (Record port number damage)
-  after_record port number damage keeps y = record {
+  after_record : (port number : ℕ) (why : Damage) → (IsTrue t.tells_made → KeepsOthers t u (replay_files n)) →
+      StopsAtRecord t u (replay_files n) f.c port number why → Leaves s u n (Capture port (Record number why))
+  after_record port number why keeps y = record {
     c = f.c;
     spec = f.spec;
     verified = x.verified;
@@ -117,28 +114,21 @@ module _ {s t : Disk} (u : Disk) {n : Files} (f : Functions) (x : ReadsFunctions
     read_faults = y.read_faults ∙ x.reads.same;
   }
 
-  at_header : (port : ℕ) (field : HeaderField) → StopsAtHeader t u (replay_files n) port (faults.Header field) → StopsIn s u n (Header port field)
+  at_header : (port : ℕ) (field : HeaderField) → StopsAtHeader t u (replay_files n) port field → Leaves s u n (Capture port (Header field))
   at_header port field y = record {
     reason = record {
       c = f.c;
       spec = f.spec;
       verified = x.verified;
-      captures = λ told.
-          let bad = y.header (held f x told) in
-          let is : bad.0 ≡ field = cc in
-          rw is at (header_before {s = s} {t = t} (same f x) bad.2);
+      captures = λ told. header_before {s = s} {t = t} (same f x) (y.header (held f x told));
     };
     unwritten = unwritten y.made y.no_fault.write_faults;
     read_faults = y.no_fault.read_faults ∙ x.reads.same;
   }
 
-  pub replay_stops : (e : RunStop) → (IsTrue t.tells_made → KeepsOthers t u (replay_files n)) → StopsReplay t u (replay_files n) f.c e → StopsRun s u n (stop_of e)
-  replay_stops (stops.Capture port (faults.Header field)) keeps y = at_header port field y
-  replay_stops (stops.Capture port (faults.Cut number)) keeps y = after_record port number Cut keeps y
-  replay_stops (stops.Capture port (faults.Long number)) keeps y = after_record port number Long keeps y
-  replay_stops (stops.Capture port (faults.Fraction number)) keeps y = after_record port number Fraction keeps y
-  replay_stops (stops.Capture port faults.Read) keeps y = absurd y
-  replay_stops (stops.Capture port faults.Memory) keeps y = absurd y
+  pub replay_stops : (e : RunStop) → (IsTrue t.tells_made → KeepsOthers t u (replay_files n)) → StopsReplay t u (replay_files n) f.c e → Leaves s u n (stop_of e)
+  replay_stops (stops.Capture port (Header field)) keeps y = at_header port field y
+  replay_stops (stops.Capture port (Record number why)) keeps y = after_record port number why keeps y
   replay_stops stops.Read keeps y = (
     rw x.reads.same at y.0,
     elim y.1 [

@@ -10,16 +10,16 @@ use Rattle.vg_small.specs.declared.small.Lang.TheVariants.{C, Spec}
 use Rattle.vg_small.specs.Meaning.{SendsBelow}
 use Rattle.vg_small.specs.Spelling.{Spells, SpellsNone}
 use Rattle.vg_small.proofs.SpellingLaws.{Spells-unique}
+use Rattle.vg_pcap.specs.declared.faults.CaptureRefusal.TheVariants.{Header, Record}
+use Rattle.vg_pcap.specs.declared.faults.Damage.{Damage}
 use Rattle.vg_pcap.specs.declared.faults.HeaderField.{HeaderField}
 use Rattle.vg_pcap.specs.Arrivals.{Arrival}
 use Rattle.vg_pcap.specs.Incoming.{IsFirstBadHeader}
 use Rattle.vg_replay.specs.Replays.{AreAll, AreUpTo, AreTooMany}
-use Rattle.vg_top.specs.declared.stop.Damage.{Damage}
-use Rattle.vg_top.specs.declared.stop.Stop.TheVariants.{Wrong, Usage, Header, Record, Read, Write, Memory, Limit, Frames, NotBuilt}
+use Rattle.vg_top.specs.declared.stop.Stop.TheVariants.{Wrong, Usage, Capture, Read, Write, Memory, Limit, Frames, NotBuilt}
 use Rattle.vg_top.specs.declared.stop.Unbuilt.TheVariants.{Words, Text}
 use Rattle.vg_top.specs.Agreement.{Agree, IsFirstDifference}
 use Rattle.vg_top.specs.Endings.{Ending, Stopped, Done, EndsIn, ComesTo, most_text, IsLonger, IsWithin}
-use Rattle.vg_top.specs.Records.{fault_of_record}
 use Rattle.vg_top.specs.Runs.{IsRun, IsUnbuilt}
 use Rattle.vg_top.proofs.Captures.{same_header_port, same_header_field, header_all, header_up_to, header_many, same_all, all_up_to, all_many, same_up_to, up_to_many}
 
@@ -27,8 +27,8 @@ use Rattle.vg_top.proofs.Captures.{same_header_port, same_header_field, header_a
 
 -- a header is refused, or frames are handled: up to a record, or the most, or all
 data AtCaptures (s : Disk) (n : Files) (c spec : Small) (e : Ending) : Type 0 where
-  header : (port : ℕ) (field : HeaderField) → e ≡ Stopped (Header port field) → IsFirstBadHeader s n.ins port field → AtCaptures s n c spec e
-  up_to : (port number : ℕ) (damage : Damage) (frames : List Arrival) → e ≡ Stopped (Record port number damage) → AreUpTo s n.ins frames port (fault_of_record damage number) → AtCaptures s n c spec e
+  header : (port : ℕ) (field : HeaderField) → e ≡ Stopped (Capture port (Header field)) → IsFirstBadHeader s n.ins port field → AtCaptures s n c spec e
+  up_to : (port number : ℕ) (why : Damage) (frames : List Arrival) → e ≡ Stopped (Capture port (Record number why)) → AreUpTo s n.ins frames port number why → AtCaptures s n c spec e
   many : (frames : List Arrival) → e ≡ Stopped Frames → AreTooMany s n.ins frames → AtCaptures s n c spec e
   all : (frames : List Arrival) → e ≡ Done c spec frames → AreAll s n.ins frames → AtCaptures s n c spec e
 
@@ -102,7 +102,7 @@ decided s n (Stopped (Wrong at port)) told x =
         ),
       ),
     )
-decided s n (Stopped (Header port field)) told x =
+decided s n (Stopped (Capture port (Header field))) told x =
     let p = x.verified.functions in
     let f = p.functions in
     inr (
@@ -128,7 +128,7 @@ decided s n (Stopped (Header port field)) told x =
         ),
       ),
     )
-decided s n (Stopped (Record port number damage)) told x =
+decided s n (Stopped (Capture port (Record number why))) told x =
     let p = x.verified.functions in
     let f = p.functions in
     let handled = x.captures told in
@@ -148,7 +148,7 @@ decided s n (Stopped (Record port number damage)) told x =
               p.below,
               inr (
                 p.ports,
-                inr (x.verified.agree, up_to port number damage handled.0 refl handled.1),
+                inr (x.verified.agree, up_to port number why handled.0 refl handled.1),
               ),
             ),
           ),
@@ -243,19 +243,19 @@ same_port p q x y =
 
 at_captures : (s : Disk) {n : Files} {c spec : Small} (e f : Ending) → AtCaptures s n c spec e → AtCaptures s n c spec f → e ≡ f
 at_captures s e f (header p g is x) (header q h js y) = is ∙ rw (same_header_port s p q x y, same_header_field s g h x y) refl ∙ sym js
-at_captures s e f (header p g is x) (up_to q m d b js y) = absurd (header_up_to s m d x y)
+at_captures s e f (header p g is x) (up_to q m d b js y) = absurd (header_up_to s x y)
 at_captures s e f (header p g is x) (many b js y) = absurd (header_many s x y)
 at_captures s e f (header p g is x) (all b js y) = absurd (header_all s x y)
-at_captures s e f (up_to p m d a is x) (header q h js y) = absurd (header_up_to s m d y x)
+at_captures s e f (up_to p m d a is x) (header q h js y) = absurd (header_up_to s y x)
 at_captures s e f (up_to p m d a is x) (up_to q k g b js y) = let same = same_up_to s a b m k d g x y in is ∙ rw (same.0, same.1, same.2) refl ∙ sym js
-at_captures s e f (up_to p m d a is x) (many b js y) = absurd (up_to_many s a b m d x y)
-at_captures s e f (up_to p m d a is x) (all b js y) = absurd (all_up_to s m d y x)
+at_captures s e f (up_to p m d a is x) (many b js y) = absurd (up_to_many s a b x y)
+at_captures s e f (up_to p m d a is x) (all b js y) = absurd (all_up_to s y x)
 at_captures s e f (many a is x) (header q h js y) = absurd (header_many s y x)
-at_captures s e f (many a is x) (up_to q k g b js y) = absurd (up_to_many s b a k g y x)
+at_captures s e f (many a is x) (up_to q k g b js y) = absurd (up_to_many s b a y x)
 at_captures s e f (many a is x) (many b js y) = is ∙ sym js
 at_captures s e f (many a is x) (all b js y) = absurd (all_many s b a y x)
 at_captures s e f (all a is x) (header q h js y) = absurd (header_all s y x)
-at_captures s e f (all a is x) (up_to q k g b js y) = absurd (all_up_to s k g x y)
+at_captures s e f (all a is x) (up_to q k g b js y) = absurd (all_up_to s x y)
 at_captures s e f (all a is x) (many b js y) = absurd (all_many s a b x y)
 at_captures s {c = c} {spec = spec} e f (all a is x) (all b js y) = is ∙ ap (Done c spec) (same_all s a b x y) ∙ sym js
 

@@ -11,7 +11,7 @@ use Rattle.vg_replay.specs.Replays.{TakesFewSteps}
 use Rattle.vg_top.specs.declared.setup.Functions.{Functions}
 use Rattle.vg_top.specs.declared.setup.Texts.{Texts}
 use Rattle.vg_top.specs.declared.stop.Stop.{Stop}
-use Rattle.vg_top.specs.declared.stop.Stop.TheVariants.{Wrong, Usage, Header, Record, Read, Write, Memory, Limit, Frames, NotBuilt}
+use Rattle.vg_top.specs.declared.stop.Stop.TheVariants.{Wrong, Usage, Capture, Read, Write, Memory, Limit, Frames, NotBuilt}
 use Rattle.vg_top.specs.declared.stop.Unbuilt.TheVariants.{Words, Text}
 use Rattle.vg_top.specs.Endings.{AreTexts, AreVerified}
 use Rattle.vg_top.specs.Setup.{StopsReading, StopsVerifying, StopsFor, Verifies, LoadsTexts, ReadsFunctions}
@@ -74,8 +74,7 @@ stops_for t (Wrong at port) texts v = record {
   difference = v.5;
   place = v.6;
 }
-stops_for t (Header port field) texts v = absurd v
-stops_for t (Record port number damage) texts v = absurd v
+stops_for t (Capture port refusal) texts v = absurd v
 stops_for t Read texts v = absurd v
 stops_for t Write texts v = absurd v
 stops_for t (Limit lang) texts v = absurd v

@@ -7,14 +7,14 @@ use Rattle.vg_small.specs.declared.small.Lang.TheVariants.{C, Spec}
 use Rattle.vg_small.specs.Meaning.{SendsBelow}
 use Rattle.vg_small.specs.Spelling as small
 use Rattle.vg_small.specs.Spelling.{Spells}
+use Rattle.vg_pcap.specs.declared.faults.CaptureRefusal.TheVariants.{Header, Record}
 use Rattle.vg_pcap.specs.Arrivals.{Arrival}
 use Rattle.vg_pcap.specs.Incoming.{IsFirstBadHeader}
 use Rattle.vg_replay.specs.Replays.{AreAll, AreUpTo, AreTooMany}
 use Rattle.vg_top.specs.declared.stop.Stop.{Stop}
-use Rattle.vg_top.specs.declared.stop.Stop.TheVariants.{Wrong, Usage, Header, Record, Read, Write, Memory, Limit, Frames, NotBuilt}
+use Rattle.vg_top.specs.declared.stop.Stop.TheVariants.{Wrong, Usage, Capture, Read, Write, Memory, Limit, Frames, NotBuilt}
 use Rattle.vg_top.specs.declared.stop.Unbuilt.TheVariants.{Words, Text}
 use Rattle.vg_top.specs.Agreement.{Agree, IsFirstDifference}
-use Rattle.vg_top.specs.Records.{fault_of_record}
 use Rattle.vg_top.specs.Runs.{IsRun, IsUnbuilt}
 
 -- a run stops early, or it is done with these functions and frames
@@ -131,9 +131,8 @@ EndsIn s n (Stopped (NotBuilt (Text C))) = IsOtherC s n ⊎ IsBeyond s n
 EndsIn s n (Stopped (NotBuilt (Text Spec))) = IsOtherSpec s n
 EndsIn s n (Stopped Usage) = IsOfOtherPorts s n
 EndsIn s n (Stopped (Wrong at port)) = AreDifferent s n at port
-EndsIn s n (Stopped (Header port field)) = IsReplayed s n (IsFirstBadHeader s n.ins port field)
-EndsIn s n (Stopped (Record port number damage)) =
-    IsReplayed s n ((frames : List Arrival) × AreUpTo s n.ins frames port (fault_of_record damage number))
+EndsIn s n (Stopped (Capture port (Header field))) = IsReplayed s n (IsFirstBadHeader s n.ins port field)
+EndsIn s n (Stopped (Capture port (Record number why))) = IsReplayed s n ((frames : List Arrival) × AreUpTo s n.ins frames port number why)
 EndsIn s n (Stopped Frames) = IsReplayed s n ((frames : List Arrival) × AreTooMany s n.ins frames)
 EndsIn s n (Done c spec frames) = AreVerified s n c spec × (IsTrue s.tells_held → AreAll s n.ins frames)
 EndsIn s n (Stopped (NotBuilt Words)) = ⊥

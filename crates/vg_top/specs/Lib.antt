@@ -1,7 +1,6 @@
 pub mod Agreement
 pub mod Runs
 pub mod Endings
-pub mod Records
 pub mod Statuses
 pub mod Lines
 pub mod Effects

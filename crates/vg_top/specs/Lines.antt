@@ -2,13 +2,15 @@
 use Rattle.std.specs.Prelude.{ℕ, List, ◌++◌, codes, decimal}
 use Rattle.vg_small.specs.declared.small.Lang.{Lang}
 use Rattle.vg_small.specs.declared.small.Lang.TheVariants.{C, Spec}
+use Rattle.vg_pcap.specs.declared.faults.CaptureRefusal.{CaptureRefusal}
+use Rattle.vg_pcap.specs.declared.faults.CaptureRefusal.TheVariants.{Header, Record}
+use Rattle.vg_pcap.specs.declared.faults.Damage.{Damage}
+use Rattle.vg_pcap.specs.declared.faults.Damage.TheVariants as damages
 use Rattle.vg_pcap.specs.declared.faults.HeaderField.{HeaderField}
 use Rattle.vg_pcap.specs.declared.faults.HeaderField.TheVariants as fields
 use Rattle.vg_replay.specs.declared.totals.Totals.{Totals}
-use Rattle.vg_top.specs.declared.stop.Damage.{Damage}
-use Rattle.vg_top.specs.declared.stop.Damage.TheVariants as damages
 use Rattle.vg_top.specs.declared.stop.Stop.{Stop}
-use Rattle.vg_top.specs.declared.stop.Stop.TheVariants.{Wrong, Usage, Header, Record, Read, Write, Memory, Limit, Frames, NotBuilt}
+use Rattle.vg_top.specs.declared.stop.Stop.TheVariants.{Wrong, Usage, Capture, Read, Write, Memory, Limit, Frames, NotBuilt}
 use Rattle.vg_top.specs.declared.stop.Unbuilt.{Unbuilt}
 use Rattle.vg_top.specs.declared.stop.Unbuilt.TheVariants.{Words, Text}
 
@@ -39,19 +41,20 @@ field_name fields.Magic = codes "magic"
 field_name fields.Version = codes "version"
 field_name fields.Link = codes "link"
 
--- printed where the header of a port's capture is refused
-unfoldable pub header_line : ℕ → HeaderField → List ℕ
-header_line port field = codes "capture " ++ decimal port ++ codes " header " ++ field_name field ++ codes "\n"
-
 -- what is wrong with a record
 abbrev pub damage_name : Damage → List ℕ
 damage_name damages.Cut = codes "cut"
 damage_name damages.Long = codes "long"
 damage_name damages.Fraction = codes "fraction"
 
--- printed where a record of a port's capture is refused
-unfoldable pub record_line : ℕ → ℕ → Damage → List ℕ
-record_line port number damage = codes "capture " ++ decimal port ++ codes " nth " ++ decimal number ++ codes " " ++ damage_name damage ++ codes "\n"
+-- what of a capture is refused: a part of its header, or its record of this number
+abbrev pub refusal_words : CaptureRefusal → List ℕ
+refusal_words (Header field) = codes " header " ++ field_name field
+refusal_words (Record number why) = codes " nth " ++ decimal number ++ codes " " ++ damage_name why
+
+-- printed where a port's capture is refused
+unfoldable pub capture_line : ℕ → CaptureRefusal → List ℕ
+capture_line port refusal = codes "capture " ++ decimal port ++ refusal_words refusal ++ codes "\n"
 
 -- which text
 abbrev pub text_name : Lang → List ℕ
@@ -67,8 +70,7 @@ unbuilt_name (Text lang) = text_name lang
 unfoldable pub refusal_text : Stop → List ℕ
 refusal_text (Wrong at port) = wrong_text at port
 refusal_text Usage = usage_line
-refusal_text (Header port field) = header_line port field
-refusal_text (Record port number damage) = record_line port number damage
+refusal_text (Capture port refusal) = capture_line port refusal
 refusal_text Read = codes "read fault\n"
 refusal_text Write = codes "write fault\n"
 refusal_text Memory = codes "no memory\n"

@@ -12,7 +12,7 @@ use Rattle.vg_replay.specs.Replays.{TakesFewSteps}
 use Rattle.vg_top.specs.declared.setup.Texts.{Texts}
 use Rattle.vg_top.specs.declared.setup.Functions.{Functions}
 use Rattle.vg_top.specs.declared.stop.Stop.{Stop}
-use Rattle.vg_top.specs.declared.stop.Stop.TheVariants.{Wrong, Usage, Header, Record, Read, Write, Memory, Limit, Frames, NotBuilt}
+use Rattle.vg_top.specs.declared.stop.Stop.TheVariants.{Wrong, Usage, Capture, Read, Write, Memory, Limit, Frames, NotBuilt}
 use Rattle.vg_top.specs.declared.stop.Unbuilt.TheVariants.{Text}
 use Rattle.vg_top.specs.Agreement.{Agree, IsFirstDifference}
 use Rattle.vg_top.specs.Endings.{Stopped, EndsIn, most_text, IsLonger, IsWithin, AreTexts, AreVerified}
@@ -41,8 +41,7 @@ StopsFor s t n Read = Rose s.read_faults t.read_faults
 StopsFor s t n Memory = Unit {0}
 StopsFor s t n Write = ⊥
 StopsFor s t n Frames = ⊥
-StopsFor s t n (Header port field) = ⊥
-StopsFor s t n (Record port number damage) = ⊥
+StopsFor s t n (Capture port refusal) = ⊥
 StopsFor s t n Usage = EndsIn s n (Stopped Usage)
 StopsFor s t n (Wrong at port) = EndsIn s n (Stopped (Wrong at port))
 StopsFor s t n (NotBuilt what) = EndsIn s n (Stopped (NotBuilt what))

@@ -9,7 +9,7 @@ mod setup;
 mod stop;
 mod top;
 
-pub use stop::{Damage, Stop, Unbuilt};
+pub use stop::{Stop, Unbuilt};
 pub use top::{Status, refuse, run};
 
 #[cfg(test)]

@@ -1,12 +1,12 @@
 //! Lines of text of bounded length: those that are printed.
 ghost use Rattle.std.specs.Prelude.{◌≡◌, ◌≤◌, ◌++◌, codes, length};
-ghost use Rattle.vg_top.specs.Lines.{verified_line, totals_line, wrong_text, field_name, header_line, damage_name, record_line, text_name, unbuilt_name, usage_line, refusal_text};
+ghost use Rattle.vg_top.specs.Lines.{verified_line, totals_line, wrong_text, field_name, damage_name, capture_line, text_name, unbuilt_name, usage_line, refusal_text};
 
 use crate::report::Report;
-use crate::stop::{Damage, Stop, Unbuilt};
+use crate::stop::{Stop, Unbuilt};
 use arrayvec::ArrayString;
 use itoa::Buffer;
-use vg_pcap::HeaderField;
+use vg_pcap::{CaptureRefusal, Damage, HeaderField};
 use vg_replay::Totals;
 use vg_small::Lang;
 
@@ -81,21 +81,6 @@ fn field_name(field: HeaderField) -> &'static str
     }
 }
 
-// What is printed of a header that is refused.
-#[tactic(auto, unfolding(crate::specs::Lines::header_line))]
-fn header_line(port: u16, field: HeaderField) -> ArrayString<200>
-    ensures { result.bytes ≡ header_line port field }
-{
-    let mut line = ArrayString::new();
-    let mut digits = Buffer::new();
-    line.push_str("capture ");
-    line.push_str(digits.format(port));
-    line.push_str(" header ");
-    line.push_str(field_name(field));
-    line.push_str("\n");
-    line
-}
-
 fn damage_name(damage: Damage) -> &'static str
     ensures name { result.now ≡ damage_name damage }
     ensures short { length result.now ≤ 8 }
@@ -107,19 +92,27 @@ fn damage_name(damage: Damage) -> &'static str
     }
 }
 
-// What is printed of a record that is refused.
-#[tactic(auto, unfolding(crate::specs::Lines::record_line))]
-fn record_line(port: u16, number: u64, damage: Damage) -> ArrayString<200>
-    ensures { result.bytes ≡ record_line port number damage }
+// What is printed of a capture that is refused.
+#[tactic(auto, unfolding(crate::specs::Lines::capture_line))]
+fn capture_line(port: u16, refusal: CaptureRefusal) -> ArrayString<200>
+    ensures { result.bytes ≡ capture_line port refusal }
 {
     let mut line = ArrayString::new();
     let mut digits = Buffer::new();
     line.push_str("capture ");
     line.push_str(digits.format(port));
-    line.push_str(" nth ");
-    line.push_str(digits.format(number));
-    line.push_str(" ");
-    line.push_str(damage_name(damage));
+    match refusal {
+        CaptureRefusal::Header(field) => {
+            line.push_str(" header ");
+            line.push_str(field_name(field));
+        }
+        CaptureRefusal::Record { number, why } => {
+            line.push_str(" nth ");
+            line.push_str(digits.format(number));
+            line.push_str(" ");
+            line.push_str(damage_name(why));
+        }
+    }
     line.push_str("\n");
     line
 }
@@ -174,12 +167,7 @@ pub fn refusal_text(stop: Stop) -> ArrayString<200>
     match stop {
         Stop::Wrong { at, port } => wrong_text(at, port),
         Stop::Usage => usage_line(),
-        Stop::Header { port, field } => header_line(port, field),
-        Stop::Record {
-            port,
-            number,
-            damage,
-        } => record_line(port, number, damage),
+        Stop::Capture { port, refusal } => capture_line(port, refusal),
         Stop::Read => line_of_two("read ", "fault"),
         Stop::Write => line_of_two("write ", "fault"),
         Stop::Memory => line_of_two("no ", "memory"),

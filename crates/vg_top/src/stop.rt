@@ -1,9 +1,8 @@
 //! Why a run stops early.
 ghost use Rattle.std.specs.Prelude.{◌≡◌};
-ghost use Rattle.vg_replay.specs.declared.stop.RunStop.{RunStop};
 ghost use Rattle.vg_top.specs.Stops.{stop_of};
 
-use vg_pcap::{CaptureFault, HeaderField};
+use vg_pcap::CaptureRefusal;
 use vg_replay::RunStop;
 use vg_small::Lang;
 
@@ -16,40 +15,17 @@ pub enum Unbuilt {
     Text(Lang),
 }
 
-/// Why a record of a capture is refused.
-#[derive(Clone, Copy, Debug, PartialEq, Eq)]
-pub enum Damage {
-    /// The file ends inside it.
-    Cut,
-    /// It says that more than 262,144 bytes of it were captured.
-    Long,
-    /// The fraction of its time is a second or more.
-    Fraction,
-}
-
 /// Why a run stopped early.
 #[derive(Clone, Copy, Debug, PartialEq, Eq)]
 pub enum Stop {
     /// The C function and its specification give a frame of this port different verdicts. The name of the C function stands
     /// `at` this byte of its text.
-    Wrong {
-        at: u32,
-        port: u16,
-    },
+    Wrong { at: u32, port: u16 },
     /// The words are those of no command, or name captures of another number of ports than the specification declares.
     Usage,
-    /// The header of this port's capture is refused. Nothing was created.
-    Header {
-        port: u16,
-        field: HeaderField,
-    },
-    /// A record of this port's capture is refused; records are counted from 1. The frames up to the port's last good one were
-    /// handled, and none where its first record is refused.
-    Record {
-        port: u16,
-        number: u64,
-        damage: Damage,
-    },
+    /// This port's capture is refused. Where its header is, nothing was created. Where a record is, the frames up to the port's
+    /// last good one were handled, and none where its first record is refused.
+    Capture { port: u16, refusal: CaptureRefusal },
     /// A file couldn't be read.
     Read,
     /// A file couldn't be written.
@@ -74,7 +50,7 @@ impl Stop {
         match self {
             Stop::Wrong { .. } => 1,
             Stop::Usage => 2,
-            Stop::Header { .. } | Stop::Record { .. } => 5,
+            Stop::Capture { .. } => 5,
             Stop::Read => 6,
             Stop::Write => 7,
             Stop::Memory => 8,
@@ -89,29 +65,10 @@ pub(crate) fn stop_of(stop: RunStop) -> Stop
     ensures { result ≡ stop_of stop }
 {
     match stop {
-        RunStop::Capture { port, fault } => capture_stop(port, fault),
+        RunStop::Capture { port, refusal } => Stop::Capture { port, refusal },
         RunStop::Read => Stop::Read,
         RunStop::Write => Stop::Write,
         RunStop::Frames => Stop::Frames,
         RunStop::Memory => Stop::Memory,
-    }
-}
-
-// Why a run stops where a port's capture can't be read on.
-fn capture_stop(port: u16, fault: CaptureFault) -> Stop
-    ensures { result ≡ stop_of (RunStop.Capture port fault) }
-{
-    let (number, damage) = match fault {
-        CaptureFault::Header(field) => return Stop::Header { port, field },
-        CaptureFault::Read => return Stop::Read,
-        CaptureFault::Memory => return Stop::Memory,
-        CaptureFault::Cut(number) => (number, Damage::Cut),
-        CaptureFault::Long(number) => (number, Damage::Long),
-        CaptureFault::Fraction(number) => (number, Damage::Fraction),
-    };
-    Stop::Record {
-        port,
-        number,
-        damage,
     }
 }

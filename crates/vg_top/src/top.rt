@@ -3,17 +3,12 @@ ghost use Rattle.std.specs.Prelude.{◌≡◌, ◌≤◌, ◌+◌, ◌*◌, ◌�
 ghost use Rattle.vg_base.specs.Files.{SameHeld, SameIds};
 ghost use Rattle.vg_command.specs.Commands.{words_in, AreFiles};
 ghost use Rattle.vg_command.specs.View.{files_of};
-ghost use Rattle.vg_small.specs.declared.small.Lang.{Lang};
-ghost use Rattle.vg_pcap.specs.declared.faults.HeaderField.{HeaderField};
-ghost use Rattle.vg_top.specs.declared.stop.Damage.{Damage};
-ghost use Rattle.vg_top.specs.declared.stop.Stop.{Stop};
-ghost use Rattle.vg_top.specs.declared.stop.Unbuilt.{Unbuilt};
 ghost use Rattle.vg_top.specs.Runs.{IsRun, RefusesWords};
 ghost use Rattle.vg_top.specs.Endings.{Ending, ComesTo};
-ghost use Rattle.vg_top.specs.Statuses.{status_of, status_at, IsStatus, IsFaultOrMemory};
+ghost use Rattle.vg_top.specs.Statuses.{status_of, status_at, IsFaultOrMemory};
 ghost use Rattle.vg_top.specs.Lines.{refusal_text};
-ghost use Rattle.vg_top.specs.Effects.{Unwritten, BeganReplay, IsDone, IsStopped, FailsPrinting};
-ghost use Rattle.vg_top.specs.Running.{Runs, Prints};
+ghost use Rattle.vg_top.specs.Effects.{Unwritten, BeganReplay, RunsOn, Prints, Answers};
+ghost use Rattle.vg_top.specs.Running.{Runs};
 
 use crate::agreement::{most_steps, path_count};
 use crate::lines::{refusal_text, report_text};
@@ -103,40 +98,16 @@ pub fn refuse<O: Sink>(out: &mut O, stop: Stop) -> Status
 /// both texts and the headers of all captures were found good. There must be room for 33 more open files: the captures in and out of 16 ports, and the log.
 pub fn run<F: Files, O: Sink>(alloc: Global, words: &[String], files: &mut F, out: &mut O) -> Status
     requires { (F.disk files.old).open_count + (2 * MOST_PORTS + 1) ≤ MAX_OPEN }
-    ensures known { IsStatus result.0 }
-    ensures done { result.0 ≡ 0 →
-        IsDone (words_in words.now) (F.disk files.old) (F.disk files.new) (O.flow out.old) (O.flow out.new) }
-    ensures wrong { result.0 ≡ 1 → (at : ℕ) × (port : ℕ) ×
-        IsStopped (words_in words.now) (F.disk files.old) (F.disk files.new) (O.flow out.old) (O.flow out.new) (Stop.Wrong at port) }
-    ensures usage { result.0 ≡ 2 →
-        IsStopped (words_in words.now) (F.disk files.old) (F.disk files.new) (O.flow out.old) (O.flow out.new) Stop.Usage }
-    ensures capture { result.0 ≡ 5 →
-        ((port : ℕ) × (field : HeaderField) ×
-        IsStopped (words_in words.now) (F.disk files.old) (F.disk files.new) (O.flow out.old) (O.flow out.new) (Stop.Header port field))
-        ⊎ ((port : ℕ) × (number : ℕ) × (damage : Damage) ×
-        IsStopped (words_in words.now) (F.disk files.old) (F.disk files.new) (O.flow out.old) (O.flow out.new) (Stop.Record port number damage)) }
-    ensures limit { result.0 ≡ 11 →
-        ((lang : Lang) × IsStopped (words_in words.now) (F.disk files.old) (F.disk files.new) (O.flow out.old) (O.flow out.new) (Stop.Limit lang))
-        ⊎ IsStopped (words_in words.now) (F.disk files.old) (F.disk files.new) (O.flow out.old) (O.flow out.new) Stop.Frames }
-    ensures not_built { result.0 ≡ 12 → (what : Unbuilt) ×
-        IsStopped (words_in words.now) (F.disk files.old) (F.disk files.new) (O.flow out.old) (O.flow out.new) (Stop.NotBuilt what) }
+    ensures answers { Answers (words_in words.now) (F.disk files.old) (F.disk files.new) (O.flow out.old) (O.flow out.new) result.0 }
 
     // What the words and the files come to is answered, but for a fault or want of memory.
     ensures exactly { IsTrue (F.disk files.old).tells_held →
         (ending : Ending) → ComesTo (F.disk files.old) (words_in words.now) ending →
         (result.0 ≡ status_at ending) ⊎ IsFaultOrMemory result.0 }
 
-    ensures read { result.0 ≡ 6 →
-        IsStopped (words_in words.now) (F.disk files.old) (F.disk files.new) (O.flow out.old) (O.flow out.new) Stop.Read }
-    ensures write { result.0 ≡ 7 →
-        IsStopped (words_in words.now) (F.disk files.old) (F.disk files.new) (O.flow out.old) (O.flow out.new) Stop.Write
-        ⊎ FailsPrinting (words_in words.now) (F.disk files.old) (F.disk files.new) (O.flow out.old) (O.flow out.new) }
-    ensures memory { result.0 ≡ 8 →
-        IsStopped (words_in words.now) (F.disk files.old) (F.disk files.new) (O.flow out.old) (O.flow out.new) Stop.Memory }
-
     // Whatever the status: each output was left as it was or holds no more than first bytes of what it should, and what can be read stays.
     ensures outputs { Unwritten (F.disk files.old) (F.disk files.new)
-        ⊎ BeganReplay (words_in words.now) (F.disk files.old) (F.disk files.new) }
+        ⊎ RunsOn (words_in words.now) (BeganReplay (F.disk files.old) (F.disk files.new)) }
     ensures held { SameHeld (F.disk files.old) (F.disk files.new) }
     ensures ids { SameIds (F.disk files.old) (F.disk files.new) }
     ensures tells { (O.flow out.new).tells_made ≡ (O.flow out.old).tells_made }
