@@ -4,7 +4,7 @@ use Rattle.std.specs.Prelude.{◌&&◌}
 use Rattle.std.proofs.lemmas.Bool.{and_parts}
 use Rattle.std.proofs.lemmas.Option.{slice_get_past}
 use Rattle.vg_ctok.specs.declared.kinds.Token.{Token}
-use Rattle.vg_cread.specs.Forms.{Form, Plain, Place, One, Both, Either, Chain, Inner, Made, Nested, Growth}
+use Rattle.vg_cread.specs.Forms.{Form, Plain, Place, One, Unless, Both, Either, Chain, Inner, Made, Nested, Growth}
 use Rattle.vg_cread.specs.Places.{State, place_at, passes, tested}
 use Rattle.vg_cread.specs.Spelling.{Spelled, Turns, spelled_with}
 use Rattle.vg_cread.specs.Reading.{Reads, ◌>>=◌, taken, grown, turn, turns, read_with}
@@ -16,6 +16,7 @@ abbrev pub tidy : {A : Type 0} → Form A → Bool
 tidy (Plain a) = true
 tidy Place = true
 tidy (One test) = true
+tidy (Unless test) = true
 tidy (Both f x) = tidy f && tidy x
 tidy (Either test x y) = tidy x && tidy y
 tidy (Chain test x more) = tidy x && eats more && tidy more
@@ -54,6 +55,7 @@ module _ (toks : List Token) where
   complete inner says gain h (Plain b) neat s a t (same, to) = ap (λ (u : State). ok_at b u) (sym to) ∙ ap (λ c. ok_at c t) (sym same)
   complete inner says gain h Place neat s a t (same, to) = ap (λ (u : State). ok_at (place_at toks s.at) u) (sym to) ∙ ap (λ c. ok_at c t) (sym same)
   complete inner says gain h (One test) neat s a t (x, found, is, to) = one_read test s t a x found is to
+  complete inner says gain h (Unless test) neat s a t (unless, to) = rw unless (ap (λ (u : State). ok_at a u) (sym to))
   complete inner says gain h (Both f x) neat s b t (g, u, a, one, two, same) =
       let parts = and_parts (tidy f) (tidy x) neat in
       both_read (read_with toks inner f) (read_with toks inner x) s u t g a b (complete inner says gain h f parts.0 s g u one) (complete inner says gain h x parts.1 u a t two) same
@@ -106,6 +108,8 @@ module _ (toks : List Token) where
   sound inner says gain h (Plain b) neat s a t e = (sym (same_value e), sym (same_state e))
   sound inner says gain h Place neat s a t e = (sym (same_value e), sym (same_state e))
   sound inner says gain h (One test) neat s a t e = one_spelled test s a t (slice_get toks s.at) refl e
+  sound inner says gain h (Unless test) neat s a t e =
+      either_side (passes test (slice_get toks s.at)) (λ so is. absurd (cc)) (λ unless is. (unless, sym (same_state is))) e
   sound inner says gain h (Both f x) neat s b t e =
       let parts = and_parts (tidy f) (tidy x) neat in
       let one = bound (read_with toks inner f s) (λ p. read_with toks inner x p.1 >>= λ q. Ok (p.0 q.0, q.1)) e in

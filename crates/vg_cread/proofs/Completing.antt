@@ -5,7 +5,7 @@ use Rattle.std.proofs.lemmas.Bool.{cases_eq}
 use Rattle.std.proofs.lemmas.Option.{slice_get_past}
 use Rattle.std.proofs.lemmas.List.{take-append-drop, length-take-le, append_assoc, length_push}
 use Rattle.vg_ctok.specs.declared.kinds.Token.{Token}
-use Rattle.vg_cread.specs.Forms.{Form, Plain, Place, One, Both, Either, Chain, Inner, Made, Nested, Growth}
+use Rattle.vg_cread.specs.Forms.{Form, Plain, Place, One, Unless, Both, Either, Chain, Inner, Made, Nested, Growth}
 use Rattle.vg_cread.specs.Grammar.{begins, form, unit}
 use Rattle.vg_cread.specs.Places.{State, place_at, passes, tested}
 use Rattle.vg_cread.specs.Spelling.{Spelled, Turns, spelled_with, spelled_inner, spelled, start}
@@ -14,7 +14,7 @@ use Rattle.vg_cread.proofs.Onward.{eats, further, further-least}
 use Rattle.vg_cread.proofs.Rooms.{form_eats}
 use Rattle.vg_cread.proofs.Prefixes.{get_front}
 use Rattle.vg_cread.proofs.Shortest.{whole, fits, calls, form_fits, unit_fits}
-use Rattle.vg_cread.proofs.Going.{bool_cases, halts, halts_second, halts_both, halts_left, halts_right, halts_side, halts_first, halts_more, halts_test, halts_form, fits_both, fits_either, fits_chain, Gaining, spelled_gains, turns_gain, Goes, ends, begins_at, goes_one, goes_both, goes_left, goes_right, goes_made, goes_form, Rounds, goes_chain, Stands, Ready, stands_front, stands_back, both_end, shortest, room_begins}
+use Rattle.vg_cread.proofs.Going.{bool_cases, halts, halts_none, halts_second, halts_both, halts_left, halts_right, halts_side, halts_first, halts_more, halts_test, halts_form, fits_both, fits_either, fits_chain, Gaining, spelled_gains, turns_gain, Goes, ends, begins_at, goes_one, goes_none, goes_both, goes_left, goes_right, goes_made, goes_form, Rounds, goes_chain, Stands, Ready, stands_front, stands_back, both_end, shortest, room_begins}
 
 below_or : (a b : ℕ) → a ≤ b → (a < b) ⊎ (a ≡ b)
 below_or a b le = elim (cases_eq a b) [
@@ -33,6 +33,7 @@ all_called : {A : Type 0} (f : Form A) → calls (λ n. true) f ≡ true
 all_called (Plain a) = refl
 all_called Place = refl
 all_called (One test) = refl
+all_called (Unless test) = refl
 all_called (Both f x) = and_both (calls (λ n. true) f) (calls (λ n. true) x) (all_called f) (all_called x)
 all_called (Either test x y) = all_called y
 all_called (Chain test x more) = all_called x
@@ -79,6 +80,13 @@ module _ (toks : List Token) (i : ℕ) where
     sure (One test) fit s a t (x, found, is, to) le ended =
         let next : t.at ≡ s.at + 1 = ap (λ (u : State). u.at) to in
         ends all far (One test) s.at (s.at + 1) t.at (sym next) (goes_one all far test s.at x (agrees s.at (omega (arith, next, le)) ∙ found) (ap is_some is))
+    sure (Unless test) fit s a t (unless, to) le ended =
+        let here : t.at ≡ s.at = ap (λ (u : State). u.at) to in
+        let none : passes test (slice_get all s.at) ≡ false = elim (below_or s.at i (omega (arith, here, le))) [
+          | inl less ↦ same_test test s.at less ∙ unless
+          | inr end ↦ ap (λ n. passes test (slice_get all n)) end ∙ halts_none test (slice_get all i) (ended (here ∙ end))
+        ] in
+        ends all far (Unless test) s.at s.at t.at (sym here) (goes_none all far test s.at none)
     sure (Both f x) fit s b t (g, u, a, one, two, same) le ended =
         let parts = fits_both f x fit in
         let step = spelled_gains toks says gain x u a t two in
@@ -139,6 +147,7 @@ module _ (toks : List Token) (i : ℕ) where
     comes_within (Plain a) s is = absurd is
     comes_within Place s is = absurd is
     comes_within (One test) s (here, none) = omega (arith, here)
+    comes_within (Unless test) s (here, so) = omega (arith, here)
     comes_within (Both f x) s (inl first) = comes_within f s first
     comes_within (Both f x) s (inr (g, u, one, second)) = omega (arith, further-least (eats f) s.at u.at (spelled_gains toks says gain f s g u one), comes_within x u second)
     comes_within (Either test x y) s (inl (so, is)) = comes_within x s is
@@ -207,6 +216,7 @@ module _ (toks : List Token) (i : ℕ) where
       complete (Plain a) fit inner s is less = absurd is
       complete Place fit inner s is less = absurd is
       complete (One test) fit inner s (here, none) less = absurd (omega (arith, here, less))
+      complete (Unless test) fit inner s (here, so) less = absurd (omega (arith, here, less))
       complete (Both f x) fit inner s (inl first) less =
           let parts = fits_both f x fit in
           let c = complete f parts.0 inner s first less in (

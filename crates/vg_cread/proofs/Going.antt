@@ -3,7 +3,7 @@ use Rattle.std.proofs.Common.{◌≡◌, ◌∙◌, ◌≤◌, ◌+◌, ◌⊎�
 use Rattle.std.specs.Prelude.{◌&&◌, ◌||◌, not, cond, is_some}
 use Rattle.std.proofs.lemmas.Bool.{and_parts, not-true}
 use Rattle.vg_ctok.specs.declared.kinds.Token.{Token}
-use Rattle.vg_cread.specs.Forms.{Form, Plain, Place, One, Both, Either, Chain, Inner, Made, Nested, Growth}
+use Rattle.vg_cread.specs.Forms.{Form, Plain, Place, One, Unless, Both, Either, Chain, Inner, Made, Nested, Growth}
 use Rattle.vg_cread.specs.Grammar.{begins, form}
 use Rattle.vg_cread.specs.Places.{State, place_at, passes}
 use Rattle.vg_cread.specs.Spelling.{Spelled, Turns, spelled_with, spelled_inner}
@@ -18,6 +18,10 @@ bool_cases false = inr refl
 abbrev pub halts : {A : Type 0} → Form A → Option Token → Bool
 halts f None = true
 halts f (Some t) = stops f t
+
+pub halts_none : (test : Token → Bool) (o : Option Token) → halts (Unless test) o ≡ true → passes test o ≡ false
+halts_none test None is = refl
+halts_none test (Some t) is = not-true (test t) is
 
 pub halts_second : {A B : Type 0} (f : Form (A → B)) (x : Form A) (o : Option Token) → halts (Both f x) o ≡ true → halts x o ≡ true
 halts_second f x None is = refl
@@ -109,6 +113,7 @@ module _ (toks : List Token) where
   spelled_gains says h (Plain b) s a t (same, to) = subst (λ (u : State). s.at ≤ u.at) (sym to) (omega arith)
   spelled_gains says h Place s a t (same, to) = subst (λ (u : State). s.at ≤ u.at) (sym to) (omega arith)
   spelled_gains says h (One test) s a t (x, found, is, to) = subst (λ (u : State). s.at + 1 ≤ u.at) (sym to) (omega arith)
+  spelled_gains says h (Unless test) s a t (unless, to) = subst (λ (u : State). s.at ≤ u.at) (sym to) (omega arith)
   spelled_gains says h (Both f x) s b t (g, u, a, one, two, same) = further-both (eats f) (eats x) s.at u.at t.at (spelled_gains says h f s g u one) (spelled_gains says h x u a t two)
   spelled_gains says h (Either test x y) s a t (inl (so, one)) = further-first (eats x) (eats y) s.at t.at (spelled_gains says h x s a t one)
   spelled_gains says h (Either test x y) s a t (inr (unless, two)) = further-second (eats x) (eats y) s.at t.at (spelled_gains says h y s a t two)
@@ -133,6 +138,9 @@ module _ (all : List Token) where
   goes_one says test i x found so = λ s e.
       let v = some_of (test x) so in
       (v.0, record s { at = s.at + 1 }, (x, ap (λ n. slice_get all n) e ∙ found, v.1, refl), ap (λ n. n + 1) e)
+
+  pub goes_none : (says : Nested → Spelled ℕ) (test : Token → Bool) (i : ℕ) → passes test (slice_get all i) ≡ false → Goes says (Unless test) i i
+  goes_none says test i unless = λ s e. (tt, s, (ap (λ n. passes test (slice_get all n)) e ∙ unless, refl), e)
 
   pub goes_both : {A B : Type 0} (says : Nested → Spelled ℕ) (f : Form (A → B)) (x : Form A) (i j k : ℕ) → Goes says f i j → Goes says x j k → Goes says (Both f x) i k
   goes_both says f x i j k one two = λ s e.
@@ -231,6 +239,9 @@ module _ (all : List Token) where
       let first = passing (λ t. is_some (test t)) samples fit in
       let here = subst (λ ts. Stands i ts) first.1 stand in
       ends says (One test) i (i + 1) k (omega (arith, far, ap length first.1)) (goes_one says test i first.0 here.0 first.2)
+  shortest ready says h (Unless test) fit call i k far stand is =
+      let here : k ≡ i = omega (arith, far) in
+      ends says (Unless test) i i k (sym here) (goes_none says test i (ap (λ n. passes test (slice_get all n)) (sym here) ∙ halts_none test (slice_get all k) is))
   shortest ready says h (Both f x) fit call i k far stand is =
       let parts = fits_both f x fit in
       let called = and_parts (calls ready f) (calls ready x) call in

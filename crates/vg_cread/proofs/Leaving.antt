@@ -5,7 +5,7 @@ use Rattle.vg_core.specs.Syntax.{Syntax, with_parts, list_of, named_by, listed, 
 use Rattle.vg_core.specs.declared.tree.Kind.{Kind}
 use Rattle.vg_core.specs.declared.tree.Parts.{Parts}
 use Rattle.vg_ctok.specs.declared.kinds.Token.{Token}
-use Rattle.vg_cread.specs.Forms.{Form, Plain, Place, One, Both, Either, Chain, Inner, Made, Nested, Growth, node, node_with}
+use Rattle.vg_cread.specs.Forms.{Form, Plain, Place, One, Unless, Both, Either, Chain, Inner, Made, Nested, Growth, node, node_with}
 use Rattle.vg_cread.specs.Places.{State, place_at}
 use Rattle.vg_cread.specs.Spelling.{Spelled, Turns, spelled_with}
 use Rattle.vg_cread.proofs.Waiting.{Waiting, waiting_node, waiting_parts, listed_last}
@@ -19,6 +19,7 @@ abbrev pub Leaves : {A : Type 0} → Form A → List ℕ → (A → List ℕ →
 Leaves (Plain a) l P = P a l
 Leaves Place l P = (at : ℕ) → P at l
 Leaves (One test) l P = (x : Token) (a : _) → test x ≡ Some a → P a l
+Leaves (Unless test) l P = (a : Unit {0}) → P a l
 Leaves (Both f x) l P = Leaves f l (λ g m. Leaves x m (λ a k. P (g a) k))
 Leaves (Either test x y) l P = Leaves x l P × Leaves y l P
 Leaves (Chain test x more) l P =
@@ -51,6 +52,7 @@ module _ (toks : List Token) where
   leaves says keep (Plain b) l P h s a t row (same, to) w = subst (λ (u : State). Left row P a u) (sym to) (subst (λ c. Left row P c s) (sym same) (l, w, h))
   leaves says keep Place l P h s a t row (same, to) w = subst (λ (u : State). Left row P a u) (sym to) (l, w, h a)
   leaves says keep (One test) l P h s a t row (x, found, is, to) w = subst (λ (u : State). Left row P a u) (sym to) (l, w, h x a is)
+  leaves says keep (Unless test) l P h s a t row (unless, to) w = subst (λ (u : State). Left row P a u) (sym to) (l, w, h a)
   leaves says keep (Both f x) l P h s b t row (g, u, a, one, two, same) w =
       let first = leaves says keep f l (λ g m. Leaves x m (λ a k. P (g a) k)) h s g u row one w in
       let second = leaves says keep x first.0 (λ a k. P (g a) k) first.2 u a t row two first.1 in

@@ -10,7 +10,7 @@ use Rattle.vg_ctok.specs.declared.kinds.Keyword.{Keyword}
 use Rattle.vg_ctok.specs.declared.kinds.Keyword.TheVariants as words
 use Rattle.vg_ctok.specs.declared.kinds.Sign.{Sign}
 use Rattle.vg_cread.specs.Forms.{Nested, Expression, Operand, Statement, Body}
-use Rattle.vg_cread.specs.Grammar.{form, sign, word, name, flagged, base, int_type, star, handle, array_length, initial, expression, operator, binary, link, unary, postfix, suffix, primary, arguments, opened, statement, block, pieces, piece, declaration, if_statement, otherwise, for_statement, step, return_statement, simple_statement, assignment, action, field, fields, attribute, packing, struct_item, extern_item, param, params, answer, function, item, items, unit}
+use Rattle.vg_cread.specs.Grammar.{form, sign, word, name, flagged, base, int_type, star, handle, array_length, initial, expression, operator, binary, link, unary, postfix, suffix, primary, arguments, no_postfix, opened, statement, block, pieces, piece, declaration, if_statement, otherwise, for_statement, step, return_statement, simple_statement, assignment, action, field, fields, attribute, packing, struct_item, extern_item, param, params, answer, function, item, items, unit}
 use Rattle.vg_cread.specs.Spelling.{spelled_inner, start, Spells}
 use Rattle.vg_cread.proofs.Waiting.{Waiting, waiting_none, used_once}
 use Rattle.vg_cread.proofs.Leaving.{Leaves, Keeps, leaves, Takes, Passes, Names, itself, takes_node, takes_list}
@@ -59,9 +59,9 @@ arguments_names l P h = (
 )
 
 opened_names : Names opened itself
-unfolding opened sign
+unfolding opened no_postfix sign
 opened_names l P h = λ at x a is. (
-  base_passes [] _ (λ b. star_passes [] _ (λ pointer y c so k. (itself, takes_node at (nodes.Cast b pointer k) (k ∷ []) (λ items. (omega arith, refl)), h))),
+  base_passes [] _ (λ b. star_passes [] _ (λ pointer y c so k u. (itself, takes_node at (nodes.Cast b pointer k) (k ∷ []) (λ items. (omega arith, refl)), h))),
   λ k y c so. (itself, takes_node at (nodes.Parens k) (k ∷ []) (λ items. (omega arith, refl)), h),
 )
 
@@ -93,11 +93,11 @@ unfolding postfix
 postfix_names l P h = (itself, primary_names [] _ (λ k. refl), suffix_takes, h)
 
 unary_names : Names unary itself
-unfolding unary word sign
+unfolding unary no_postfix word sign
 unary_names l P h = (
-  (λ at x op is k. (itself, takes_node at (nodes.Unary op k) (k ∷ []) (λ items. (omega arith, refl)), h)),
+  (λ at x op is k u. (itself, takes_node at (nodes.Unary op k) (k ∷ []) (λ items. (omega arith, refl)), h)),
   (
-    (λ at x a is y b so. base_passes [] _ (λ t z c closed. (itself, takes_node at (nodes.Sizeof t) [] (λ items. (omega arith, refl)), h))),
+    (λ at x a is y b so. base_passes [] _ (λ t z c closed u. (itself, takes_node at (nodes.Sizeof t) [] (λ items. (omega arith, refl)), h))),
     postfix_names l P h,
   ),
 )

@@ -3,7 +3,7 @@ use Rattle.std.proofs.Common.{◌≡◌, ◌∙◌, ◌≤◌, ◌+◌, ◌-◌,
 use Rattle.std.specs.Prelude.{◌&&◌}
 use Rattle.std.proofs.lemmas.Bool.{and_parts}
 use Rattle.vg_ctok.specs.declared.kinds.Token.{Token}
-use Rattle.vg_cread.specs.Forms.{Form, Plain, Place, One, Both, Either, Chain, Inner, Made, Nested, Growth}
+use Rattle.vg_cread.specs.Forms.{Form, Plain, Place, One, Unless, Both, Either, Chain, Inner, Made, Nested, Growth}
 use Rattle.vg_cread.specs.Grammar.{begins, form, unit}
 use Rattle.vg_cread.specs.Places.{State, place_at, passes, tested}
 use Rattle.vg_cread.specs.Spelling.{Spelled, spelled_with, spelled_inner, start}
@@ -20,7 +20,7 @@ bound_stops : {A B : Type 0} (r : Result (A × State) Refusal) (k : A × State �
 bound_stops (Ok p) k e is = inr (p, refl, is)
 bound_stops (Err f) k e is = inl (cc)
 
-err_at : {A : Type 0} → Refusal → Result (A × State) Refusal
+abbrev err_at : {A : Type 0} → Refusal → Result (A × State) Refusal
 err_at e = Err e
 
 refusal_or : {A : Type 0} → Refusal → Result (A × State) Refusal → Refusal
@@ -76,6 +76,8 @@ module _ (toks : List Token) where
   stops_with inner says lacks deeper e gain ok one more (Plain a) neat s is = absurd (cc)
   stops_with inner says lacks deeper e gain ok one more Place neat s is = absurd (cc)
   stops_with inner says lacks deeper e gain ok one more (One test) neat s is = let stop = taken_stops (tested test (slice_get toks s.at)) s e is in (one s stop.0, stop.1)
+  stops_with inner says lacks deeper e gain ok one more (Unless test) neat s is =
+      either_side (passes test (slice_get toks s.at)) (λ so is. (one s (sym (same_refusal (Wrong s.at) e (err_at (Wrong s.at)) refl is)), so)) (λ unless is. absurd (cc)) is
   stops_with inner says lacks deeper e gain ok one more (Both f x) neat s is =
       let parts = and_parts (tidy f) (tidy x) neat in
       elim (bound_stops (read_with toks inner f s) (λ p. read_with toks inner x p.1 >>= λ q. Ok (p.0 q.0, q.1)) e is) [
@@ -171,6 +173,7 @@ module _ (toks : List Token) where
   comes_back inner says lacks deeper e gain ok one more (Plain a) neat s is = absurd is
   comes_back inner says lacks deeper e gain ok one more Place neat s is = absurd is
   comes_back inner says lacks deeper e gain ok one more (One test) neat s (here, none) = one_back test s e (one s here) none
+  comes_back inner says lacks deeper e gain ok one more (Unless test) neat s (here, so) = rw so (ap (λ f. Err f) (sym (one s here)))
   comes_back inner says lacks deeper e gain ok one more (Both f x) neat s (inl first) =
       first_back (read_with toks inner f) (read_with toks inner x) s e (comes_back inner says lacks deeper e gain ok one more f (and_parts (tidy f) (tidy x) neat).0 s first)
   comes_back inner says lacks deeper e gain ok one more (Both f x) neat s (inr (g, u, first, second)) =

@@ -3,9 +3,9 @@ use Rattle.std.proofs.Common.{◌≡◌, ◌∙◌, ◌≤◌, ◌+◌, inl, inr
 use Rattle.std.proofs.lemmas.Option.{slice_get_within, slice_get_cases}
 use Rattle.vg_core.specs.Syntax.{Syntax}
 use Rattle.vg_ctok.specs.declared.kinds.Token.{Token}
-use Rattle.vg_cread.specs.Forms.{Form, Plain, Place, One, Both, Either, Chain, Inner, Made, Nested, Expression, Operand, Statement, Body, Growth}
+use Rattle.vg_cread.specs.Forms.{Form, Plain, Place, One, Unless, Both, Either, Chain, Inner, Made, Nested, Expression, Operand, Statement, Body, Growth}
 use Rattle.vg_cread.specs.Kinds.{any_token}
-use Rattle.vg_cread.specs.Grammar.{begins, form, sign, word, name, flagged, base, int_type, star, handle, array_length, initial, expression, operator, binary, link, unary, postfix, suffix, primary, arguments, opened, statement, block, pieces, piece, declaration, if_statement, otherwise, for_statement, step, return_statement, simple_statement, assignment, action, field, fields, attribute, packing, struct_item, extern_item, param, params, answer, function, item, items, unit}
+use Rattle.vg_cread.specs.Grammar.{begins, form, sign, word, name, flagged, base, int_type, star, handle, array_length, initial, expression, operator, binary, link, unary, postfix, suffix, primary, arguments, opened, no_postfix, statement, block, pieces, piece, declaration, if_statement, otherwise, for_statement, step, return_statement, simple_statement, assignment, action, field, fields, attribute, packing, struct_item, extern_item, param, params, answer, function, item, items, unit}
 use Rattle.vg_cread.specs.Places.{State, place_at, passes}
 use Rattle.vg_cread.specs.Spelling.{Spelled, Turns, spelled_with, spelled_inner, spelled, start, Spells}
 use Rattle.vg_cread.specs.Reading.{read_inner, read}
@@ -14,12 +14,12 @@ use Rattle.vg_cread.proofs.Rooms.{inner_gains}
 use Rattle.vg_cread.proofs.Agreement.{tidy, complete, sound}
 
 binary_tidy : (rank : ℕ) → tidy (binary rank) ≡ true
-unfolding binary link operator unary postfix suffix primary opened arguments sign word name base int_type star
+unfolding binary link operator unary postfix suffix primary opened no_postfix arguments sign word name base int_type star
 binary_tidy zero = refl
 binary_tidy (suc rank) = rw (binary_tidy rank) refl
 
 pub form_tidy : (n : Nested) → tidy (form n) ≡ true
-unfolding expression unary postfix suffix primary opened arguments statement block pieces piece declaration if_statement otherwise for_statement step return_statement simple_statement assignment action array_length initial sign word name base int_type star
+unfolding expression unary postfix suffix primary opened no_postfix arguments statement block pieces piece declaration if_statement otherwise for_statement step return_statement simple_statement assignment action array_length initial sign word name base int_type star
 form_tidy Expression = rw (binary_tidy 10) refl
 form_tidy Operand = refl
 form_tidy Statement = refl
@@ -63,6 +63,7 @@ module _ (toks : List Token) where
   stays_with says h (Plain b) s a t (same, to) within = subst (λ (u : State). u.at ≤ length toks) (sym to) within
   stays_with says h Place s a t (same, to) within = subst (λ (u : State). u.at ≤ length toks) (sym to) within
   stays_with says h (One test) s a t (x, found, is, to) within = subst (λ (u : State). u.at ≤ length toks) (sym to) (omega (arith, slice_get_within toks s.at x found))
+  stays_with says h (Unless test) s a t (unless, to) within = subst (λ (u : State). u.at ≤ length toks) (sym to) within
   stays_with says h (Both f x) s b t (g, u, a, one, two, same) within = stays_with says h x u a t two (stays_with says h f s g u one within)
   stays_with says h (Either test x y) s a t (inl (so, one)) within = stays_with says h x s a t one within
   stays_with says h (Either test x y) s a t (inr (unless, two)) within = stays_with says h y s a t two within
@@ -113,6 +114,7 @@ module _ (toks : List Token) where
   wider one two h (Plain b) s a t is = is
   wider one two h Place s a t is = is
   wider one two h (One test) s a t is = is
+  wider one two h (Unless test) s a t is = is
   wider one two h (Both f x) s b t (g, u, a, first, second, same) = (g, u, a, wider one two h f s g u first, wider one two h x u a t second, same)
   wider one two h (Either test x y) s a t (inl (so, is)) = inl (so, wider one two h x s a t is)
   wider one two h (Either test x y) s a t (inr (unless, is)) = inr (unless, wider one two h y s a t is)

@@ -25,6 +25,8 @@ pub data Form : Type 0 → Type 1 where
   Place : Form ℕ
   -- a token of which the test gives a value
   One : {A : Type 0} → (Token → Option A) → Form A
+  -- no token, where the next one fails the test
+  Unless : (Token → Bool) → Form (Unit {0})
   -- two forms, one behind the other
   Both : {A B : Type 0} → Form (A → B) → Form A → Form B
   -- the first form where the next token passes the test, and else the second

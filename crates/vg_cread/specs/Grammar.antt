@@ -17,8 +17,8 @@ use Rattle.vg_ctok.specs.declared.kinds.Sign.TheVariants as signs
 use Rattle.vg_ctok.specs.declared.kinds.Token.{Token}
 use Rattle.vg_cread.specs.declared.statements.Action.{Action}
 use Rattle.vg_cread.specs.declared.statements.Action.TheVariants as actions
-use Rattle.vg_cread.specs.Forms.{Form, Plain, Place, One, Either, Chain, Inner, Made, Nested, Expression, Operand, Statement, Body, Growth, ◌⊛◌, ◌⊲◌, ◌⊳◌, optional, listed, same, one_more, node, node_with}
-use Rattle.vg_cread.specs.Kinds.{is_sign, is_word, name_of, number_of, number_type, int_of, handle_of, unary_of, binary_of, is_binary, assign_of, is_assign, is_number, begins_base, begins_unary, begins_expression, begins_statement, begins_piece, begins_suffix, any_token}
+use Rattle.vg_cread.specs.Forms.{Form, Plain, Place, One, Unless, Either, Chain, Inner, Made, Nested, Expression, Operand, Statement, Body, Growth, ◌⊛◌, ◌⊲◌, ◌⊳◌, optional, listed, same, one_more, node, node_with}
+use Rattle.vg_cread.specs.Kinds.{is_sign, is_word, name_of, number_of, number_type, int_of, handle_of, unary_of, binary_of, is_binary, assign_of, is_assign, is_number, begins_base, begins_unary, begins_expression, begins_statement, begins_piece, begins_suffix, is_postfix_operator, any_token}
 
 -- a sign, a keyword, a name
 unfoldable pub sign : Sign → Form (Unit {0})
@@ -63,10 +63,14 @@ abbrev pub named : ℕ → Name → Option (List ℕ) → Growth ℕ
 named at n None = node at (nodes.Variable n)
 named at n (Some parts) = node_with at (nodes.Call n) parts
 
+-- no operator that stands behind a postfix alone: none follows a cast, a sizeof, or the operand of a sign (C11 6.5.2 to 6.5.4)
+unfoldable pub no_postfix : Form (Unit {0})
+no_postfix = Unless is_postfix_operator
+
 -- in parentheses: ( base [*] ) operand | ( expression )
 unfoldable pub opened : Form ℕ
 opened = Made (Plain (λ at kind. node at kind) ⊛ Place ⊲ sign signs.LeftParen ⊛ Either begins_base
-    (Plain (λ b pointer operand. nodes.Cast b pointer operand) ⊛ base ⊛ star ⊲ sign signs.RightParen ⊛ Inner Operand)
+    (Plain (λ b pointer operand. nodes.Cast b pointer operand) ⊛ base ⊛ star ⊲ sign signs.RightParen ⊛ Inner Operand ⊲ no_postfix)
     (Plain nodes.Parens ⊛ Inner Expression ⊲ sign signs.RightParen))
 
 -- primary: what is in parentheses | number | name [ ( arguments ) ]
@@ -90,9 +94,9 @@ postfix = Chain begins_suffix primary suffix
 -- unary: (- | ~ | ! | * | &) unary | sizeof ( base ) | postfix
 unfoldable pub unary : Form ℕ
 unary = Either begins_unary
-    (Made (Plain (λ at op operand. node at (nodes.Unary op operand)) ⊛ Place ⊛ One unary_of ⊛ Inner Operand))
+    (Made (Plain (λ at op operand. node at (nodes.Unary op operand)) ⊛ Place ⊛ One unary_of ⊛ Inner Operand ⊲ no_postfix))
     (Either (is_word words.Sizeof)
-    (Made (Plain (λ at b. node at (nodes.Sizeof b)) ⊛ Place ⊲ word words.Sizeof ⊲ sign signs.LeftParen ⊛ base ⊲ sign signs.RightParen))
+    (Made (Plain (λ at b. node at (nodes.Sizeof b)) ⊛ Place ⊲ word words.Sizeof ⊲ sign signs.LeftParen ⊛ base ⊲ sign signs.RightParen ⊲ no_postfix))
     postfix)
 
 unfoldable pub operator : ℕ → Form BinaryOp

@@ -258,5 +258,9 @@ begins_piece t = begins_base t || begins_statement t
 abbrev pub begins_suffix : Token → Bool
 begins_suffix t = is_sign sign.LeftBracket t || is_sign sign.Dot t || is_sign sign.Arrow t
 
+-- the operators that stand behind a postfix alone (C11 6.5.2)
+abbrev pub is_postfix_operator : Token → Bool
+is_postfix_operator t = begins_suffix t || is_sign sign.PlusPlus t || is_sign sign.MinusMinus t
+
 abbrev pub any_token : Token → Bool
 any_token t = true

@@ -2,7 +2,7 @@
 use Rattle.std.specs.Prelude.{◌≡◌, ℕ, zero, suc, ◌+◌, List, ◌++◌, take, slice_get, Bool, true, false, Option, Some, None, ◌⊎◌}
 use Rattle.vg_core.specs.Syntax.{Syntax}
 use Rattle.vg_ctok.specs.declared.kinds.Token.{Token}
-use Rattle.vg_cread.specs.Forms.{Form, Plain, Place, One, Both, Either, Chain, Inner, Made, Nested, Growth}
+use Rattle.vg_cread.specs.Forms.{Form, Plain, Place, One, Unless, Both, Either, Chain, Inner, Made, Nested, Growth}
 use Rattle.vg_cread.specs.Grammar.{begins, form, unit}
 use Rattle.vg_cread.specs.Places.{State, place_at, passes, tested}
 use Rattle.vg_cread.specs.declared.reading.ReadFault.{ReadFault}
@@ -23,6 +23,7 @@ module _ (toks : List Token) where
   comes_with says lacks inner (Plain a) s = ⊥
   comes_with says lacks inner Place s = ⊥
   comes_with says lacks inner (One test) s = lacks s × (tested test (slice_get toks s.at) ≡ None)
+  comes_with says lacks inner (Unless test) s = lacks s × (passes test (slice_get toks s.at) ≡ true)
   comes_with says lacks inner (Both f x) s =
       comes_with says lacks inner f s ⊎ ((g : _ → _) × (u : State) × spelled_with toks says f s g u × comes_with says lacks inner x u)
   comes_with says lacks inner (Either test x y) s =

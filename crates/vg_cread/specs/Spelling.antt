@@ -3,7 +3,7 @@
 use Rattle.std.specs.Prelude.{◌≡◌, ℕ, zero, suc, ◌+◌, List, [], length, slice_get, Bool, true, false, Some, ◌⊎◌}
 use Rattle.vg_core.specs.Syntax.{Syntax}
 use Rattle.vg_ctok.specs.declared.kinds.Token.{Token}
-use Rattle.vg_cread.specs.Forms.{Form, Plain, Place, One, Both, Either, Chain, Inner, Made, Nested, Growth}
+use Rattle.vg_cread.specs.Forms.{Form, Plain, Place, One, Unless, Both, Either, Chain, Inner, Made, Nested, Growth}
 use Rattle.vg_cread.specs.Grammar.{begins, form, unit}
 use Rattle.vg_cread.specs.Places.{State, place_at, passes}
 
@@ -24,6 +24,7 @@ module _ (toks : List Token) where
   spelled_with inner (Plain a) s b t = (b ≡ a) × (t ≡ s)
   spelled_with inner Place s b t = (b ≡ place_at toks s.at) × (t ≡ s)
   spelled_with inner (One test) s b t = (x : Token) × (slice_get toks s.at ≡ Some x) × (test x ≡ Some b) × (t ≡ record s { at = s.at + 1 })
+  spelled_with inner (Unless test) s b t = (passes test (slice_get toks s.at) ≡ false) × (t ≡ s)
   spelled_with inner (Both f x) s b t = (g : _ → _) × (u : State) × (a : _) × spelled_with inner f s g u × spelled_with inner x u a t × (b ≡ g a)
   spelled_with inner (Either test x y) s b t =
       ((passes test (slice_get toks s.at) ≡ true) × spelled_with inner x s b t) ⊎ ((passes test (slice_get toks s.at) ≡ false) × spelled_with inner y s b t)

@@ -1,6 +1,6 @@
 //! What tokens are in the grammar.
 ghost use Rattle.std.specs.Prelude.{◌≡◌};
-ghost use Rattle.vg_cread.specs.Kinds.{is_sign, is_word, name_of, number_of, number_type, int_of, int_word, handle_of, handle_word, unary_of, unary_sign, binary_of, binary_sign, assign_of, assign_sign, begins_base, begins_expression, begins_statement, begins_piece, begins_suffix};
+ghost use Rattle.vg_cread.specs.Kinds.{is_sign, is_word, name_of, number_of, number_type, int_of, int_word, handle_of, handle_word, unary_of, unary_sign, binary_of, binary_sign, assign_of, assign_sign, begins_base, begins_expression, begins_statement, begins_piece, begins_suffix, is_postfix_operator};
 
 use vg_core::{BinaryOp, HandleKind, IntType, Name, UnaryOp};
 use vg_ctok::{Keyword, Number, NumberType, Sign, Token, TokenKind};
@@ -241,4 +241,11 @@ pub fn begins_suffix(t: Token) -> bool
     ensures { result ≡ begins_suffix t }
 {
     is_sign(t, Sign::LeftBracket) || is_sign(t, Sign::Dot) || is_sign(t, Sign::Arrow)
+}
+
+/// Whether a token is an operator that stands behind a postfix alone (C11 6.5.2).
+pub fn is_postfix_operator(t: Token) -> bool
+    ensures { result ≡ is_postfix_operator t }
+{
+    begins_suffix(t) || is_sign(t, Sign::PlusPlus) || is_sign(t, Sign::MinusMinus)
 }

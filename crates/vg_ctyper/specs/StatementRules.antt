@@ -55,9 +55,9 @@ abbrev pub is_call : Kind → Bool
 is_call (nodes.Call name arguments) = true
 is_call _ = false
 
--- a statement without an assignment is a call
+-- a statement without an assignment is a call; one with a fault in it breaks no rule besides
 abbrev pub evaluate_fault : Known → ℕ → ℕ → Option TypeFault
-evaluate_fault k n value = if is_call (kind_at k.tree value) then None else sooner (wants k value demands.Value 21) (fault_at k n 21)
+evaluate_fault k n value = if is_call (kind_at k.tree value) then None else used k value (fault_at k n 21)
 
 -- ---- answers (C11 6.8.6.4)
 

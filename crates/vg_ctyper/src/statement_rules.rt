@@ -162,8 +162,7 @@ impl Given<'_> {
         if is_call(self.kind(value)) {
             None
         } else {
-            let value_fault = self.wants(value, Demand::Value, 21);
-            sooner(value_fault, self.fault_at(n, 21))
+            self.used(value, self.fault_at(n, 21))
         }
     }
 

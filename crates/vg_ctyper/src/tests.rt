@@ -24,7 +24,7 @@ fn fault_of(alloc: Global, text: &str) -> Result<Option<TypeFault>, Fail> {
 const HEAD: &str = "int nf_process(uint16_t port, uint64_t now) {";
 
 // Bodies, and the rule that each breaks, with its place in the body.
-const BODIES: [(&str, u8, u32); 46] = [
+const BODIES: [(&str, u8, u32); 49] = [
     ("x = 1;", 1, 0),
     ("int a = b;", 1, 8),
     ("f();", 1, 0),
@@ -70,6 +70,9 @@ const BODIES: [(&str, u8, u32); 46] = [
     ("for (int i = 0; i < 3; i++) i = 1;", 18, 28),
     ("int a; int *p = &a; a = (int)p;", 20, 24),
     ("(packet_length());", 21, 0),
+    ("*b;", 1, 1),
+    ("int a[2]; a[b];", 1, 12),
+    ("int a; (a + b);", 1, 12),
     ("packet_borrow(port);", 22, 14),
 ];
 
@@ -118,7 +121,7 @@ fn sound_bodies_are_typed(rt: HostRuntime) -> Result<(), Fail> {
 const NF: &str = "int nf_process(uint16_t p, uint64_t n) { return -1; }";
 
 // What stands before `nf_process`, and the fault.
-const HEADS: [(&str, TypeFault); 18] = [
+const HEADS: [(&str, TypeFault); 19] = [
     (
         "struct s { int a; int a; }; ",
         TypeFault::Typing { at: 18, rule: 4 },
@@ -170,6 +173,10 @@ const HEADS: [(&str, TypeFault); 18] = [
     (
         "void f(void) { } int g(void) { return f(); } ",
         TypeFault::Typing { at: 38, rule: 21 },
+    ),
+    (
+        "void f(void) { } void g(void) { (f()); } ",
+        TypeFault::Typing { at: 33, rule: 21 },
     ),
     (
         "extern map_t m; int f(void) { return m; } ",
