@@ -6,7 +6,10 @@ ghost use Rattle.vg_cread.specs.Kinds.{is_binary, binary_of, unary_of, number_of
 ghost use Rattle.vg_cread.specs.Grammar.{expression, unary, operator, binary, link, postfix, suffix, no_postfix, opened, primary, arguments};
 ghost use Rattle.vg_cread.specs.Reading.{Gives, reads, reads_inner, turn, next, items_of};
 
-use crate::kinds::{begins_expression, begins_suffix, binary_of, is_postfix_operator, number_of, number_type, unary_of};
+use crate::kinds::{
+    begins_expression, begins_suffix, binary_of, is_postfix_operator, number_of, number_type,
+    unary_of,
+};
 use crate::reader::{Reader, Source, Stop};
 use vg_core::{BinaryOp, Kind, UnaryOp};
 use vg_ctok::{Keyword, Number, Sign};
