@@ -1,5 +1,5 @@
--- The grammar of the C profile, after C11 6.5, 6.7, 6.8 and 6.9: one form a rule, in the order of its tokens. Where a rule has a
--- choice, the next token tells which side it is. Above each rule stands its text.
+-- The grammar of the C profile, after C11 6.5, 6.7, 6.8 and 6.9: one form a rule, in the order of its tokens. Above each rule stands
+-- its text. The tests in choices and chains are for the reader.
 use Rattle.std.specs.Prelude.{ℕ, zero, suc, List, [], ◌∷◌, Bool, true, false, Option, Some, None, if◌then◌else◌}
 use Rattle.vg_core.specs.declared.tree.Name.{Name}
 use Rattle.vg_core.specs.declared.tree.Base.{Base}
@@ -143,11 +143,11 @@ unfoldable pub block : Form ℕ
 block = Made (Plain (λ at parts end. node_with at (λ statements. nodes.Block statements end) parts)
     ⊛ Place ⊲ sign signs.LeftBrace ⊛ pieces ⊛ Place ⊲ sign signs.RightBrace)
 
--- [ else statement ]
+-- [ else statement ]; an `else` belongs to the nearest `if`, so none stands behind an `if` that goes without (C11 6.8.4.1, paragraph 3)
 unfoldable pub otherwise : Form (Option ℕ)
-otherwise = optional (is_word words.Else) (word words.Else ⊳ Inner Statement)
+otherwise = Either (is_word words.Else) (Plain (λ a. Some a) ⊛ (word words.Else ⊳ Inner Statement)) (Plain (λ _. None) ⊛ Unless (is_word words.Else))
 
--- if-statement: if ( expression ) statement [ else statement ]; the else belongs to the nearest if (C11 6.8.4.1, paragraph 3)
+-- if-statement: if ( expression ) statement [ else statement ]
 unfoldable pub if_statement : Form ℕ
 if_statement = Made (Plain (λ at condition a b. node at (nodes.If condition a b))
     ⊛ Place ⊲ word words.If ⊲ sign signs.LeftParen ⊛ Inner Expression ⊲ sign signs.RightParen ⊛ Inner Statement
@@ -199,7 +199,7 @@ statement =
     (Either (is_word words.For) for_statement
     (Either (is_word words.Return) return_statement simple_statement))))
 
--- what the counted constructs begin with, and their forms
+-- what the counted constructs begin with, for the reader, and their forms
 abbrev pub begins : Nested → Token → Bool
 begins Expression = begins_expression
 begins Operand = begins_expression

@@ -60,13 +60,12 @@ pub fn number_type(of: NumberType) -> IntType
     }
 }
 
-// The integer type that a keyword names, or begins to name.
+// The integer type that a keyword names.
 fn int_word(word: Keyword) -> Option<IntType>
     ensures { result ≡ int_word word }
 {
     match word {
         Keyword::Int => Some(IntType::Int),
-        Keyword::Unsigned => Some(IntType::Unsigned),
         Keyword::Int8 => Some(IntType::Int8),
         Keyword::Int16 => Some(IntType::Int16),
         Keyword::Int32 => Some(IntType::Int32),
@@ -79,7 +78,7 @@ fn int_word(word: Keyword) -> Option<IntType>
     }
 }
 
-/// The integer type that a token names, or begins to name.
+/// The integer type that a token names.
 pub fn int_of(t: Token) -> Option<IntType>
     ensures { result ≡ int_of t }
 {
@@ -210,7 +209,7 @@ pub fn assign_of(t: Token) -> Option<Option<BinaryOp>>
 pub fn begins_base(t: Token) -> bool
     ensures { result ≡ begins_base t }
 {
-    int_of(t).is_some() || is_word(t, Keyword::Struct)
+    int_of(t).is_some() || is_word(t, Keyword::Unsigned) || is_word(t, Keyword::Struct)
 }
 
 /// Whether a token begins an expression.
