@@ -16,7 +16,7 @@ mod typed;
 mod typing;
 
 pub use fault::TypeFault;
-pub use typing::{type_unit, typed_texts};
+pub use typing::{notes_are_one, type_unit};
 
 #[cfg(test)]
 mod tests;
