@@ -5,7 +5,7 @@ ghost use Rattle.vg_cfront.specs.Refusals.{of_tokens, of_tree, of_types};
 use thiserror::Error;
 use vg_cread::ReadFault;
 use vg_ctok::TokFault;
-use vg_ctyper::TypeFault;
+use vg_ctyper::{Rule, TypeFault};
 
 /// What is wrong with a C text.
 #[derive(Clone, Copy, Debug, PartialEq, Eq, Error)]
@@ -25,9 +25,9 @@ pub enum FaultKind {
     /// The token that opens a statement, block or expression within 64 others.
     #[error("deep")]
     Deep,
-    /// A broken typing rule, by its number from 1 to 22 (docs/C_PROFILE.md).
-    #[error("type {0}")]
-    Type(u8),
+    /// A broken typing rule, printed by its number (docs/C_PROFILE.md).
+    #[error("type {}", .0.number())]
+    Type(Rule),
     /// A struct that isn't packed would get bytes at this offset.
     #[error("padded")]
     Padded(u32),

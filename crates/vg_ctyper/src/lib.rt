@@ -15,7 +15,7 @@ mod statement_rules;
 mod typed;
 mod typing;
 
-pub use fault::TypeFault;
+pub use fault::{Rule, TypeFault};
 pub use typing::{notes_are_one, type_unit};
 
 #[cfg(test)]
