@@ -1,5 +1,5 @@
 -- What the answer of the pass says of a text.
-use Rattle.std.proofs.Common.{◌≡◌, ◌∙◌, ◌⊎◌, inl, inr, ℕ, List, Result, Ok, Err, refl, sym, ap}
+use Rattle.std.proofs.Common.{◌≡◌, ◌∙◌, ◌⊎◌, inl, inr, ℕ, List, Result, Ok, Err, sym, ap}
 use Rattle.std.specs.Prelude.{IfOk, IfErr, MatchResult}
 use Rattle.vg_core.specs.Syntax.{Syntax, IsOrdered, IsUsedOnce}
 use Rattle.vg_core.specs.Units.{Typed}
