@@ -4,9 +4,10 @@ use Rattle.std.specs.Prelude.{◌&&◌}
 use Rattle.std.proofs.lemmas.Bool.{and_parts}
 use Rattle.std.proofs.lemmas.Option.{slice_get_past}
 use Rattle.vg_ctok.specs.declared.kinds.Token.{Token}
-use Rattle.vg_cread.specs.Forms.{Form, Plain, Place, One, Both, Either, Chain, Inner, Made, Nested, Growth}
+use Rattle.vg_cread.specs.Forms.{Form, Plain, Place, One, Unless, Both, Either, Chain, Inner, Made, Nested, Growth}
 use Rattle.vg_cread.specs.Places.{State, place_at, passes, tested}
-use Rattle.vg_cread.specs.Spelling.{Spelled, Turns, spelled_with}
+use Rattle.vg_cread.specs.Spelling.{Spelled}
+use Rattle.vg_cread.specs.Guided.{GuidedTurns, guided_with}
 use Rattle.vg_cread.specs.Reading.{Reads, ◌>>=◌, taken, grown, turn, turns, read_with}
 use Rattle.vg_cread.proofs.Onward.{bound, ok_at, same_state, same_value, either_side, eats, further, gains, Gains}
 use Rattle.vg_cread.proofs.Chains.{some_next}
@@ -16,6 +17,7 @@ abbrev pub tidy : {A : Type 0} → Form A → Bool
 tidy (Plain a) = true
 tidy Place = true
 tidy (One test) = true
+tidy (Unless test) = true
 tidy (Both f x) = tidy f && tidy x
 tidy (Either test x y) = tidy x && tidy y
 tidy (Chain test x more) = tidy x && eats more && tidy more
@@ -32,7 +34,7 @@ module _ (toks : List Token) where
 
   turns_read : {A : Type 0} (n left : ℕ) (test : Token → Bool) (more : Reads (ℕ → A → Growth A)) (says : Spelled (ℕ → A → Growth A)) → ((s : State) (g : ℕ → A → Growth A) (t : State) → says s g t → more s ≡ Ok (g, t))
       → ((s : State) (g : ℕ → A → Growth A) (t : State) → more s ≡ Ok (g, t) → s.at + 1 ≤ t.at)
-      → (at : ℕ) (a : A) (s : State) (b : A) (t : State) → length toks ≤ left + s.at → Turns toks n test says at a s b t → turns toks left test more at a s ≡ Ok (b, t)
+      → (at : ℕ) (a : A) (s : State) (b : A) (t : State) → length toks ≤ left + s.at → GuidedTurns toks n test says at a s b t → turns toks left test more at a s ≡ Ok (b, t)
   turns_read zero zero test more says h on at a s b t enough (unless, same, to) = ap (λ (u : State). ok_at a u) (sym to) ∙ ap (λ c. ok_at c t) (sym same)
   turns_read zero (suc left) test more says h on at a s b t enough (unless, same, to) = rw unless (ap (λ (u : State). ok_at a u) (sym to) ∙ ap (λ c. ok_at c t) (sym same))
   turns_read (suc n) zero test more says h on at a s b t enough (so, g, u, first, rest) = absurd (omega (arith, enough, some_next toks test s.at so))
@@ -50,10 +52,11 @@ module _ (toks : List Token) where
   made_read f s u t g b one same to = rw one (ap (λ c. ok_at c (record u { tree = (g u.tree).1 })) (sym same) ∙ ap (λ (v : State). ok_at b v) (sym to))
 
   pub complete : (inner : Nested → Reads ℕ) (says : Nested → Spelled ℕ) → Gains toks inner → ((n : Nested) (s : State) (a : ℕ) (t : State) → says n s a t → inner n s ≡ Ok (a, t))
-      → {A : Type 0} (f : Form A) → tidy f ≡ true → (s : State) (a : A) (t : State) → spelled_with toks says f s a t → read_with toks inner f s ≡ Ok (a, t)
+      → {A : Type 0} (f : Form A) → tidy f ≡ true → (s : State) (a : A) (t : State) → guided_with toks says f s a t → read_with toks inner f s ≡ Ok (a, t)
   complete inner says gain h (Plain b) neat s a t (same, to) = ap (λ (u : State). ok_at b u) (sym to) ∙ ap (λ c. ok_at c t) (sym same)
   complete inner says gain h Place neat s a t (same, to) = ap (λ (u : State). ok_at (place_at toks s.at) u) (sym to) ∙ ap (λ c. ok_at c t) (sym same)
   complete inner says gain h (One test) neat s a t (x, found, is, to) = one_read test s t a x found is to
+  complete inner says gain h (Unless test) neat s a t (unless, to) = rw unless (ap (λ (u : State). ok_at a u) (sym to))
   complete inner says gain h (Both f x) neat s b t (g, u, a, one, two, same) =
       let parts = and_parts (tidy f) (tidy x) neat in
       both_read (read_with toks inner f) (read_with toks inner x) s u t g a b (complete inner says gain h f parts.0 s g u one) (complete inner says gain h x parts.1 u a t two) same
@@ -63,7 +66,7 @@ module _ (toks : List Token) where
       let all = and_parts (tidy x && eats more) (tidy more) neat in
       let front = and_parts (tidy x) (eats more) all.0 in
       let first = complete inner says gain h x front.0 s a u one in
-      let later = turns_read n (length toks - u.at) test (read_with toks inner more) (spelled_with toks says more) (λ v g w is. complete inner says gain h more all.1 v g w is)
+      let later = turns_read n (length toks - u.at) test (read_with toks inner more) (guided_with toks says more) (λ v g w is. complete inner says gain h more all.1 v g w is)
       (λ v g w is. subst (λ (c : Bool). further c v.at ≤ w.at) front.1 (gains toks inner gain more v g w is)) (place_at toks s.at) a u b t (omega arith) rest in
       rw first later
   complete inner says gain h (Inner n) neat s a t is = h n s a t is
@@ -81,7 +84,7 @@ module _ (toks : List Token) where
 
   turns_spelled : {A : Type 0} (left : ℕ) (test : Token → Bool) (more : Reads (ℕ → A → Growth A)) (says : Spelled (ℕ → A → Growth A)) → ((s : State) (g : ℕ → A → Growth A) (t : State) → more s ≡ Ok (g, t) → says s g t)
       → ((s : State) (g : ℕ → A → Growth A) (t : State) → more s ≡ Ok (g, t) → s.at + 1 ≤ t.at)
-      → (at : ℕ) (a : A) (s : State) (b : A) (t : State) → length toks ≤ left + s.at → turns toks left test more at a s ≡ Ok (b, t) → (n : ℕ) × Turns toks n test says at a s b t
+      → (at : ℕ) (a : A) (s : State) (b : A) (t : State) → length toks ≤ left + s.at → turns toks left test more at a s ≡ Ok (b, t) → (n : ℕ) × GuidedTurns toks n test says at a s b t
   turns_spelled zero test more says h on at a s b t enough e =
       (0, (ap (passes test) (slice_get_past toks s.at (omega (arith, enough))), sym (same_value e), sym (same_state e)))
   turns_spelled (suc left) test more says h on at a s b t enough e =
@@ -102,16 +105,18 @@ module _ (toks : List Token) where
       (λ unless is. (0, (unless, sym (same_value is), sym (same_state is)))) e
 
   pub sound : (inner : Nested → Reads ℕ) (says : Nested → Spelled ℕ) → Gains toks inner → ((n : Nested) (s : State) (a : ℕ) (t : State) → inner n s ≡ Ok (a, t) → says n s a t)
-      → {A : Type 0} (f : Form A) → tidy f ≡ true → (s : State) (a : A) (t : State) → read_with toks inner f s ≡ Ok (a, t) → spelled_with toks says f s a t
+      → {A : Type 0} (f : Form A) → tidy f ≡ true → (s : State) (a : A) (t : State) → read_with toks inner f s ≡ Ok (a, t) → guided_with toks says f s a t
   sound inner says gain h (Plain b) neat s a t e = (sym (same_value e), sym (same_state e))
   sound inner says gain h Place neat s a t e = (sym (same_value e), sym (same_state e))
   sound inner says gain h (One test) neat s a t e = one_spelled test s a t (slice_get toks s.at) refl e
+  sound inner says gain h (Unless test) neat s a t e =
+      either_side (passes test (slice_get toks s.at)) (λ so is. absurd (cc)) (λ unless is. (unless, sym (same_state is))) e
   sound inner says gain h (Both f x) neat s b t e =
       let parts = and_parts (tidy f) (tidy x) neat in
       let one = bound (read_with toks inner f s) (λ p. read_with toks inner x p.1 >>= λ q. Ok (p.0 q.0, q.1)) e in
       let two = bound (read_with toks inner x one.0.1) (λ q. Ok (one.0.0 q.0, q.1)) one.2 in
       let second = sound inner says gain h x parts.1 one.0.1 two.0.0 two.0.1 two.1 in
-      (one.0.0, one.0.1, two.0.0, sound inner says gain h f parts.0 s one.0.0 one.0.1 one.1, subst (λ (u : State). spelled_with toks says x one.0.1 two.0.0 u) (same_state two.2) second, sym (same_value two.2))
+      (one.0.0, one.0.1, two.0.0, sound inner says gain h f parts.0 s one.0.0 one.0.1 one.1, subst (λ (u : State). guided_with toks says x one.0.1 two.0.0 u) (same_state two.2) second, sym (same_value two.2))
   sound inner says gain h (Either test x y) neat s a t e =
       let parts = and_parts (tidy x) (tidy y) neat in
       either_side (passes test (slice_get toks s.at)) (λ so is. inl (so, sound inner says gain h x parts.0 s a t is)) (λ unless is. inr (unless, sound inner says gain h y parts.1 s a t is)) e
@@ -119,7 +124,7 @@ module _ (toks : List Token) where
       let all = and_parts (tidy x && eats more) (tidy more) neat in
       let front = and_parts (tidy x) (eats more) all.0 in
       let one = bound (read_with toks inner x s) (λ p. turns toks (length toks - p.1.at) test (read_with toks inner more) (place_at toks s.at) p.0 p.1) e in
-      let later = turns_spelled (length toks - one.0.1.at) test (read_with toks inner more) (spelled_with toks says more) (λ v g w is. sound inner says gain h more all.1 v g w is)
+      let later = turns_spelled (length toks - one.0.1.at) test (read_with toks inner more) (guided_with toks says more) (λ v g w is. sound inner says gain h more all.1 v g w is)
       (λ v g w is. subst (λ (c : Bool). further c v.at ≤ w.at) front.1 (gains toks inner gain more v g w is)) (place_at toks s.at) one.0.0 one.0.1 b t (omega arith) one.2 in
       (one.0.0, one.0.1, later.0, sound inner says gain h x front.0 s one.0.0 one.0.1 one.1, later.1)
   sound inner says gain h (Inner n) neat s a t e = h n s a t e

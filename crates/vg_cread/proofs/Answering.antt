@@ -7,6 +7,7 @@ use Rattle.vg_ctok.specs.declared.kinds.Token.{Token}
 use Rattle.vg_cread.specs.Grammar.{unit}
 use Rattle.vg_cread.specs.Places.{State, place_at}
 use Rattle.vg_cread.specs.Spelling.{start, Spells}
+use Rattle.vg_cread.specs.Guided.{Guides}
 use Rattle.vg_cread.specs.Refusals.{RulesOut, Begins, Refuses}
 use Rattle.vg_cread.specs.Reading.{Refusal, Wrong, Deep, read_inner, read, Gives}
 use Rattle.vg_cread.specs.declared.reader.Stop.{Stop}
@@ -14,6 +15,7 @@ use Rattle.vg_cread.specs.declared.reader.Stop.TheVariants as stops
 use Rattle.vg_cread.specs.declared.reading.ReadFault.{ReadFault}
 use Rattle.vg_cread.specs.declared.reading.ReadFault.TheVariants as faults
 use Rattle.vg_cread.proofs.Onward.{same_state}
+use Rattle.vg_cread.proofs.Telling.{guided_of}
 use Rattle.vg_cread.proofs.Units.{unit_read, unit_tidy, spells_roomier}
 use Rattle.vg_cread.proofs.Stopping.{unit_lacks, unit_opens, unit_lacked, unit_opened}
 use Rattle.vg_cread.proofs.Bounds.{Within, within, within_inner}
@@ -30,11 +32,11 @@ same_err r d e one two = cc
 module _ (toks : List Token) where
   pub only_tree : (room root : ℕ) (t : State) (tree : Syntax) → read toks room unit start ≡ Ok (root, t) → Spells room toks tree → t.tree ≡ tree
   only_tree room root t tree e is =
-      let other = unit_read toks room tree is in
+      let other = unit_read toks room tree (guided_of toks room tree is) in
       ap (λ (s : State). s.tree) (same_state {a = root} {b = other.0} (sym e ∙ other.1))
 
   pub no_tree : (room : ℕ) (f : Refusal) (tree : Syntax) → read toks room unit start ≡ Err f → Spells room toks tree → ⊥
-  no_tree room f tree e is = let other = unit_read toks room tree is in never_both (read toks room unit start) (other.0, record { at = length toks; tree = tree }) f other.1 e
+  no_tree room f tree e is = let other = unit_read toks room tree (guided_of toks room tree is) in never_both (read toks room unit start) (other.0, record { at = length toks; tree = tree }) f other.1 e
 
   -- a token that is wrong is wrong whatever follows, and however much room there is
   front_wrong : (room i : ℕ) (front : List Token) (rest : List Token) → toks ≡ front ++ rest → length front ≡ i + 1 → read toks room unit start ≡ Err (Wrong i) → read front room unit start ≡ Err (Wrong i)
@@ -59,7 +61,7 @@ module _ (toks : List Token) where
   none_spelled all room left i tree e spells =
       let wrong = still_wrong all left room i unit start e in
       let sum : left + room ≡ room + left = omega arith in
-      let other = unit_read all (room + left) tree (subst (λ (r : ℕ). Spells r all tree) sum (spells_roomier all room left tree spells)) in
+      let other = unit_read all (room + left) tree (subst (λ (r : ℕ). Guides r all tree) sum (spells_roomier all room left tree (guided_of all left tree spells))) in
       never_both (read all (room + left) unit start) (other.0, record { at = length all; tree = tree }) (Wrong i) other.1 wrong
 
   ruled_out : (room i : ℕ) (o : Option Token) → slice_get toks i ≡ o → read toks room unit start ≡ Err (Wrong i) → RulesOut toks i o

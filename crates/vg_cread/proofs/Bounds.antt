@@ -2,7 +2,7 @@
 use Rattle.std.proofs.Common.{◌≡◌, ◌<◌, ◌≤◌, ◌-◌, ℕ, zero, suc, Bool, true, false, cond, List, length, slice_get, Option, Some, None, Result, Ok, Err, refl, arith}
 use Rattle.std.proofs.lemmas.Option.{slice_get_within}
 use Rattle.vg_ctok.specs.declared.kinds.Token.{Token}
-use Rattle.vg_cread.specs.Forms.{Form, Plain, Place, One, Both, Either, Chain, Inner, Made, Nested, Growth}
+use Rattle.vg_cread.specs.Forms.{Form, Plain, Place, One, Unless, Both, Either, Chain, Inner, Made, Nested, Growth}
 use Rattle.vg_cread.specs.Grammar.{begins, form}
 use Rattle.vg_cread.specs.Places.{State, place_at, passes, tested}
 use Rattle.vg_cread.specs.Reading.{Refusal, Wrong, Deep, Reads, ◌>>=◌, taken, grown, turn, turns, read_with, read_inner}
@@ -51,6 +51,7 @@ module _ (toks : List Token) where
   within inner h (Plain a) s le = (omega arith, le)
   within inner h Place s le = (omega arith, le)
   within inner h (One test) s le = within_one test s (slice_get toks s.at) refl le
+  within inner h (Unless test) s le = within_either s.at (passes test (slice_get toks s.at)) _ _ (omega arith, le) (omega arith, le)
   within inner h (Both f x) s le =
       within_bind s.at (read_with toks inner f s) (λ p. read_with toks inner x p.1 >>= λ q. Ok (p.0 q.0, q.1)) (within inner h f s le)
       (λ g t here. within_bind t.at (read_with toks inner x t) (λ q. Ok (g q.0, q.1)) (within inner h x t here) (λ a u there. (omega arith, there)))

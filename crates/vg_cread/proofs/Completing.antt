@@ -5,16 +5,18 @@ use Rattle.std.proofs.lemmas.Bool.{cases_eq}
 use Rattle.std.proofs.lemmas.Option.{slice_get_past}
 use Rattle.std.proofs.lemmas.List.{take-append-drop, length-take-le, append_assoc, length_push}
 use Rattle.vg_ctok.specs.declared.kinds.Token.{Token}
-use Rattle.vg_cread.specs.Forms.{Form, Plain, Place, One, Both, Either, Chain, Inner, Made, Nested, Growth}
+use Rattle.vg_cread.specs.Forms.{Form, Plain, Place, One, Unless, Both, Either, Chain, Inner, Made, Nested, Growth}
 use Rattle.vg_cread.specs.Grammar.{begins, form, unit}
 use Rattle.vg_cread.specs.Places.{State, place_at, passes, tested}
-use Rattle.vg_cread.specs.Spelling.{Spelled, Turns, spelled_with, spelled_inner, spelled, start}
+use Rattle.vg_cread.specs.Spelling.{Spelled, start}
+use Rattle.vg_cread.specs.Guided.{GuidedTurns, guided_with, guided_inner, guided}
 use Rattle.vg_cread.specs.Refusals.{TurnsTo, comes_with, lacks_inner, Lacks, Begins}
 use Rattle.vg_cread.proofs.Onward.{eats, further, further-least}
 use Rattle.vg_cread.proofs.Rooms.{form_eats}
 use Rattle.vg_cread.proofs.Prefixes.{get_front}
+use Rattle.vg_cread.proofs.Telling.{spelled_of}
 use Rattle.vg_cread.proofs.Shortest.{whole, fits, calls, form_fits, unit_fits}
-use Rattle.vg_cread.proofs.Going.{bool_cases, halts, halts_second, halts_both, halts_left, halts_right, halts_side, halts_first, halts_more, halts_test, halts_form, fits_both, fits_either, fits_chain, Gaining, spelled_gains, turns_gain, Goes, ends, begins_at, goes_one, goes_both, goes_left, goes_right, goes_made, goes_form, Rounds, goes_chain, Stands, Ready, stands_front, stands_back, both_end, shortest, room_begins}
+use Rattle.vg_cread.proofs.Going.{bool_cases, halts, halts_none, halts_second, halts_both, halts_left, halts_right, halts_side, halts_first, halts_more, halts_test, halts_form, fits_both, fits_either, fits_chain, Gaining, spelled_gains, turns_gain, Goes, ends, begins_at, goes_one, goes_none, goes_both, goes_left, goes_right, goes_made, goes_form, Rounds, goes_chain, Stands, Ready, stands_front, stands_back, both_end, shortest, room_begins}
 
 below_or : (a b : ℕ) → a ≤ b → (a < b) ⊎ (a ≡ b)
 below_or a b le = elim (cases_eq a b) [
@@ -33,6 +35,7 @@ all_called : {A : Type 0} (f : Form A) → calls (λ n. true) f ≡ true
 all_called (Plain a) = refl
 all_called Place = refl
 all_called (One test) = refl
+all_called (Unless test) = refl
 all_called (Both f x) = and_both (calls (λ n. true) f) (calls (λ n. true) x) (all_called f) (all_called x)
 all_called (Either test x y) = all_called y
 all_called (Chain test x more) = all_called x
@@ -44,7 +47,7 @@ module _ (toks : List Token) (i : ℕ) where
   abbrev pub Agrees : List Token → Type 0
   Agrees all = (k : ℕ) → k < i → slice_get all k ≡ slice_get toks k
 
-  -- what is spelled of the first tokens is spelled there, if the next token ends it
+  -- what is gone along of the first tokens is gone along there, if the next token ends it
   abbrev Surely : List Token → (Nested → Spelled ℕ) → (Nested → Spelled ℕ) → Type 0
   Surely all says far = (n : Nested) (s : State) (a : ℕ) (t : State) → says n s a t → t.at ≤ i → (t.at ≡ i → halts (Inner n) (slice_get all i) ≡ true) → Goes all far (Inner n) s.at t.at
 
@@ -53,8 +56,8 @@ module _ (toks : List Token) (i : ℕ) where
     same_test test k less = ap (passes test) (agrees k less)
 
     turns_sure : {A : Type 0} (n : ℕ) (test : Token → Bool) (more : Form (ℕ → A → Growth A)) → eats more ≡ true
-        → ((s : State) (g : ℕ → A → Growth A) (t : State) → spelled_with toks says more s g t → t.at ≤ i → (t.at ≡ i → halts more (slice_get all i) ≡ true) → Goes all far more s.at t.at)
-        → (at : ℕ) (a : A) (s : State) (b : A) (t : State) → Turns toks n test (spelled_with toks says more) at a s b t → t.at ≤ i
+        → ((s : State) (g : ℕ → A → Growth A) (t : State) → guided_with toks says more s g t → t.at ≤ i → (t.at ≡ i → halts more (slice_get all i) ≡ true) → Goes all far more s.at t.at)
+        → (at : ℕ) (a : A) (s : State) (b : A) (t : State) → GuidedTurns toks n test (guided_with toks says more) at a s b t → t.at ≤ i
         → (t.at ≡ i → halts more (slice_get all i) ≡ true) → (t.at ≡ i → passes test (slice_get all i) ≡ false) → Rounds all far n test more s.at t.at
     turns_sure zero test more eat h at a s b t (unless, same, to) le ended tested =
         let here : t.at ≡ s.at = ap (λ (u : State). u.at) to in
@@ -66,19 +69,26 @@ module _ (toks : List Token) (i : ℕ) where
     turns_sure (suc n) test more eat h at a s b t (so, g, u, one, rest) le ended tested =
         let step = eaten (eats more) s.at u.at (spelled_gains toks says gain more s g u one) eat in
         let later : u.at ≤ t.at =
-        turns_gain toks n test (spelled_with toks says more) (λ v p w is. further-least (eats more) v.at w.at (spelled_gains toks says gain more v p w is)) at (g at a u.tree).0 (record u { tree = (g at a u.tree).1 }) b t rest in (
+        turns_gain toks n test (guided_with toks says more) (λ v p w is. further-least (eats more) v.at w.at (spelled_gains toks says gain more v p w is)) at (g at a u.tree).0 (record u { tree = (g at a u.tree).1 }) b t rest in (
           same_test test s.at (omega (arith, step, later, le)) ∙ so,
           u.at,
           h s g u one (omega (arith, later, le)) (λ here. ended (omega (arith, here, later, le))),
           turns_sure n test more eat h at (g at a u.tree).0 (record u { tree = (g at a u.tree).1 }) b t rest le ended tested,
         )
 
-    pub sure : {A : Type 0} (f : Form A) → fits f ≡ true → (s : State) (a : A) (t : State) → spelled_with toks says f s a t → t.at ≤ i → (t.at ≡ i → halts f (slice_get all i) ≡ true) → Goes all far f s.at t.at
+    pub sure : {A : Type 0} (f : Form A) → fits f ≡ true → (s : State) (a : A) (t : State) → guided_with toks says f s a t → t.at ≤ i → (t.at ≡ i → halts f (slice_get all i) ≡ true) → Goes all far f s.at t.at
     sure (Plain b) fit s a t (same, to) le ended = λ v e. (b, v, (refl, refl), e ∙ sym (ap (λ (u : State). u.at) to))
     sure Place fit s a t (same, to) le ended = λ v e. (place_at all v.at, v, (refl, refl), e ∙ sym (ap (λ (u : State). u.at) to))
     sure (One test) fit s a t (x, found, is, to) le ended =
         let next : t.at ≡ s.at + 1 = ap (λ (u : State). u.at) to in
         ends all far (One test) s.at (s.at + 1) t.at (sym next) (goes_one all far test s.at x (agrees s.at (omega (arith, next, le)) ∙ found) (ap is_some is))
+    sure (Unless test) fit s a t (unless, to) le ended =
+        let here : t.at ≡ s.at = ap (λ (u : State). u.at) to in
+        let none : passes test (slice_get all s.at) ≡ false = elim (below_or s.at i (omega (arith, here, le))) [
+          | inl less ↦ same_test test s.at less ∙ unless
+          | inr end ↦ ap (λ n. passes test (slice_get all n)) end ∙ halts_none test (slice_get all i) (ended (here ∙ end))
+        ] in
+        ends all far (Unless test) s.at s.at t.at (sym here) (goes_none all far test s.at none)
     sure (Both f x) fit s b t (g, u, a, one, two, same) le ended =
         let parts = fits_both f x fit in
         let step = spelled_gains toks says gain x u a t two in
@@ -108,7 +118,7 @@ module _ (toks : List Token) (i : ℕ) where
     sure (Chain test x more) fit s b t (a, u, n, one, rest) le ended =
         let parts = fits_chain test x more fit in
         let later : u.at ≤ t.at =
-        turns_gain toks n test (spelled_with toks says more) (λ v p w is. further-least (eats more) v.at w.at (spelled_gains toks says gain more v p w is)) (place_at toks s.at) a u b t rest in
+        turns_gain toks n test (guided_with toks says more) (λ v p w is. further-least (eats more) v.at w.at (spelled_gains toks says gain more v p w is)) (place_at toks s.at) a u b t rest in
         goes_chain all far n test x more s.at u.at t.at (sure x parts.0 s a u one (omega (arith, later, le)) (λ here. halts_first test x more (slice_get all i) (ended (omega (arith, here, later, le)))))
         (turns_sure n test more parts.2 (λ v p w is. sure more parts.1 v p w is) (place_at toks s.at) a u b t rest le (λ here. halts_more test x more (slice_get all i) (ended here)) (λ here. halts_test test x more (slice_get all i) (ended here)))
     sure (Inner n) fit s a t is le ended = inner n s a t is le ended
@@ -116,16 +126,16 @@ module _ (toks : List Token) (i : ℕ) where
         let here : t.at ≡ u.at = ap (λ (v : State). v.at) to in
         goes_made all far f s.at t.at (ends all far f s.at u.at t.at (sym here) (sure f fit s g u one (omega (arith, here, le)) (λ end. ended (here ∙ end))))
 
-  inner_gaining : (room : ℕ) → Gaining toks (spelled_inner toks room)
+  inner_gaining : (room : ℕ) → Gaining toks (guided_inner toks room)
   inner_gaining zero n s a t is = absurd is
-  inner_gaining (suc room) n s a t (so, is) = eaten (eats (form n)) s.at t.at (spelled_gains toks (spelled_inner toks room) (inner_gaining room) (form n) s a t is) (form_eats n)
+  inner_gaining (suc room) n s a t (so, is) = eaten (eats (form n)) s.at t.at (spelled_gains toks (guided_inner toks room) (inner_gaining room) (form n) s a t is) (form_eats n)
 
-  inner_sure : (all : List Token) → Agrees all → (room : ℕ) → Surely all (spelled_inner toks room) (spelled_inner all (suc (suc room)))
+  inner_sure : (all : List Token) → Agrees all → (room : ℕ) → Surely all (guided_inner toks room) (guided_inner all (suc (suc room)))
   inner_sure all agrees zero n s a t is le ended = absurd is
   inner_sure all agrees (suc room) n s a t (so, is) le ended =
       let step = inner_gaining (suc room) n s a t (so, is) in
       goes_form all (suc (suc room)) n s.at t.at (ap (passes (begins n)) (agrees s.at (omega (arith, step, le))) ∙ so)
-      (sure all agrees (spelled_inner toks room) (spelled_inner all (suc (suc room))) (inner_gaining room) (inner_sure all agrees room) (form n) (form_fits n) s a t is le (λ here. halts_form n (slice_get all i) (ended here)))
+      (sure all agrees (guided_inner toks room) (guided_inner all (suc (suc room))) (inner_gaining room) (inner_sure all agrees room) (form n) (form_fits n) s a t is le (λ here. halts_form n (slice_get all i) (ended here)))
 
   -- where the grammar needs a token is not before the start
   turns_within : {A : Type 0} (n : ℕ) (test : Token → Bool) (says : Spelled (ℕ → A → Growth A)) (stops : State → Type 0) → ((s : State) (g : ℕ → A → Growth A) (t : State) → says s g t → s.at ≤ t.at) → ((s : State) → stops s → s.at ≤ i)
@@ -139,6 +149,7 @@ module _ (toks : List Token) (i : ℕ) where
     comes_within (Plain a) s is = absurd is
     comes_within Place s is = absurd is
     comes_within (One test) s (here, none) = omega (arith, here)
+    comes_within (Unless test) s (here, so) = omega (arith, here)
     comes_within (Both f x) s (inl first) = comes_within f s first
     comes_within (Both f x) s (inr (g, u, one, second)) = omega (arith, further-least (eats f) s.at u.at (spelled_gains toks says gain f s g u one), comes_within x u second)
     comes_within (Either test x y) s (inl (so, is)) = comes_within x s is
@@ -148,7 +159,7 @@ module _ (toks : List Token) (i : ℕ) where
         omega (
           arith,
           further-least (eats x) s.at u.at (spelled_gains toks says gain x s a u one),
-          turns_within n test (spelled_with toks says more) (comes_with toks says (λ u. u.at ≡ i) lacks more) (λ v p w is. further-least (eats more) v.at w.at (spelled_gains toks says gain more v p w is)) (λ v is. comes_within more v is)
+          turns_within n test (guided_with toks says more) (comes_with toks says (λ u. u.at ≡ i) lacks more) (λ v p w is. further-least (eats more) v.at w.at (spelled_gains toks says gain more v p w is)) (λ v is. comes_within more v is)
               (place_at toks s.at) a u later,
         )
     comes_within (Inner n) s is = near n s is
@@ -171,7 +182,7 @@ module _ (toks : List Token) (i : ℕ) where
       turning_end test rest s end = ([], (λ here. refl), λ all agrees stand ended tested. (0, (ap (λ n. passes test (slice_get all n)) (omega (arith, end)) ∙ tested, omega (arith, end))))
 
       turns_complete : {A : Type 0} (n : ℕ) (test : Token → Bool) (rest : Form (ℕ → A → Growth A)) → fits rest ≡ true → ((s : State) → comes_with toks says (λ u. u.at ≡ i) lacks rest s → s.at < i → Completed rest s)
-          → (at : ℕ) (a : A) (s : State) → TurnsTo toks n test (spelled_with toks says rest) (comes_with toks says (λ u. u.at ≡ i) lacks rest) at a s → s.at ≤ i → Turning test rest s
+          → (at : ℕ) (a : A) (s : State) → TurnsTo toks n test (guided_with toks says rest) (comes_with toks says (λ u. u.at ≡ i) lacks rest) at a s → s.at ≤ i → Turning test rest s
       turns_complete zero test rest fit h at a s (so, is) le = elim (below_or s.at i le) [
         | inr end ↦ turning_end test rest s end
         | inl less ↦
@@ -185,7 +196,7 @@ module _ (toks : List Token) (i : ℕ) where
         | inr end ↦ turning_end test rest s end
         | inl less ↦
             let there : u.at ≤ i =
-            turns_within n test (spelled_with toks says rest) (comes_with toks says (λ u. u.at ≡ i) lacks rest) (λ v p w is. further-least (eats rest) v.at w.at (spelled_gains toks says gain rest v p w is)) (λ v is. comes_within rest v is)
+            turns_within n test (guided_with toks says rest) (comes_with toks says (λ u. u.at ≡ i) lacks rest) (λ v p w is. further-least (eats rest) v.at w.at (spelled_gains toks says gain rest v p w is)) (λ v is. comes_within rest v is)
             at (g at a u.tree).0 (record u { tree = (g at a u.tree).1 }) later in
             let c = turns_complete n test rest fit h at (g at a u.tree).0 (record u { tree = (g at a u.tree).1 }) later there in (
               c.0,
@@ -207,6 +218,7 @@ module _ (toks : List Token) (i : ℕ) where
       complete (Plain a) fit inner s is less = absurd is
       complete Place fit inner s is less = absurd is
       complete (One test) fit inner s (here, none) less = absurd (omega (arith, here, less))
+      complete (Unless test) fit inner s (here, so) less = absurd (omega (arith, here, less))
       complete (Both f x) fit inner s (inl first) less =
           let parts = fits_both f x fit in
           let c = complete f parts.0 inner s first less in (
@@ -258,7 +270,7 @@ module _ (toks : List Token) (i : ℕ) where
       complete (Chain test x more) fit inner s (inr (a, u, n, one, later)) less =
           let parts = fits_chain test x more fit in
           let there : u.at ≤ i =
-          turns_within n test (spelled_with toks says more) (comes_with toks says (λ u. u.at ≡ i) lacks more) (λ v p w is. further-least (eats more) v.at w.at (spelled_gains toks says gain more v p w is)) (λ v is. comes_within more v is)
+          turns_within n test (guided_with toks says more) (comes_with toks says (λ u. u.at ≡ i) lacks more) (λ v p w is. further-least (eats more) v.at w.at (spelled_gains toks says gain more v p w is)) (λ v is. comes_within more v is)
           (place_at toks s.at) a u later in
           let c = turns_complete n test more parts.1 (λ v is inside. complete more parts.1 inner v is inside) (place_at toks s.at) a u later there in (
             c.0,
@@ -278,31 +290,31 @@ module _ (toks : List Token) (i : ℕ) where
   inner_within : (room : ℕ) (n : Nested) (s : State) → lacks_inner toks i room n s → s.at ≤ i
   inner_within zero n s (here, unless) = omega (arith, here)
   inner_within (suc room) n s (inl (here, unless)) = omega (arith, here)
-  inner_within (suc room) n s (inr (so, is)) = comes_within (spelled_inner toks room) (lacks_inner toks i room) (inner_gaining room) (inner_within room) (form n) s is
+  inner_within (suc room) n s (inr (so, is)) = comes_within (guided_inner toks room) (lacks_inner toks i room) (inner_gaining room) (inner_within room) (form n) s is
 
   abbrev roomy : ℕ → List Token → Nested → Spelled ℕ
-  roomy room all = spelled_inner all (suc (suc room))
+  roomy room all = guided_inner all (suc (suc room))
 
   inner_complete : (room : ℕ) (n : Nested) (s : State) → lacks_inner toks i room n s → s.at < i
-      → Completed (spelled_inner toks room) (lacks_inner toks i room) (inner_gaining room) (inner_within room) (roomy room) (λ all agrees. inner_sure all agrees room) (λ all. room_begins all room) (Inner n) s
+      → Completed (guided_inner toks room) (lacks_inner toks i room) (inner_gaining room) (inner_within room) (roomy room) (λ all agrees. inner_sure all agrees room) (λ all. room_begins all room) (Inner n) s
   inner_complete zero n s (here, unless) less = absurd (omega (arith, here, less))
   inner_complete (suc room) n s (inl (here, unless)) less = absurd (omega (arith, here, less))
   inner_complete (suc room) n s (inr (so, is)) less =
-      let c = complete (spelled_inner toks room) (lacks_inner toks i room) (inner_gaining room) (inner_within room) (roomy room) (λ all agrees. inner_sure all agrees room) (λ all. room_begins all room) (form n) (form_fits n) (inner_complete room) s is less in (
+      let c = complete (guided_inner toks room) (lacks_inner toks i room) (inner_gaining room) (inner_within room) (roomy room) (λ all agrees. inner_sure all agrees room) (λ all. room_begins all room) (form n) (form_fits n) (inner_complete room) s is less in (
         c.0,
         λ all agrees stand ended.
             goes_form all (suc (suc room)) n s.at (i + length c.0) (ap (passes (begins n)) (agrees s.at less) ∙ so) (c.1 all agrees stand (halts_form n (slice_get all (i + length c.0)) ended)),
       )
 
   unit_complete : (room : ℕ) → Lacks room toks i
-      → Completed (spelled_inner toks room) (lacks_inner toks i room) (inner_gaining room) (inner_within room) (roomy room) (λ all agrees. inner_sure all agrees room) (λ all. room_begins all room) unit start
+      → Completed (guided_inner toks room) (lacks_inner toks i room) (inner_gaining room) (inner_within room) (roomy room) (λ all agrees. inner_sure all agrees room) (λ all. room_begins all room) unit start
   unit_complete room is = elim (below_or 0 i (omega arith)) [
-    | inl less ↦ complete (spelled_inner toks room) (lacks_inner toks i room) (inner_gaining room) (inner_within room) (roomy room) (λ all agrees. inner_sure all agrees room) (λ all. room_begins all room) unit unit_fits (inner_complete room) start is less
+    | inl less ↦ complete (guided_inner toks room) (lacks_inner toks i room) (inner_gaining room) (inner_within room) (roomy room) (λ all agrees. inner_sure all agrees room) (λ all. room_begins all room) unit unit_fits (inner_complete room) start is less
     | inr same ↦ (
       whole unit,
       λ all agrees stand ended.
           begins_at all (roomy room all) unit i 0 (i + length (whole unit)) (sym same)
-          (short (spelled_inner toks room) (lacks_inner toks i room) (inner_gaining room) (inner_within room) (roomy room) (λ all agrees. inner_sure all agrees room) (λ all. room_begins all room) all unit unit_fits i (i + length (whole unit)) refl
+          (short (guided_inner toks room) (lacks_inner toks i room) (inner_gaining room) (inner_within room) (roomy room) (λ all agrees. inner_sure all agrees room) (λ all. room_begins all room) all unit unit_fits i (i + length (whole unit)) refl
           stand ended),
     )
   ]
@@ -333,4 +345,4 @@ begins_tree toks room i le is =
     let ended : halts unit (slice_get all (i + length c.0)) ≡ true = ap (halts unit) (slice_get_past all (i + length c.0) (omega (arith, end))) in
     let g = c.1 all agrees stand ended start refl in
     let to : g.1 ≡ record { at = length all; tree = g.1.tree } = ap (λ (n : ℕ). record g.1 { at = n }) (g.3 ∙ sym end) in
-    (suc (suc room), c.0, g.1.tree, (g.0, subst (λ (u : State). spelled all (suc (suc room)) unit start g.0 u) to g.2))
+    (suc (suc room), c.0, g.1.tree, spelled_of all (suc (suc room)) g.1.tree (g.0, subst (λ (u : State). guided all (suc (suc room)) unit start g.0 u) to g.2))

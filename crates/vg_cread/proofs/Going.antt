@@ -3,10 +3,11 @@ use Rattle.std.proofs.Common.{◌≡◌, ◌∙◌, ◌≤◌, ◌+◌, ◌⊎�
 use Rattle.std.specs.Prelude.{◌&&◌, ◌||◌, not, cond, is_some}
 use Rattle.std.proofs.lemmas.Bool.{and_parts, not-true}
 use Rattle.vg_ctok.specs.declared.kinds.Token.{Token}
-use Rattle.vg_cread.specs.Forms.{Form, Plain, Place, One, Both, Either, Chain, Inner, Made, Nested, Growth}
+use Rattle.vg_cread.specs.Forms.{Form, Plain, Place, One, Unless, Both, Either, Chain, Inner, Made, Nested, Growth}
 use Rattle.vg_cread.specs.Grammar.{begins, form}
 use Rattle.vg_cread.specs.Places.{State, place_at, passes}
-use Rattle.vg_cread.specs.Spelling.{Spelled, Turns, spelled_with, spelled_inner}
+use Rattle.vg_cread.specs.Spelling.{Spelled}
+use Rattle.vg_cread.specs.Guided.{GuidedTurns, guided_with, guided_inner}
 use Rattle.vg_cread.proofs.Onward.{eats, further, further-both, further-first, further-second, further-more, further-least}
 use Rattle.vg_cread.proofs.Shortest.{first_passing, samples, whole, whole_inner, stops, leads, is_empty, fits, calls, flat, form_fits, form_stops, form_whole, form_calls, flat_calls, begun}
 
@@ -18,6 +19,10 @@ bool_cases false = inr refl
 abbrev pub halts : {A : Type 0} → Form A → Option Token → Bool
 halts f None = true
 halts f (Some t) = stops f t
+
+pub halts_none : (test : Token → Bool) (o : Option Token) → halts (Unless test) o ≡ true → passes test o ≡ false
+halts_none test None is = refl
+halts_none test (Some t) is = not-true (test t) is
 
 pub halts_second : {A B : Type 0} (f : Form (A → B)) (x : Form A) (o : Option Token) → halts (Both f x) o ≡ true → halts x o ≡ true
 halts_second f x None is = refl
@@ -97,7 +102,7 @@ passing test (t ∷ ts) is = elim (bool_cases (test t)) [
 -- what is spelled goes onward
 module _ (toks : List Token) where
   pub turns_gain : {A : Type 0} (n : ℕ) (test : Token → Bool) (says : Spelled (ℕ → A → Growth A)) → ((s : State) (g : ℕ → A → Growth A) (t : State) → says s g t → s.at ≤ t.at)
-      → (at : ℕ) (a : A) (s : State) (b : A) (t : State) → Turns toks n test says at a s b t → s.at ≤ t.at
+      → (at : ℕ) (a : A) (s : State) (b : A) (t : State) → GuidedTurns toks n test says at a s b t → s.at ≤ t.at
   turns_gain zero test says h at a s b t (unless, same, to) = subst (λ (u : State). s.at ≤ u.at) (sym to) (omega arith)
   turns_gain (suc n) test says h at a s b t (so, g, u, one, rest) =
       omega (arith, h s g u one, turns_gain n test says h at (g at a u.tree).0 (record u { tree = (g at a u.tree).1 }) b t rest)
@@ -105,23 +110,24 @@ module _ (toks : List Token) where
   abbrev pub Gaining : (Nested → Spelled ℕ) → Type 0
   Gaining says = (n : Nested) (s : State) (a : ℕ) (t : State) → says n s a t → s.at + 1 ≤ t.at
 
-  pub spelled_gains : (says : Nested → Spelled ℕ) → Gaining says → {A : Type 0} (f : Form A) (s : State) (a : A) (t : State) → spelled_with toks says f s a t → further (eats f) s.at ≤ t.at
+  pub spelled_gains : (says : Nested → Spelled ℕ) → Gaining says → {A : Type 0} (f : Form A) (s : State) (a : A) (t : State) → guided_with toks says f s a t → further (eats f) s.at ≤ t.at
   spelled_gains says h (Plain b) s a t (same, to) = subst (λ (u : State). s.at ≤ u.at) (sym to) (omega arith)
   spelled_gains says h Place s a t (same, to) = subst (λ (u : State). s.at ≤ u.at) (sym to) (omega arith)
   spelled_gains says h (One test) s a t (x, found, is, to) = subst (λ (u : State). s.at + 1 ≤ u.at) (sym to) (omega arith)
+  spelled_gains says h (Unless test) s a t (unless, to) = subst (λ (u : State). s.at ≤ u.at) (sym to) (omega arith)
   spelled_gains says h (Both f x) s b t (g, u, a, one, two, same) = further-both (eats f) (eats x) s.at u.at t.at (spelled_gains says h f s g u one) (spelled_gains says h x u a t two)
   spelled_gains says h (Either test x y) s a t (inl (so, one)) = further-first (eats x) (eats y) s.at t.at (spelled_gains says h x s a t one)
   spelled_gains says h (Either test x y) s a t (inr (unless, two)) = further-second (eats x) (eats y) s.at t.at (spelled_gains says h y s a t two)
   spelled_gains says h (Chain test x more) s b t (a, u, n, one, rest) =
       further-more (eats x) s.at u.at t.at (spelled_gains says h x s a u one)
-      (turns_gain n test (spelled_with toks says more) (λ v g w is. further-least (eats more) v.at w.at (spelled_gains says h more v g w is)) (place_at toks s.at) a u b t rest)
+      (turns_gain n test (guided_with toks says more) (λ v g w is. further-least (eats more) v.at w.at (spelled_gains says h more v g w is)) (place_at toks s.at) a u b t rest)
   spelled_gains says h (Inner n) s a t is = h n s a t is
   spelled_gains says h (Made f) s a t (g, u, one, same, to) = subst (λ (v : State). further (eats f) s.at ≤ v.at) (sym to) (spelled_gains says h f s g u one)
 
 -- a form spelled from one place to another, whatever tree stands there
 module _ (all : List Token) where
   abbrev pub Goes : {A : Type 0} → (Nested → Spelled ℕ) → Form A → ℕ → ℕ → Type 0
-  Goes {A} says f i j = (s : State) → s.at ≡ i → (a : A) × (t : State) × spelled_with all says f s a t × (t.at ≡ j)
+  Goes {A} says f i j = (s : State) → s.at ≡ i → (a : A) × (t : State) × guided_with all says f s a t × (t.at ≡ j)
 
   pub ends : {A : Type 0} (says : Nested → Spelled ℕ) (f : Form A) (i j k : ℕ) → j ≡ k → Goes says f i j → Goes says f i k
   ends says f i j k same h = subst (λ n. Goes says f i n) same h
@@ -133,6 +139,9 @@ module _ (all : List Token) where
   goes_one says test i x found so = λ s e.
       let v = some_of (test x) so in
       (v.0, record s { at = s.at + 1 }, (x, ap (λ n. slice_get all n) e ∙ found, v.1, refl), ap (λ n. n + 1) e)
+
+  pub goes_none : (says : Nested → Spelled ℕ) (test : Token → Bool) (i : ℕ) → passes test (slice_get all i) ≡ false → Goes says (Unless test) i i
+  goes_none says test i unless = λ s e. (tt, s, (ap (λ n. passes test (slice_get all n)) e ∙ unless, refl), e)
 
   pub goes_both : {A B : Type 0} (says : Nested → Spelled ℕ) (f : Form (A → B)) (x : Form A) (i j k : ℕ) → Goes says f i j → Goes says x j k → Goes says (Both f x) i k
   goes_both says f x i j k one two = λ s e.
@@ -155,7 +164,7 @@ module _ (all : List Token) where
       let p = one s e in
       ((p.0 p.1.tree).0, record p.1 { tree = (p.0 p.1.tree).1 }, (p.0, p.1, p.2, refl, refl), p.3)
 
-  pub goes_form : (room : ℕ) (n : Nested) (i j : ℕ) → passes (begins n) (slice_get all i) ≡ true → Goes (spelled_inner all room) (form n) i j → Goes (spelled_inner all (suc room)) (Inner n) i j
+  pub goes_form : (room : ℕ) (n : Nested) (i j : ℕ) → passes (begins n) (slice_get all i) ≡ true → Goes (guided_inner all room) (form n) i j → Goes (guided_inner all (suc room)) (Inner n) i j
   goes_form room n i j so one = λ s e.
       let p = one s e in
       (p.0, p.1, (ap (λ m. passes (begins n) (slice_get all m)) e ∙ so, p.2), p.3)
@@ -166,7 +175,7 @@ module _ (all : List Token) where
   Rounds says (suc n) test more i j = (passes test (slice_get all i) ≡ true) × (m : ℕ) × Goes says more i m × Rounds says n test more m j
 
   rounds_turn : {A : Type 0} (says : Nested → Spelled ℕ) (n : ℕ) (test : Token → Bool) (more : Form (ℕ → A → Growth A)) (i j : ℕ) → Rounds says n test more i j
-      → (at : ℕ) (a : A) (s : State) → s.at ≡ i → (b : A) × (t : State) × Turns all n test (spelled_with all says more) at a s b t × (t.at ≡ j)
+      → (at : ℕ) (a : A) (s : State) → s.at ≡ i → (b : A) × (t : State) × GuidedTurns all n test (guided_with all says more) at a s b t × (t.at ≡ j)
   rounds_turn says zero test more i j (unless, same) at a s e = (a, s, (ap (λ n. passes test (slice_get all n)) e ∙ unless, refl, refl), e ∙ sym same)
   rounds_turn says (suc n) test more i j (so, m, one, rest) at a s e =
       let p = one s e in
@@ -231,6 +240,9 @@ module _ (all : List Token) where
       let first = passing (λ t. is_some (test t)) samples fit in
       let here = subst (λ ts. Stands i ts) first.1 stand in
       ends says (One test) i (i + 1) k (omega (arith, far, ap length first.1)) (goes_one says test i first.0 here.0 first.2)
+  shortest ready says h (Unless test) fit call i k far stand is =
+      let here : k ≡ i = omega (arith, far) in
+      ends says (Unless test) i i k (sym here) (goes_none says test i (ap (λ n. passes test (slice_get all n)) (sym here) ∙ halts_none test (slice_get all k) is))
   shortest ready says h (Both f x) fit call i k far stand is =
       let parts = fits_both f x fit in
       let called = and_parts (calls ready f) (calls ready x) call in
@@ -252,16 +264,16 @@ module _ (all : List Token) where
   begun_at n i stand = let first = leads_at (begins n) (whole_inner n) i stand (begun n) in ap (passes (begins n)) first.1 ∙ first.2
 
   -- constructs that are counted, with room for one more in them than their shortest spellings need
-  inner_begins : (ready : Nested → Bool) (room : ℕ) → Ready ready (spelled_inner all room) → (n : Nested) → calls ready (form n) ≡ true → (i : ℕ) → Stands i (whole_inner n)
-      → halts (Inner n) (slice_get all (i + length (whole_inner n))) ≡ true → Goes (spelled_inner all (suc room)) (Inner n) i (i + length (whole_inner n))
+  inner_begins : (ready : Nested → Bool) (room : ℕ) → Ready ready (guided_inner all room) → (n : Nested) → calls ready (form n) ≡ true → (i : ℕ) → Stands i (whole_inner n)
+      → halts (Inner n) (slice_get all (i + length (whole_inner n))) ≡ true → Goes (guided_inner all (suc room)) (Inner n) i (i + length (whole_inner n))
   inner_begins ready room h n call i stand is =
       let k = i + length (whole_inner n) in
       goes_form room n i k (begun_at n i stand)
-      (shortest ready (spelled_inner all room) h (form n) (form_fits n) call i k (ap (λ ts. i + length ts) (sym (form_whole n))) (subst (λ ts. Stands i ts) (sym (form_whole n)) stand) (halts_form n (slice_get all k) is))
+      (shortest ready (guided_inner all room) h (form n) (form_fits n) call i k (ap (λ ts. i + length ts) (sym (form_whole n))) (subst (λ ts. Stands i ts) (sym (form_whole n)) stand) (halts_form n (slice_get all k) is))
 
   never : (n : Nested) → false ≡ true → ⊥
   never n e = cc
 
-  pub room_begins : (room : ℕ) → Ready (λ n. true) (spelled_inner all (suc (suc room)))
+  pub room_begins : (room : ℕ) → Ready (λ n. true) (guided_inner all (suc (suc room)))
   room_begins room n so i stand is =
       inner_begins flat (suc room) (λ m simple j there end. inner_begins (λ p. false) room (λ p none. absurd (never p none)) m (flat_calls m simple) j there end) n (form_calls n) i stand is

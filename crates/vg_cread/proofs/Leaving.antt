@@ -5,9 +5,10 @@ use Rattle.vg_core.specs.Syntax.{Syntax, with_parts, list_of, named_by, listed, 
 use Rattle.vg_core.specs.declared.tree.Kind.{Kind}
 use Rattle.vg_core.specs.declared.tree.Parts.{Parts}
 use Rattle.vg_ctok.specs.declared.kinds.Token.{Token}
-use Rattle.vg_cread.specs.Forms.{Form, Plain, Place, One, Both, Either, Chain, Inner, Made, Nested, Growth, node, node_with}
+use Rattle.vg_cread.specs.Forms.{Form, Plain, Place, One, Unless, Both, Either, Chain, Inner, Made, Nested, Growth, node, node_with}
 use Rattle.vg_cread.specs.Places.{State, place_at}
-use Rattle.vg_cread.specs.Spelling.{Spelled, Turns, spelled_with}
+use Rattle.vg_cread.specs.Spelling.{Spelled}
+use Rattle.vg_cread.specs.Guided.{GuidedTurns, guided_with}
 use Rattle.vg_cread.proofs.Waiting.{Waiting, waiting_node, waiting_parts, listed_last}
 
 -- a growth takes these nodes, and leaves those that its value names
@@ -19,6 +20,7 @@ abbrev pub Leaves : {A : Type 0} → Form A → List ℕ → (A → List ℕ →
 Leaves (Plain a) l P = P a l
 Leaves Place l P = (at : ℕ) → P at l
 Leaves (One test) l P = (x : Token) (a : _) → test x ≡ Some a → P a l
+Leaves (Unless test) l P = (a : Unit {0}) → P a l
 Leaves (Both f x) l P = Leaves f l (λ g m. Leaves x m (λ a k. P (g a) k))
 Leaves (Either test x y) l P = Leaves x l P × Leaves y l P
 Leaves (Chain test x more) l P =
@@ -36,7 +38,7 @@ assoc tree a b c w = subst (λ l. Waiting tree l) (append_assoc a b c) w
 module _ (toks : List Token) where
   turns_leave : {A : Type 0} (names : A → List ℕ) (n : ℕ) (test : Token → Bool) (says : Spelled (ℕ → A → Growth A))
       → ((s : State) (g : ℕ → A → Growth A) (t : State) (row : List ℕ) → says s g t → Waiting s.tree row → (m : List ℕ) × Waiting t.tree (row ++ m) × ((at : ℕ) (a : A) → Takes names (g at a) (names a ++ m)))
-      → (at : ℕ) (a : A) (s : State) (b : A) (t : State) (row : List ℕ) → Turns toks n test says at a s b t → Waiting s.tree (row ++ names a) → Waiting t.tree (row ++ names b)
+      → (at : ℕ) (a : A) (s : State) (b : A) (t : State) (row : List ℕ) → GuidedTurns toks n test says at a s b t → Waiting s.tree (row ++ names a) → Waiting t.tree (row ++ names b)
   turns_leave names zero test says h at a s b t row (unless, same, to) w =
       subst (λ (u : State). Waiting u.tree (row ++ names b)) (sym to) (subst (λ c. Waiting s.tree (row ++ names c)) (sym same) w)
   turns_leave names (suc n) test says h at a s b t row (so, g, u, one, rest) w =
@@ -47,10 +49,11 @@ module _ (toks : List Token) where
   Keeps says = (n : Nested) (s : State) (a : ℕ) (t : State) (row : List ℕ) → says n s a t → Waiting s.tree row → Waiting t.tree (row ++ a ∷ [])
 
   pub leaves : (says : Nested → Spelled ℕ) → Keeps says
-      → {A : Type 0} (f : Form A) (l : List ℕ) (P : A → List ℕ → Type 0) → Leaves f l P → (s : State) (a : A) (t : State) (row : List ℕ) → spelled_with toks says f s a t → Waiting s.tree (row ++ l) → Left row P a t
+      → {A : Type 0} (f : Form A) (l : List ℕ) (P : A → List ℕ → Type 0) → Leaves f l P → (s : State) (a : A) (t : State) (row : List ℕ) → guided_with toks says f s a t → Waiting s.tree (row ++ l) → Left row P a t
   leaves says keep (Plain b) l P h s a t row (same, to) w = subst (λ (u : State). Left row P a u) (sym to) (subst (λ c. Left row P c s) (sym same) (l, w, h))
   leaves says keep Place l P h s a t row (same, to) w = subst (λ (u : State). Left row P a u) (sym to) (l, w, h a)
   leaves says keep (One test) l P h s a t row (x, found, is, to) w = subst (λ (u : State). Left row P a u) (sym to) (l, w, h x a is)
+  leaves says keep (Unless test) l P h s a t row (unless, to) w = subst (λ (u : State). Left row P a u) (sym to) (l, w, h a)
   leaves says keep (Both f x) l P h s b t row (g, u, a, one, two, same) w =
       let first = leaves says keep f l (λ g m. Leaves x m (λ a k. P (g a) k)) h s g u row one w in
       let second = leaves says keep x first.0 (λ a k. P (g a) k) first.2 u a t row two first.1 in
@@ -60,7 +63,7 @@ module _ (toks : List Token) where
   leaves says keep (Chain test x more) l P h s b t row (a, u, n, one, rest) w =
       let first = leaves says keep x [] (λ a m. m ≡ h.0 a) h.1 s a u (row ++ l) one (subst (λ k. Waiting s.tree k) (sym (append-nil (row ++ l))) w) in
       let begun : Waiting u.tree ((row ++ l) ++ h.0 a) = subst (λ k. Waiting u.tree ((row ++ l) ++ k)) first.2 first.1 in
-      let ended = turns_leave h.0 n test (spelled_with toks says more)
+      let ended = turns_leave h.0 n test (guided_with toks says more)
       (λ v g r row one w. leaves says keep more [] (λ g m. (at : ℕ) (a : _) → Takes h.0 (g at a) (h.0 a ++ m)) h.2 v g r row one (subst (λ k. Waiting v.tree k) (sym (append-nil row)) w))
       (place_at toks s.at) a u b t (row ++ l) rest begun in
       (l ++ h.0 b, assoc t.tree row l (h.0 b) ended, h.3 b)

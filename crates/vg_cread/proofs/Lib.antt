@@ -4,6 +4,8 @@ pub mod Rooms
 pub mod Loops
 pub mod Agreement
 pub mod Units
+pub mod Choices
+pub mod Telling
 pub mod Waiting
 pub mod Leaving
 pub mod Rules

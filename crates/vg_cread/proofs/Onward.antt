@@ -2,7 +2,7 @@
 use Rattle.std.proofs.Common.{◌≡◌, ◌≤◌, ◌+◌, ◌-◌, ℕ, zero, suc, Bool, true, false, cond, List, length, slice_get, Option, Some, None, Result, Ok, Err, refl, ap, subst, arith}
 use Rattle.std.specs.Prelude.{◌&&◌, ◌||◌}
 use Rattle.vg_ctok.specs.declared.kinds.Token.{Token}
-use Rattle.vg_cread.specs.Forms.{Form, Plain, Place, One, Both, Either, Chain, Inner, Made, Nested, Growth}
+use Rattle.vg_cread.specs.Forms.{Form, Plain, Place, One, Unless, Both, Either, Chain, Inner, Made, Nested, Growth}
 use Rattle.vg_cread.specs.Places.{State, place_at, passes, tested}
 use Rattle.vg_cread.specs.Reading.{Refusal, Reads, ◌>>=◌, taken, grown, turn, turns, read_with}
 
@@ -38,6 +38,7 @@ abbrev pub eats : {A : Type 0} → Form A → Bool
 eats (Plain a) = false
 eats Place = false
 eats (One test) = true
+eats (Unless test) = false
 eats (Both f x) = eats f || eats x
 eats (Either test x y) = eats x && eats y
 eats (Chain test x more) = eats x
@@ -104,6 +105,8 @@ module _ (toks : List Token) where
   gains inner h (Plain b) s a t e = subst (λ (u : State). s.at ≤ u.at) (same_state e) (omega arith)
   gains inner h Place s a t e = subst (λ (u : State). s.at ≤ u.at) (same_state e) (omega arith)
   gains inner h (One test) s a t e = taken-onward (tested test (slice_get toks s.at)) s a t e
+  gains inner h (Unless test) s a t e =
+      either_side (passes test (slice_get toks s.at)) (λ so is. absurd (cc)) (λ unless is. subst (λ (u : State). s.at ≤ u.at) (same_state is) (omega arith)) e
   gains inner h (Both f x) s a t e =
       let one = bound (read_with toks inner f s) (λ p. read_with toks inner x p.1 >>= λ q. Ok (p.0 q.0, q.1)) e in
       let two = bound (read_with toks inner x one.0.1) (λ q. Ok (one.0.0 q.0, q.1)) one.2 in

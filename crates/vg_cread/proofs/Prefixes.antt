@@ -4,7 +4,7 @@ use Rattle.std.specs.Prelude.{◌&&◌}
 use Rattle.std.proofs.lemmas.Bool.{and_parts}
 use Rattle.std.proofs.lemmas.Option.{slice_get_cases}
 use Rattle.vg_ctok.specs.declared.kinds.Token.{Token}
-use Rattle.vg_cread.specs.Forms.{Form, Plain, Place, One, Both, Either, Chain, Inner, Made, Nested, Growth}
+use Rattle.vg_cread.specs.Forms.{Form, Plain, Place, One, Unless, Both, Either, Chain, Inner, Made, Nested, Growth}
 use Rattle.vg_cread.specs.Grammar.{begins, form}
 use Rattle.vg_cread.specs.Places.{State, place_at, place_or, end_of, passes, tested}
 use Rattle.vg_cread.specs.Reading.{Refusal, Wrong, Deep, Reads, ◌>>=◌, taken, grown, turn, turns, read_with, read_inner}
@@ -132,6 +132,7 @@ module _ (front all : List Token) (rest : List Token) (parts : all ≡ front ++ 
   cut near far both h i gain (Plain a) neat s le = inr refl
   cut near far both h i gain Place neat s le = inr (ap (λ (p : ℕ). ok_at p s) (same_place s.at le))
   cut near far both h i gain (One test) neat s le = inr (one_cut test s le)
+  cut near far both h i gain (Unless test) neat s le = inr (ap (λ b. cond b (Err (Wrong s.at)) (ok_at tt s)) (ap (passes test) (same_token s.at le)))
   cut near far both h i gain (Both f x) neat s le =
       let two = and_parts (tidy f) (tidy x) neat in
       let here : s.at ≤ length front = omega (arith, le) in

@@ -1,7 +1,7 @@
 -- With more room the same is read, and the same refused, but where the room was used up.
 use Rattle.std.proofs.Common.{◌≡◌, ◌∙◌, ◌+◌, ◌-◌, ◌⊎◌, inl, inr, ℕ, zero, suc, Bool, true, false, cond, List, length, slice_get, Result, Ok, Err, refl, sym, ap, subst, arith}
 use Rattle.vg_ctok.specs.declared.kinds.Token.{Token}
-use Rattle.vg_cread.specs.Forms.{Form, Plain, Place, One, Both, Either, Chain, Inner, Made, Nested, Growth}
+use Rattle.vg_cread.specs.Forms.{Form, Plain, Place, One, Unless, Both, Either, Chain, Inner, Made, Nested, Growth}
 use Rattle.vg_cread.specs.Grammar.{begins, form}
 use Rattle.vg_cread.specs.Places.{State, place_at, passes}
 use Rattle.vg_cread.specs.Reading.{Refusal, Wrong, Deep, Reads, ◌>>=◌, grown, turn, turns, read_with, read_inner, read}
@@ -39,6 +39,7 @@ module _ (toks : List Token) where
   keeps one two h (Plain a) s = inr refl
   keeps one two h Place s = inr refl
   keeps one two h (One test) s = inr refl
+  keeps one two h (Unless test) s = inr refl
   keeps one two h (Both f x) s =
       keeps_bind (read_with toks one f s) (read_with toks two f s) (λ p. read_with toks one x p.1 >>= λ q. Ok (p.0 q.0, q.1)) (λ p. read_with toks two x p.1 >>= λ q. Ok (p.0 q.0, q.1)) (keeps one two h f s)
       (λ g t. keeps_bind (read_with toks one x t) (read_with toks two x t) (λ q. Ok (g q.0, q.1)) (λ q. Ok (g q.0, q.1)) (keeps one two h x t) (λ a u. inr refl))

@@ -10,8 +10,9 @@ use Rattle.vg_ctok.specs.declared.kinds.Keyword.{Keyword}
 use Rattle.vg_ctok.specs.declared.kinds.Keyword.TheVariants as words
 use Rattle.vg_ctok.specs.declared.kinds.Sign.{Sign}
 use Rattle.vg_cread.specs.Forms.{Nested, Expression, Operand, Statement, Body}
-use Rattle.vg_cread.specs.Grammar.{form, sign, word, name, flagged, base, int_type, star, handle, array_length, initial, expression, operator, binary, link, unary, postfix, suffix, primary, arguments, opened, statement, block, pieces, piece, declaration, if_statement, otherwise, for_statement, step, return_statement, simple_statement, assignment, action, field, fields, attribute, packing, struct_item, extern_item, param, params, answer, function, item, items, unit}
-use Rattle.vg_cread.specs.Spelling.{spelled_inner, start, Spells}
+use Rattle.vg_cread.specs.Grammar.{form, sign, word, name, flagged, base, int_type, star, handle, array_length, initial, expression, operator, binary, link, unary, postfix, suffix, primary, arguments, no_postfix, opened, statement, block, pieces, piece, declaration, if_statement, otherwise, for_statement, step, return_statement, simple_statement, assignment, action, field, fields, attribute, packing, struct_item, extern_item, param, params, answer, function, item, items, unit}
+use Rattle.vg_cread.specs.Spelling.{start}
+use Rattle.vg_cread.specs.Guided.{guided_inner, Guides}
 use Rattle.vg_cread.proofs.Waiting.{Waiting, waiting_none, used_once}
 use Rattle.vg_cread.proofs.Leaving.{Leaves, Keeps, leaves, Takes, Passes, Names, itself, takes_node, takes_list}
 
@@ -59,9 +60,9 @@ arguments_names l P h = (
 )
 
 opened_names : Names opened itself
-unfolding opened sign
+unfolding opened no_postfix sign
 opened_names l P h = λ at x a is. (
-  base_passes [] _ (λ b. star_passes [] _ (λ pointer y c so k. (itself, takes_node at (nodes.Cast b pointer k) (k ∷ []) (λ items. (omega arith, refl)), h))),
+  base_passes [] _ (λ b. star_passes [] _ (λ pointer y c so k u. (itself, takes_node at (nodes.Cast b pointer k) (k ∷ []) (λ items. (omega arith, refl)), h))),
   λ k y c so. (itself, takes_node at (nodes.Parens k) (k ∷ []) (λ items. (omega arith, refl)), h),
 )
 
@@ -93,11 +94,11 @@ unfolding postfix
 postfix_names l P h = (itself, primary_names [] _ (λ k. refl), suffix_takes, h)
 
 unary_names : Names unary itself
-unfolding unary word sign
+unfolding unary no_postfix word sign
 unary_names l P h = (
-  (λ at x op is k. (itself, takes_node at (nodes.Unary op k) (k ∷ []) (λ items. (omega arith, refl)), h)),
+  (λ at x op is k u. (itself, takes_node at (nodes.Unary op k) (k ∷ []) (λ items. (omega arith, refl)), h)),
   (
-    (λ at x a is y b so. base_passes [] _ (λ t z c closed. (itself, takes_node at (nodes.Sizeof t) [] (λ items. (omega arith, refl)), h))),
+    (λ at x a is y b so. base_passes [] _ (λ t z c closed u. (itself, takes_node at (nodes.Sizeof t) [] (λ items. (omega arith, refl)), h))),
     postfix_names l P h,
   ),
 )
@@ -141,7 +142,7 @@ if_names : Names if_statement itself
 unfolding if_statement otherwise word sign
 if_names l P h = λ at x a is y b so condition z c closed body. (
   (λ v d els other. (itself, takes_node at (nodes.If condition body (Some other)) (condition ∷ body ∷ other ∷ []) (λ items. (omega arith, refl)), h)),
-  (itself, takes_node at (nodes.If condition body None) (condition ∷ body ∷ []) (λ items. (omega arith, refl)), h),
+  λ u. (itself, takes_node at (nodes.If condition body None) (condition ∷ body ∷ []) (λ items. (omega arith, refl)), h),
 )
 
 step_names : Names step option_to_list
@@ -252,19 +253,19 @@ unfolding unit
 unit_names l P h = λ at. items_names [] _ (λ parts. (itself, takes_list at nodes.Unit parts [] parts (λ ps. (refl, refl)) (sym (append-nil parts)), h))
 
 -- whole texts
-inner_keeps : (toks : List Token) (room : ℕ) → Keeps toks (spelled_inner toks room)
+inner_keeps : (toks : List Token) (room : ℕ) → Keeps toks (guided_inner toks room)
 inner_keeps toks zero n s a t row is w = absurd is
 inner_keeps toks (suc room) n s a t row (so, is) w =
-    let left = leaves toks (spelled_inner toks room) (inner_keeps toks room) (form n) [] (λ k m. m ≡ k ∷ []) (form_names n [] _ (λ k. refl)) s a t row is (subst (λ m. Waiting s.tree m) (sym (append-nil row)) w) in
+    let left = leaves toks (guided_inner toks room) (inner_keeps toks room) (form n) [] (λ k m. m ≡ k ∷ []) (form_names n [] _ (λ k. refl)) s a t row is (subst (λ m. Waiting s.tree m) (sym (append-nil row)) w) in
     subst (λ m. Waiting t.tree (row ++ m)) left.2 left.1
 
-root_waits : (toks : List Token) (room : ℕ) (tree : Syntax) → Spells room toks tree → (root : ℕ) × Waiting tree (root ∷ [])
+root_waits : (toks : List Token) (room : ℕ) (tree : Syntax) → Guides room toks tree → (root : ℕ) × Waiting tree (root ∷ [])
 root_waits toks room tree (root, is) =
-    let left = leaves toks (spelled_inner toks room) (inner_keeps toks room) unit [] (λ k m. m ≡ k ∷ []) (unit_names [] _ (λ k. refl)) start root (record { at = length toks; tree = tree }) [] is waiting_none in
+    let left = leaves toks (guided_inner toks room) (inner_keeps toks room) unit [] (λ k m. m ≡ k ∷ []) (unit_names [] _ (λ k. refl)) start root (record { at = length toks; tree = tree }) [] is waiting_none in
     (root, subst (λ m. Waiting tree m) left.2 left.1)
 
-pub parts_first : (toks : List Token) (room : ℕ) (tree : Syntax) → Spells room toks tree → IsOrdered tree
+pub parts_first : (toks : List Token) (room : ℕ) (tree : Syntax) → Guides room toks tree → IsOrdered tree
 parts_first toks room tree is = (root_waits toks room tree is).1.ordered
 
-pub parts_used_once : (toks : List Token) (room : ℕ) (tree : Syntax) → Spells room toks tree → IsUsedOnce tree
+pub parts_used_once : (toks : List Token) (room : ℕ) (tree : Syntax) → Guides room toks tree → IsUsedOnce tree
 parts_used_once toks room tree is = let last = root_waits toks room tree is in used_once tree last.0 last.1

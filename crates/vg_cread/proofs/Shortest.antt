@@ -9,8 +9,8 @@ use Rattle.vg_ctok.specs.declared.kinds.TokenKind.TheVariants as kinds
 use Rattle.vg_ctok.specs.declared.kinds.Keyword.TheVariants as words
 use Rattle.vg_ctok.specs.declared.kinds.Sign.TheVariants as signs
 use Rattle.vg_ctok.specs.declared.kinds.NumberType.TheVariants as numbers
-use Rattle.vg_cread.specs.Forms.{Form, Plain, Place, One, Both, Either, Chain, Inner, Made, Nested, Expression, Operand, Statement, Body, Growth, node, ◌⊛◌, ◌⊳◌, optional}
-use Rattle.vg_cread.specs.Grammar.{begins, form, sign, word, name, flagged, base, int_type, star, handle, array_length, initial, expression, operator, binary, link, unary, postfix, suffix, primary, arguments, opened, statement, block, pieces, piece, declaration, if_statement, otherwise, for_statement, step, return_statement, simple_statement, assignment, action, field, fields, attribute, packing, struct_item, extern_item, param, params, answer, function, item, items, unit}
+use Rattle.vg_cread.specs.Forms.{Form, Plain, Place, One, Unless, Both, Either, Chain, Inner, Made, Nested, Expression, Operand, Statement, Body, Growth, node, ◌⊛◌, ◌⊳◌, optional}
+use Rattle.vg_cread.specs.Grammar.{begins, form, sign, word, name, flagged, base, int_type, star, handle, array_length, initial, expression, operator, binary, link, unary, postfix, suffix, primary, arguments, opened, no_postfix, statement, block, pieces, piece, declaration, if_statement, otherwise, for_statement, step, return_statement, simple_statement, assignment, action, field, fields, attribute, packing, struct_item, extern_item, param, params, answer, function, item, items, unit}
 use Rattle.vg_cread.specs.Kinds.{is_sign, is_binary, binary_of}
 use Rattle.vg_cread.proofs.Onward.{eats}
 use Rattle.vg_cread.proofs.Rooms.{binary_eats}
@@ -49,6 +49,7 @@ abbrev pub whole : {A : Type 0} → Form A → List Token
 whole (Plain a) = []
 whole Place = []
 whole (One test) = sample test
+whole (Unless test) = []
 whole (Both f x) = whole f ++ whole x
 whole (Either test x y) = whole y
 whole (Chain test x more) = whole x
@@ -72,6 +73,7 @@ abbrev pub stops : {A : Type 0} → Form A → Token → Bool
 stops (Plain a) t = true
 stops Place t = true
 stops (One test) t = true
+stops (Unless test) t = not (test t)
 stops (Both f x) t = stops x t && (eats x || stops f t)
 stops (Either test x y) t = stops x t && stops y t && (eats y || not (test t))
 stops (Chain test x more) t = stops x t && stops more t && not (test t)
@@ -91,6 +93,7 @@ abbrev pub fits : {A : Type 0} → Form A → Bool
 fits (Plain a) = true
 fits Place = true
 fits (One test) = leads (λ t. is_some (test t)) (sample test)
+fits (Unless test) = true
 fits (Both f x) = fits f && fits x && cond (eats x) (leads (stops f) (whole x)) (is_empty (whole x))
 fits (Either test x y) = fits x && fits y && eats x && cond (eats y) (leads (λ t. not (test t)) (whole y)) (is_empty (whole y))
 fits (Chain test x more) = fits x && fits more && eats more
@@ -102,6 +105,7 @@ abbrev pub calls : {A : Type 0} → (Nested → Bool) → Form A → Bool
 calls ready (Plain a) = true
 calls ready Place = true
 calls ready (One test) = true
+calls ready (Unless test) = true
 calls ready (Both f x) = calls ready f && calls ready x
 calls ready (Either test x y) = calls ready y
 calls ready (Chain test x more) = calls ready x
@@ -123,7 +127,7 @@ closing P a b c d e t is = by t.kind t.from t.to is
     by _ from to is = absurd (cc)
 
 unary_stops : (t : Token) → closes t ≡ true → stops unary t ≡ true
-unfolding unary postfix suffix primary opened arguments sign word name base int_type star
+unfolding unary postfix suffix primary opened no_postfix arguments sign word name base int_type star
 unary_stops t is = closing (λ t. stops unary t ≡ true) (λ from to. refl) (λ from to. refl) (λ from to. refl) (λ from to. refl) (λ from to. refl) t is
 
 link_stops : (rank : ℕ) (t : Token) → stops (binary rank) t ≡ true → stops (link (suc rank) (binary rank)) t ≡ true
@@ -166,7 +170,7 @@ form_stops Statement = statement_stops
 form_stops Body = block_stops
 
 unary_fits : fits unary ≡ true
-unfolding unary postfix suffix primary opened arguments sign word name base int_type star
+unfolding unary postfix suffix primary opened no_postfix arguments sign word name base int_type star
 unary_fits = refl
 
 unary_whole : whole unary ≡ token kinds.Name ∷ []

@@ -3,10 +3,11 @@ use Rattle.std.proofs.Common.{◌≡◌, ◌∙◌, ◌≤◌, ◌+◌, ◌-◌,
 use Rattle.std.specs.Prelude.{◌&&◌}
 use Rattle.std.proofs.lemmas.Bool.{and_parts}
 use Rattle.vg_ctok.specs.declared.kinds.Token.{Token}
-use Rattle.vg_cread.specs.Forms.{Form, Plain, Place, One, Both, Either, Chain, Inner, Made, Nested, Growth}
+use Rattle.vg_cread.specs.Forms.{Form, Plain, Place, One, Unless, Both, Either, Chain, Inner, Made, Nested, Growth}
 use Rattle.vg_cread.specs.Grammar.{begins, form, unit}
 use Rattle.vg_cread.specs.Places.{State, place_at, passes, tested}
-use Rattle.vg_cread.specs.Spelling.{Spelled, spelled_with, spelled_inner, start}
+use Rattle.vg_cread.specs.Spelling.{Spelled, start}
+use Rattle.vg_cread.specs.Guided.{guided_with, guided_inner}
 use Rattle.vg_cread.specs.Refusals.{TurnsTo, comes_with, lacks_inner, opens_inner, Lacks, Opens}
 use Rattle.vg_cread.specs.Reading.{Refusal, Wrong, Deep, Reads, ◌>>=◌, taken, grown, turn, turns, read_with, read_inner, read}
 use Rattle.vg_cread.proofs.Onward.{bound, ok_at, same_state, same_value, either_side, Gains, gains, further, eats}
@@ -20,7 +21,7 @@ bound_stops : {A B : Type 0} (r : Result (A × State) Refusal) (k : A × State �
 bound_stops (Ok p) k e is = inr (p, refl, is)
 bound_stops (Err f) k e is = inl (cc)
 
-err_at : {A : Type 0} → Refusal → Result (A × State) Refusal
+abbrev err_at : {A : Type 0} → Refusal → Result (A × State) Refusal
 err_at e = Err e
 
 refusal_or : {A : Type 0} → Refusal → Result (A × State) Refusal → Refusal
@@ -76,6 +77,8 @@ module _ (toks : List Token) where
   stops_with inner says lacks deeper e gain ok one more (Plain a) neat s is = absurd (cc)
   stops_with inner says lacks deeper e gain ok one more Place neat s is = absurd (cc)
   stops_with inner says lacks deeper e gain ok one more (One test) neat s is = let stop = taken_stops (tested test (slice_get toks s.at)) s e is in (one s stop.0, stop.1)
+  stops_with inner says lacks deeper e gain ok one more (Unless test) neat s is =
+      either_side (passes test (slice_get toks s.at)) (λ so is. (one s (sym (same_refusal (Wrong s.at) e (err_at (Wrong s.at)) refl is)), so)) (λ unless is. absurd (cc)) is
   stops_with inner says lacks deeper e gain ok one more (Both f x) neat s is =
       let parts = and_parts (tidy f) (tidy x) neat in
       elim (bound_stops (read_with toks inner f s) (λ p. read_with toks inner x p.1 >>= λ q. Ok (p.0 q.0, q.1)) e is) [
@@ -95,7 +98,7 @@ module _ (toks : List Token) where
       elim (bound_stops (read_with toks inner x s) (λ p. turns toks (length toks - p.1.at) test (read_with toks inner rest) (place_at toks s.at) p.0 p.1) e is) [
         | inl first ↦ inl (stops_with inner says lacks deeper e gain ok one more x front.0 s first)
         | inr later ↦
-            let turn_at = turns_stop (length toks - later.0.1.at) test (read_with toks inner rest) (spelled_with toks says rest) (comes_with toks says lacks deeper rest) e
+            let turn_at = turns_stop (length toks - later.0.1.at) test (read_with toks inner rest) (guided_with toks says rest) (comes_with toks says lacks deeper rest) e
             (λ v g w h. sound toks inner says gain ok rest all.1 v g w h) (λ v h. stops_with inner says lacks deeper e gain ok one more rest all.1 v h) (place_at toks s.at) later.0.0 later.0.1 later.2 in
             inr (later.0.0, later.0.1, turn_at.0, sound toks inner says gain ok x front.0 s later.0.0 later.0.1 later.1, turn_at.1)
       ]
@@ -117,7 +120,7 @@ module _ (toks : List Token) where
       either_side (passes (begins n) (slice_get toks s.at))
       (λ so is. inr (
         so,
-        stops_with (read_inner toks room) (spelled_inner toks room) (λ u. u.at ≡ i) (lacks_inner toks i room) (Wrong i) (inner_gains toks room) (inner_sound toks room) (lacks_at i)
+        stops_with (read_inner toks room) (guided_inner toks room) (λ u. u.at ≡ i) (lacks_inner toks i room) (Wrong i) (inner_gains toks room) (inner_sound toks room) (lacks_at i)
             (λ m u h. inner_lacks room i m u h) (form n) (form_tidy n) s is,
       ))
       (λ unless is. inl (cc is, unless)) is
@@ -128,18 +131,18 @@ module _ (toks : List Token) where
       either_side (passes (begins n) (slice_get toks s.at))
       (λ so is. (
         so,
-        stops_with (read_inner toks room) (spelled_inner toks room) (λ u. ⊥) (opens_inner toks i room) (Deep i) (inner_gains toks room) (inner_sound toks room) (never_wrong i)
+        stops_with (read_inner toks room) (guided_inner toks room) (λ u. ⊥) (opens_inner toks i room) (Deep i) (inner_gains toks room) (inner_sound toks room) (never_wrong i)
             (λ m u h. inner_opens room i m u h) (form n) (form_tidy n) s is,
       ))
       (λ unless is. absurd (cc is)) is
 
   pub unit_lacks : (room i : ℕ) → read toks room unit start ≡ Err (Wrong i) → Lacks room toks i
   unit_lacks room i is =
-      stops_with (read_inner toks room) (spelled_inner toks room) (λ u. u.at ≡ i) (lacks_inner toks i room) (Wrong i) (inner_gains toks room) (inner_sound toks room) (lacks_at i) (inner_lacks room i) unit unit_tidy start is
+      stops_with (read_inner toks room) (guided_inner toks room) (λ u. u.at ≡ i) (lacks_inner toks i room) (Wrong i) (inner_gains toks room) (inner_sound toks room) (lacks_at i) (inner_lacks room i) unit unit_tidy start is
 
   pub unit_opens : (room i : ℕ) → read toks room unit start ≡ Err (Deep i) → Opens room toks i
   unit_opens room i is =
-      stops_with (read_inner toks room) (spelled_inner toks room) (λ u. ⊥) (opens_inner toks i room) (Deep i) (inner_gains toks room) (inner_sound toks room) (never_wrong i) (inner_opens room i) unit unit_tidy start is
+      stops_with (read_inner toks room) (guided_inner toks room) (λ u. ⊥) (opens_inner toks i room) (Deep i) (inner_gains toks room) (inner_sound toks room) (never_wrong i) (inner_opens room i) unit unit_tidy start is
 
   -- and where the grammar comes to such a place, reading stops there
   turns_back : {A : Type 0} (n left : ℕ) (test : Token → Bool) (more : Reads (ℕ → A → Growth A)) (says : Spelled (ℕ → A → Growth A)) (stops : State → Type 0) (e : Refusal)
@@ -171,6 +174,7 @@ module _ (toks : List Token) where
   comes_back inner says lacks deeper e gain ok one more (Plain a) neat s is = absurd is
   comes_back inner says lacks deeper e gain ok one more Place neat s is = absurd is
   comes_back inner says lacks deeper e gain ok one more (One test) neat s (here, none) = one_back test s e (one s here) none
+  comes_back inner says lacks deeper e gain ok one more (Unless test) neat s (here, so) = rw so (ap (λ f. Err f) (sym (one s here)))
   comes_back inner says lacks deeper e gain ok one more (Both f x) neat s (inl first) =
       first_back (read_with toks inner f) (read_with toks inner x) s e (comes_back inner says lacks deeper e gain ok one more f (and_parts (tidy f) (tidy x) neat).0 s first)
   comes_back inner says lacks deeper e gain ok one more (Both f x) neat s (inr (g, u, first, second)) =
@@ -185,7 +189,7 @@ module _ (toks : List Token) where
   comes_back inner says lacks deeper e gain ok one more (Chain test x rest) neat s (inr (a, u, n, first, later)) =
       let all = and_parts (tidy x && eats rest) (tidy rest) neat in
       let front = and_parts (tidy x) (eats rest) all.0 in
-      let back = turns_back n (length toks - u.at) test (read_with toks inner rest) (spelled_with toks says rest) (comes_with toks says lacks deeper rest) e
+      let back = turns_back n (length toks - u.at) test (read_with toks inner rest) (guided_with toks says rest) (comes_with toks says lacks deeper rest) e
       (λ v g w h. complete toks inner says gain ok rest all.1 v g w h) (λ v h. comes_back inner says lacks deeper e gain ok one more rest all.1 v h)
       (λ v g w is. subst (λ (c : Bool). further c v.at ≤ w.at) front.1 (gains toks inner gain rest v g w is)) (place_at toks s.at) a u (omega arith) later in
       rw (complete toks inner says gain ok x front.0 s a u first) back
@@ -199,16 +203,16 @@ module _ (toks : List Token) where
   lacks_back zero i n s (here, unless) = rw unless (ap (λ j. Err (Wrong j)) here)
   lacks_back (suc room) i n s (inl (here, unless)) = rw unless (ap (λ j. Err (Wrong j)) here)
   lacks_back (suc room) i n s (inr (so, is)) =
-      rw so (comes_back (read_inner toks room) (spelled_inner toks room) (λ u. u.at ≡ i) (lacks_inner toks i room) (Wrong i) (inner_gains toks room) (inner_complete toks room) (back_at i) (λ m u h. lacks_back room i m u h) (form n) (form_tidy n) s is)
+      rw so (comes_back (read_inner toks room) (guided_inner toks room) (λ u. u.at ≡ i) (lacks_inner toks i room) (Wrong i) (inner_gains toks room) (inner_complete toks room) (back_at i) (λ m u h. lacks_back room i m u h) (form n) (form_tidy n) s is)
 
   opens_back : (room i : ℕ) (n : Nested) (s : State) → opens_inner toks i room n s → read_inner toks room n s ≡ Err (Deep i)
   opens_back zero i n s (here, so) = rw so (ap (λ j. Err (Deep j)) here)
   opens_back (suc room) i n s (so, is) =
-      rw so (comes_back (read_inner toks room) (spelled_inner toks room) (λ u. ⊥) (opens_inner toks i room) (Deep i) (inner_gains toks room) (inner_complete toks room) (λ u none. absurd none) (λ m u h. opens_back room i m u h) (form n) (form_tidy n) s is)
+      rw so (comes_back (read_inner toks room) (guided_inner toks room) (λ u. ⊥) (opens_inner toks i room) (Deep i) (inner_gains toks room) (inner_complete toks room) (λ u none. absurd none) (λ m u h. opens_back room i m u h) (form n) (form_tidy n) s is)
 
   pub unit_lacked : (room i : ℕ) → Lacks room toks i → read toks room unit start ≡ Err (Wrong i)
-  unit_lacked room i is = comes_back (read_inner toks room) (spelled_inner toks room) (λ u. u.at ≡ i) (lacks_inner toks i room) (Wrong i) (inner_gains toks room) (inner_complete toks room) (back_at i) (lacks_back room i) unit unit_tidy start is
+  unit_lacked room i is = comes_back (read_inner toks room) (guided_inner toks room) (λ u. u.at ≡ i) (lacks_inner toks i room) (Wrong i) (inner_gains toks room) (inner_complete toks room) (back_at i) (lacks_back room i) unit unit_tidy start is
 
   pub unit_opened : (room i : ℕ) → Opens room toks i → read toks room unit start ≡ Err (Deep i)
   unit_opened room i is =
-      comes_back (read_inner toks room) (spelled_inner toks room) (λ u. ⊥) (opens_inner toks i room) (Deep i) (inner_gains toks room) (inner_complete toks room) (λ u none. absurd none) (opens_back room i) unit unit_tidy start is
+      comes_back (read_inner toks room) (guided_inner toks room) (λ u. ⊥) (opens_inner toks i room) (Deep i) (inner_gains toks room) (inner_complete toks room) (λ u none. absurd none) (opens_back room i) unit unit_tidy start is

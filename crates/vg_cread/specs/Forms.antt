@@ -25,12 +25,14 @@ pub data Form : Type 0 → Type 1 where
   Place : Form ℕ
   -- a token of which the test gives a value
   One : {A : Type 0} → (Token → Option A) → Form A
+  -- no token, and the next one fails the test
+  Unless : (Token → Bool) → Form (Unit {0})
   -- two forms, one behind the other
   Both : {A B : Type 0} → Form (A → B) → Form A → Form B
-  -- the first form where the next token passes the test, and else the second
+  -- the first form or the second; a reader takes the first where the next token passes the test
   Either : {A : Type 0} → (Token → Bool) → Form A → Form A → Form A
-  -- the first form, and behind it the second one, again and again, as long as the next token passes the test; the second is
-  -- given the place of the whole and the value so far
+  -- the first form, and behind it the second one any number of times, which is given the place of the whole and the value so far;
+  -- a reader goes on as long as the next token passes the test
   Chain : {A : Type 0} → (Token → Bool) → Form A → Form (ℕ → A → Growth A) → Form A
   -- a construct that is counted; the value is its node's number
   Inner : Nested → Form ℕ
@@ -51,7 +53,7 @@ infixl 20 ◌⊳◌
 abbrev pub ◌⊳◌ : {A B : Type 0} → Form A → Form B → Form B
 x ⊳ y = Plain (λ _ b. b) ⊛ x ⊛ y
 
--- what stands only where the next token passes the test
+-- what may be left out
 abbrev pub optional : {A : Type 0} → (Token → Bool) → Form A → Form (Option A)
 optional test x = Either test (Plain (λ a. Some a) ⊛ x) (Plain None)
 
@@ -63,7 +65,7 @@ same a tree = (a, tree)
 abbrev pub one_more : ℕ → ℕ → List ℕ → Growth (List ℕ)
 one_more part at parts = same (parts ++ part ∷ [])
 
--- a list of parts, as long as the next token passes the test
+-- a list of any number of parts
 abbrev pub listed : (Token → Bool) → Form ℕ → Form (List ℕ)
 listed test x = Chain test (Plain []) (Plain one_more ⊛ x)
 

@@ -1,5 +1,5 @@
--- The grammar of the C profile, after C11 6.5, 6.7, 6.8 and 6.9: one form a rule, in the order of its tokens. Where a rule has a
--- choice, the next token tells which side it is. Above each rule stands its text.
+-- The grammar of the C profile, after C11 6.5, 6.7, 6.8 and 6.9: one form a rule, in the order of its tokens. Above each rule stands
+-- its text. The tests in choices and chains are for the reader.
 use Rattle.std.specs.Prelude.{ℕ, zero, suc, List, [], ◌∷◌, Bool, true, false, Option, Some, None, if◌then◌else◌}
 use Rattle.vg_core.specs.declared.tree.Name.{Name}
 use Rattle.vg_core.specs.declared.tree.Base.{Base}
@@ -17,8 +17,8 @@ use Rattle.vg_ctok.specs.declared.kinds.Sign.TheVariants as signs
 use Rattle.vg_ctok.specs.declared.kinds.Token.{Token}
 use Rattle.vg_cread.specs.declared.statements.Action.{Action}
 use Rattle.vg_cread.specs.declared.statements.Action.TheVariants as actions
-use Rattle.vg_cread.specs.Forms.{Form, Plain, Place, One, Either, Chain, Inner, Made, Nested, Expression, Operand, Statement, Body, Growth, ◌⊛◌, ◌⊲◌, ◌⊳◌, optional, listed, same, one_more, node, node_with}
-use Rattle.vg_cread.specs.Kinds.{is_sign, is_word, name_of, number_of, number_type, int_of, handle_of, unary_of, binary_of, is_binary, assign_of, is_assign, is_number, begins_base, begins_unary, begins_expression, begins_statement, begins_piece, begins_suffix, any_token}
+use Rattle.vg_cread.specs.Forms.{Form, Plain, Place, One, Unless, Either, Chain, Inner, Made, Nested, Expression, Operand, Statement, Body, Growth, ◌⊛◌, ◌⊲◌, ◌⊳◌, optional, listed, same, one_more, node, node_with}
+use Rattle.vg_cread.specs.Kinds.{is_sign, is_word, name_of, number_of, number_type, int_of, handle_of, unary_of, binary_of, is_binary, assign_of, is_assign, is_number, begins_base, begins_unary, begins_expression, begins_statement, begins_piece, begins_suffix, is_postfix_operator, any_token}
 
 -- a sign, a keyword, a name
 unfoldable pub sign : Sign → Form (Unit {0})
@@ -63,10 +63,14 @@ abbrev pub named : ℕ → Name → Option (List ℕ) → Growth ℕ
 named at n None = node at (nodes.Variable n)
 named at n (Some parts) = node_with at (nodes.Call n) parts
 
+-- no operator that stands behind a postfix alone: none follows a cast, a sizeof, or the operand of a sign (C11 6.5.2 to 6.5.4)
+unfoldable pub no_postfix : Form (Unit {0})
+no_postfix = Unless is_postfix_operator
+
 -- in parentheses: ( base [*] ) operand | ( expression )
 unfoldable pub opened : Form ℕ
 opened = Made (Plain (λ at kind. node at kind) ⊛ Place ⊲ sign signs.LeftParen ⊛ Either begins_base
-    (Plain (λ b pointer operand. nodes.Cast b pointer operand) ⊛ base ⊛ star ⊲ sign signs.RightParen ⊛ Inner Operand)
+    (Plain (λ b pointer operand. nodes.Cast b pointer operand) ⊛ base ⊛ star ⊲ sign signs.RightParen ⊛ Inner Operand ⊲ no_postfix)
     (Plain nodes.Parens ⊛ Inner Expression ⊲ sign signs.RightParen))
 
 -- primary: what is in parentheses | number | name [ ( arguments ) ]
@@ -90,9 +94,9 @@ postfix = Chain begins_suffix primary suffix
 -- unary: (- | ~ | ! | * | &) unary | sizeof ( base ) | postfix
 unfoldable pub unary : Form ℕ
 unary = Either begins_unary
-    (Made (Plain (λ at op operand. node at (nodes.Unary op operand)) ⊛ Place ⊛ One unary_of ⊛ Inner Operand))
+    (Made (Plain (λ at op operand. node at (nodes.Unary op operand)) ⊛ Place ⊛ One unary_of ⊛ Inner Operand ⊲ no_postfix))
     (Either (is_word words.Sizeof)
-    (Made (Plain (λ at b. node at (nodes.Sizeof b)) ⊛ Place ⊲ word words.Sizeof ⊲ sign signs.LeftParen ⊛ base ⊲ sign signs.RightParen))
+    (Made (Plain (λ at b. node at (nodes.Sizeof b)) ⊛ Place ⊲ word words.Sizeof ⊲ sign signs.LeftParen ⊛ base ⊲ sign signs.RightParen ⊲ no_postfix))
     postfix)
 
 unfoldable pub operator : ℕ → Form BinaryOp
@@ -139,11 +143,11 @@ unfoldable pub block : Form ℕ
 block = Made (Plain (λ at parts end. node_with at (λ statements. nodes.Block statements end) parts)
     ⊛ Place ⊲ sign signs.LeftBrace ⊛ pieces ⊛ Place ⊲ sign signs.RightBrace)
 
--- [ else statement ]
+-- [ else statement ]; an `else` belongs to the nearest `if`, so none stands behind an `if` that goes without (C11 6.8.4.1, paragraph 3)
 unfoldable pub otherwise : Form (Option ℕ)
-otherwise = optional (is_word words.Else) (word words.Else ⊳ Inner Statement)
+otherwise = Either (is_word words.Else) (Plain (λ a. Some a) ⊛ (word words.Else ⊳ Inner Statement)) (Plain (λ _. None) ⊛ Unless (is_word words.Else))
 
--- if-statement: if ( expression ) statement [ else statement ]; the else belongs to the nearest if (C11 6.8.4.1, paragraph 3)
+-- if-statement: if ( expression ) statement [ else statement ]
 unfoldable pub if_statement : Form ℕ
 if_statement = Made (Plain (λ at condition a b. node at (nodes.If condition a b))
     ⊛ Place ⊲ word words.If ⊲ sign signs.LeftParen ⊛ Inner Expression ⊲ sign signs.RightParen ⊛ Inner Statement
@@ -195,7 +199,7 @@ statement =
     (Either (is_word words.For) for_statement
     (Either (is_word words.Return) return_statement simple_statement))))
 
--- what the counted constructs begin with, and their forms
+-- what the counted constructs begin with, for the reader, and their forms
 abbrev pub begins : Nested → Token → Bool
 begins Expression = begins_expression
 begins Operand = begins_expression

@@ -143,10 +143,9 @@ number_type number.Uint32 = ints.Uint32
 number_type number.Int64 = ints.Int64
 number_type number.Uint64 = ints.Uint64
 
--- the types of integers, of which `unsigned` may stand before `int`
+-- the types of integers that are one word; `unsigned` may have an `int` behind it
 abbrev pub int_word : Keyword → Option IntType
 int_word word.Int = Some ints.Int
-int_word word.Unsigned = Some ints.Unsigned
 int_word word.Int8 = Some ints.Int8
 int_word word.Int16 = Some ints.Int16
 int_word word.Int32 = Some ints.Int32
@@ -237,7 +236,7 @@ is_assign t = is_some (assign_of t)
 
 -- what the constructs begin with
 abbrev pub begins_base : Token → Bool
-begins_base t = is_some (int_of t) || is_word word.Struct t
+begins_base t = is_some (int_of t) || is_word word.Unsigned t || is_word word.Struct t
 
 abbrev pub begins_unary : Token → Bool
 begins_unary t = is_some (unary_of t)
@@ -257,6 +256,10 @@ begins_piece t = begins_base t || begins_statement t
 
 abbrev pub begins_suffix : Token → Bool
 begins_suffix t = is_sign sign.LeftBracket t || is_sign sign.Dot t || is_sign sign.Arrow t
+
+-- the operators that stand behind a postfix alone (C11 6.5.2)
+abbrev pub is_postfix_operator : Token → Bool
+is_postfix_operator t = begins_suffix t || is_sign sign.PlusPlus t || is_sign sign.MinusMinus t
 
 abbrev pub any_token : Token → Bool
 any_token t = true

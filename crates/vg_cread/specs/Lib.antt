@@ -4,4 +4,5 @@ pub mod Places
 pub mod Grammar
 pub mod Reading
 pub mod Spelling
+pub mod Guided
 pub mod Refusals

@@ -3,7 +3,7 @@ use Rattle.std.specs.Prelude.{◌≡◌, ℕ, zero, suc, ◌+◌, ◌-◌, List,
 use Rattle.std.specs.Global.{Vec}
 use Rattle.vg_core.specs.Syntax.{Syntax}
 use Rattle.vg_ctok.specs.declared.kinds.Token.{Token}
-use Rattle.vg_cread.specs.Forms.{Form, Plain, Place, One, Both, Either, Chain, Inner, Made, Nested, Growth}
+use Rattle.vg_cread.specs.Forms.{Form, Plain, Place, One, Unless, Both, Either, Chain, Inner, Made, Nested, Growth}
 use Rattle.vg_cread.specs.Grammar.{begins, form}
 use Rattle.vg_cread.specs.Places.{State, place_at, passes, tested}
 use Rattle.vg_cread.specs.declared.reader.Source.{Source}
@@ -49,6 +49,7 @@ module _ (toks : List Token) where
   read_with inner (Plain a) s = Ok (a, s)
   read_with inner Place s = Ok (place_at toks s.at, s)
   read_with inner (One test) s = taken (tested test (slice_get toks s.at)) s
+  read_with inner (Unless test) s = if passes test (slice_get toks s.at) then Err (Wrong s.at) else Ok (tt, s)
   read_with inner (Both f x) s = read_with inner f s >>= λ p. read_with inner x p.1 >>= λ q. Ok (p.0 q.0, q.1)
   read_with inner (Either test x y) s = if passes test (slice_get toks s.at) then read_with inner x s else read_with inner y s
   read_with inner (Chain test x more) s =

@@ -2,12 +2,13 @@
 use Rattle.std.specs.Prelude.{◌≡◌, ℕ, zero, suc, ◌+◌, List, ◌++◌, take, slice_get, Bool, true, false, Option, Some, None, ◌⊎◌}
 use Rattle.vg_core.specs.Syntax.{Syntax}
 use Rattle.vg_ctok.specs.declared.kinds.Token.{Token}
-use Rattle.vg_cread.specs.Forms.{Form, Plain, Place, One, Both, Either, Chain, Inner, Made, Nested, Growth}
+use Rattle.vg_cread.specs.Forms.{Form, Plain, Place, One, Unless, Both, Either, Chain, Inner, Made, Nested, Growth}
 use Rattle.vg_cread.specs.Grammar.{begins, form, unit}
 use Rattle.vg_cread.specs.Places.{State, place_at, passes, tested}
 use Rattle.vg_cread.specs.declared.reading.ReadFault.{ReadFault}
 use Rattle.vg_cread.specs.declared.reading.ReadFault.TheVariants as faults
-use Rattle.vg_cread.specs.Spelling.{Spelled, spelled_with, spelled_inner, start, Spells}
+use Rattle.vg_cread.specs.Spelling.{Spelled, start, Spells}
+use Rattle.vg_cread.specs.Guided.{guided_with, guided_inner}
 
 module _ (toks : List Token) where
   -- so many turns of a chain are spelled, and in the next one its form stops
@@ -23,13 +24,14 @@ module _ (toks : List Token) where
   comes_with says lacks inner (Plain a) s = ⊥
   comes_with says lacks inner Place s = ⊥
   comes_with says lacks inner (One test) s = lacks s × (tested test (slice_get toks s.at) ≡ None)
+  comes_with says lacks inner (Unless test) s = lacks s × (passes test (slice_get toks s.at) ≡ true)
   comes_with says lacks inner (Both f x) s =
-      comes_with says lacks inner f s ⊎ ((g : _ → _) × (u : State) × spelled_with toks says f s g u × comes_with says lacks inner x u)
+      comes_with says lacks inner f s ⊎ ((g : _ → _) × (u : State) × guided_with toks says f s g u × comes_with says lacks inner x u)
   comes_with says lacks inner (Either test x y) s =
       ((passes test (slice_get toks s.at) ≡ true) × comes_with says lacks inner x s) ⊎ ((passes test (slice_get toks s.at) ≡ false) × comes_with says lacks inner y s)
   comes_with says lacks inner (Chain test x more) s =
       comes_with says lacks inner x s
-      ⊎ ((a : _) × (u : State) × (n : ℕ) × spelled_with toks says x s a u × TurnsTo n test (spelled_with toks says more) (comes_with says lacks inner more) (place_at toks s.at) a u)
+      ⊎ ((a : _) × (u : State) × (n : ℕ) × guided_with toks says x s a u × TurnsTo n test (guided_with toks says more) (comes_with says lacks inner more) (place_at toks s.at) a u)
   comes_with says lacks inner (Inner n) s = inner n s
   comes_with says lacks inner (Made f) s = comes_with says lacks inner f s
 
@@ -38,22 +40,22 @@ module _ (toks : List Token) where
   lacks_inner i zero n s = (s.at ≡ i) × (passes (begins n) (slice_get toks s.at) ≡ false)
   lacks_inner i (suc room) n s =
       ((s.at ≡ i) × (passes (begins n) (slice_get toks s.at) ≡ false))
-      ⊎ ((passes (begins n) (slice_get toks s.at) ≡ true) × comes_with (spelled_inner toks room) (λ u. u.at ≡ i) (lacks_inner i room) (form n) s)
+      ⊎ ((passes (begins n) (slice_get toks s.at) ≡ true) × comes_with (guided_inner toks room) (λ u. u.at ≡ i) (lacks_inner i room) (form n) s)
 
   -- a counted construct comes to one that begins with the token behind so many, and has no room
   abbrev pub opens_inner : ℕ → ℕ → Nested → State → Type 0
   opens_inner i zero n s = (s.at ≡ i) × (passes (begins n) (slice_get toks s.at) ≡ true)
   opens_inner i (suc room) n s =
-      (passes (begins n) (slice_get toks s.at) ≡ true) × comes_with (spelled_inner toks room) (λ u. ⊥) (opens_inner i room) (form n) s
+      (passes (begins n) (slice_get toks s.at) ≡ true) × comes_with (guided_inner toks room) (λ u. ⊥) (opens_inner i room) (form n) s
 
 -- along the first so many tokens, with room for so many constructs in one another, the grammar comes to a place where it needs
 -- another token than the next, or where it needs one and none is left
 abbrev pub Lacks : ℕ → List Token → ℕ → Type 0
-Lacks room toks i = comes_with toks (spelled_inner toks room) (λ s. s.at ≡ i) (lacks_inner toks i room) unit start
+Lacks room toks i = comes_with toks (guided_inner toks room) (λ s. s.at ≡ i) (lacks_inner toks i room) unit start
 
 -- along the first so many tokens the grammar comes to a place where the next token opens a construct that has no room
 abbrev pub Opens : ℕ → List Token → ℕ → Type 0
-Opens room toks i = comes_with toks (spelled_inner toks room) (λ s. ⊥) (opens_inner toks i room) unit start
+Opens room toks i = comes_with toks (guided_inner toks room) (λ s. ⊥) (opens_inner toks i room) unit start
 
 -- no tokens that begin with these, up to the one behind so many, spell a tree; where none is behind so many, these spell none
 abbrev pub RulesOut : List Token → ℕ → Option Token → Type 0

@@ -2,11 +2,14 @@
 ghost use Rattle.std.specs.Prelude.{◌≡◌, ◌≤◌, ◌<◌, ◌-◌, ◌+◌, IfOk};
 ghost use Rattle.vg_cread.specs.Forms.{Expression, Operand};
 ghost use Rattle.vg_cread.specs.Places.{passes, tested};
-ghost use Rattle.vg_cread.specs.Kinds.{is_binary, binary_of, unary_of, number_of, begins_base, begins_expression, begins_suffix};
-ghost use Rattle.vg_cread.specs.Grammar.{expression, unary, operator, binary, link, postfix, suffix, opened, primary, arguments};
+ghost use Rattle.vg_cread.specs.Kinds.{is_binary, binary_of, unary_of, number_of, begins_base, begins_expression, begins_suffix, is_postfix_operator};
+ghost use Rattle.vg_cread.specs.Grammar.{expression, unary, operator, binary, link, postfix, suffix, no_postfix, opened, primary, arguments};
 ghost use Rattle.vg_cread.specs.Reading.{Gives, reads, reads_inner, turn, next, items_of};
 
-use crate::kinds::{begins_expression, begins_suffix, binary_of, number_of, number_type, unary_of};
+use crate::kinds::{
+    begins_expression, begins_suffix, binary_of, is_postfix_operator, number_of, number_type,
+    unary_of,
+};
 use crate::reader::{Reader, Source, Stop};
 use vg_core::{BinaryOp, Kind, UnaryOp};
 use vg_ctok::{Keyword, Number, Sign};
@@ -33,6 +36,27 @@ impl Reader {
             Some(t) => begins_suffix(t),
             None => false,
         }
+    }
+
+    // Whether the next token is an operator that stands behind a postfix alone.
+    fn next_is_postfix_operator(&self, src: Source<'_>) -> bool
+        ensures { result ≡ passes is_postfix_operator (next src.entry self.now) }
+    {
+        match self.next(src) {
+            Some(t) => is_postfix_operator(t),
+            None => false,
+        }
+    }
+
+    // Refuses an operator that stands behind a postfix alone.
+    #[tactic(auto, unfolding(crate::specs::Grammar::no_postfix))]
+    fn no_postfix(&mut self, src: Source<'_>) -> Result<(), Stop>
+        ensures { Gives result self.new (reads src.entry no_postfix self.old) }
+    {
+        if self.next_is_postfix_operator(src) {
+            return Err(Stop::Wrong);
+        }
+        Ok(())
     }
 
     // Whether the next token is an operator of a rank.
@@ -169,6 +193,7 @@ impl Reader {
         if let Some(op) = self.next_unary(src) {
             self.step(src);
             let operand = self.operand(src)?;
+            self.no_postfix(src)?;
             return self.node(at, Kind::Unary { op, operand });
         }
         if !self.next_is_word(src, Keyword::Sizeof) {
@@ -178,6 +203,7 @@ impl Reader {
         self.sign(src, Sign::LeftParen)?;
         let base = self.base(src)?;
         self.sign(src, Sign::RightParen)?;
+        self.no_postfix(src)?;
         self.node(at, Kind::Sizeof { base })
     }
 
@@ -293,6 +319,7 @@ impl Reader {
         let pointer = self.star(src)?;
         self.sign(src, Sign::RightParen)?;
         let operand = self.operand(src)?;
+        self.no_postfix(src)?;
         let kind = Kind::Cast {
             base,
             pointer,

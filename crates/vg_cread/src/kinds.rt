@@ -1,6 +1,6 @@
 //! What tokens are in the grammar.
 ghost use Rattle.std.specs.Prelude.{◌≡◌};
-ghost use Rattle.vg_cread.specs.Kinds.{is_sign, is_word, name_of, number_of, number_type, int_of, int_word, handle_of, handle_word, unary_of, unary_sign, binary_of, binary_sign, assign_of, assign_sign, begins_base, begins_expression, begins_statement, begins_piece, begins_suffix};
+ghost use Rattle.vg_cread.specs.Kinds.{is_sign, is_word, name_of, number_of, number_type, int_of, int_word, handle_of, handle_word, unary_of, unary_sign, binary_of, binary_sign, assign_of, assign_sign, begins_base, begins_expression, begins_statement, begins_piece, begins_suffix, is_postfix_operator};
 
 use vg_core::{BinaryOp, HandleKind, IntType, Name, UnaryOp};
 use vg_ctok::{Keyword, Number, NumberType, Sign, Token, TokenKind};
@@ -60,13 +60,12 @@ pub fn number_type(of: NumberType) -> IntType
     }
 }
 
-// The integer type that a keyword names, or begins to name.
+// The integer type that a keyword names.
 fn int_word(word: Keyword) -> Option<IntType>
     ensures { result ≡ int_word word }
 {
     match word {
         Keyword::Int => Some(IntType::Int),
-        Keyword::Unsigned => Some(IntType::Unsigned),
         Keyword::Int8 => Some(IntType::Int8),
         Keyword::Int16 => Some(IntType::Int16),
         Keyword::Int32 => Some(IntType::Int32),
@@ -79,7 +78,7 @@ fn int_word(word: Keyword) -> Option<IntType>
     }
 }
 
-/// The integer type that a token names, or begins to name.
+/// The integer type that a token names.
 pub fn int_of(t: Token) -> Option<IntType>
     ensures { result ≡ int_of t }
 {
@@ -210,7 +209,7 @@ pub fn assign_of(t: Token) -> Option<Option<BinaryOp>>
 pub fn begins_base(t: Token) -> bool
     ensures { result ≡ begins_base t }
 {
-    int_of(t).is_some() || is_word(t, Keyword::Struct)
+    int_of(t).is_some() || is_word(t, Keyword::Unsigned) || is_word(t, Keyword::Struct)
 }
 
 /// Whether a token begins an expression.
@@ -241,4 +240,11 @@ pub fn begins_suffix(t: Token) -> bool
     ensures { result ≡ begins_suffix t }
 {
     is_sign(t, Sign::LeftBracket) || is_sign(t, Sign::Dot) || is_sign(t, Sign::Arrow)
+}
+
+/// Whether a token is an operator that stands behind a postfix alone (C11 6.5.2).
+pub fn is_postfix_operator(t: Token) -> bool
+    ensures { result ≡ is_postfix_operator t }
+{
+    begins_suffix(t) || is_sign(t, Sign::PlusPlus) || is_sign(t, Sign::MinusMinus)
 }

@@ -3,6 +3,7 @@ ghost use Rattle.std.specs.Prelude.{◌≡◌, ◌⊎◌, ℕ, List, IfOk, IfErr
 ghost use Rattle.vg_core.specs.Syntax.{Syntax, IsOrdered, IsUsedOnce};
 ghost use Rattle.vg_ctok.specs.declared.kinds.Token.{Token};
 ghost use Rattle.vg_cread.specs.Spelling.{Spells};
+ghost use Rattle.vg_cread.specs.Guided.{Guides};
 ghost use Rattle.vg_cread.specs.Refusals.{Refuses};
 ghost use Rattle.vg_cread.specs.declared.reading.ReadFault.{ReadFault};
 ghost use Rattle.vg_cread.specs.declared.reading.ReadFault.TheVariants as faults;
@@ -62,9 +63,14 @@ pub fn read_unit(alloc: Global, toks: &[Token]) -> Result<Tree, ReadFault>
 }
 
 /// Tokens spell one tree at most, whatever room there is.
-#[tactic(auto, using(crate::proofs::Units::one_tree))]
 pub fn one_tree()
     ensures { (toks : List Token) (room left : ℕ) (a b : Syntax) → Spells room toks a → Spells left toks b → a ≡ b }
+{}
+
+/// The tests that the grammar's forms have for the reader take no tree away and add none.
+pub fn tests_tell_the_sides()
+    ensures guides { (toks : List Token) (room : ℕ) (tree : Syntax) → Spells room toks tree → Guides room toks tree }
+    ensures spells { (toks : List Token) (room : ℕ) (tree : Syntax) → Guides room toks tree → Spells room toks tree }
 {}
 
 /// In a tree that tokens spell each node stands behind its parts, and they in the order of the text; the root is the last

@@ -140,6 +140,9 @@ fn statements_and_declarations(rt: HostRuntime) -> Result<(), Fail> {
         ),
         ("x++;", "(++ x)"),
         ("a[0]--;", "(-- ([] a 0))"),
+        ("(*p)++;", "(++ (() (* p)))"),
+        ("a[i]++;", "(++ ([] a i))"),
+        ("p->n++;", "(++ (-> p n))"),
         ("p->n = a ? b : c;", "(set (-> p n) (? a b c))"),
         ("*p = 0;", "(set (* p) 0)"),
         ("f(x);", "(evaluate (call f x))"),
@@ -298,6 +301,11 @@ fn refusals_at_the_first_wrong_token(rt: HostRuntime) -> Result<(), Fail> {
         ("int f(void) { return a ? b; }", "26"),
         ("int f(void) { return sizeof(int)[1]; }", "32"),
         ("int f(void) { return sizeof a; }", "28"),
+        ("int f(void) { return (int)sizeof(int)[0]; }", "37"),
+        ("int f(void) { return -sizeof(int)[0]; }", "33"),
+        ("int f(void) { *p++; }", "16"),
+        ("int f(void) { (int)x++; }", "20"),
+        ("int f(void) { sizeof(int)--; }", "25"),
     ];
     for (text, want) in rows {
         assert!(rt; is_read(rt.alloc(), ("", ""), text, ("syntax at ", ""), want)?);

@@ -1,5 +1,5 @@
 -- Names in a map and in the list of what is defined; and that a piece defines no name twice.
-use Rattle.std.proofs.Common.{◌≡◌, ◌∙◌, ◌≤◌, ◌-◌, inl, inr, ℕ, Bool, true, false, cond, eqb, List, [], ◌∷◌, ◌++◌, length, take, drop, arith, length-drop, Option, Some, None, is_some, Ok, refl, sym, ap, subst, nat_eq}
+use Rattle.std.proofs.Common.{◌≡◌, ◌∙◌, ◌≤◌, ◌-◌, inl, inr, ℕ, Bool, true, false, cond, eqb, List, [], ◌∷◌, ◌++◌, length, slice_get, take, drop, arith, length-drop, Option, Some, None, is_some, Ok, refl, sym, ap, subst, nat_eq}
 use Rattle.std.specs.Prelude.{nat_lt, ◌&&◌, ◌||◌}
 use Rattle.std.specs.Borrow.{Bor}
 use Rattle.std.specs.Cmp.Lexicographic.{pointwise}
@@ -13,10 +13,10 @@ use Rattle.std.proofs.lemmas.Bool.{false≢true, cases_Bool}
 use Rattle.indexmap.specs.IndexMap.{insert_entry}
 use Rattle.vg_ctok.specs.Bytes.{is_digit, is_name_byte, is_space, is_in_line}
 use Rattle.vg_ctok.specs.Tables.{keywords, signs, row_of, row_at}
-use Rattle.vg_ctok.specs.Numbers.{number_of}
+use Rattle.vg_ctok.specs.Numbers.{number_before}
 use Rattle.vg_ctok.specs.Comments.{opens_comment, comment_size, blanked}
 use Rattle.vg_ctok.specs.Directives.{slice, is_include, define_of}
-use Rattle.vg_ctok.specs.Pieces.{Defines, Place, piece, comment_piece, number_piece, name_kind, name_piece, sign_piece, is_taken, define_piece, directive_piece, first_piece}
+use Rattle.vg_ctok.specs.Pieces.{Defines, Place, piece, comment_piece, number_piece, name_kind, name_piece, sign_piece, is_taken, define_piece, directive_piece, first_piece, token_piece}
 use Rattle.vg_ctok.specs.Texts.{defines_after}
 use Rattle.vg_ctok.specs.Reader.{shown, IsNew}
 use Rattle.vg_ctok.specs.declared.kinds.Number.{Number}
@@ -107,7 +107,7 @@ new-directive here text p some e =
 
 -- a piece defines no name twice
 pub first-new : (here : Place) (text : List ℕ) (p : Piece) → first_piece here text ≡ Ok p → IsNew here.defines text p.what
-unfolding first_piece
+unfolding first_piece token_piece
 first-new here [] p e = no_ok e
 first-new here (b ∷ bytes) p e =
     let text = b ∷ bytes in
@@ -117,7 +117,7 @@ first-new here (b ∷ bytes) p e =
     either (opens_comment text) (λ opens is. comment (comment_size text) is) (λ other e.
     either (eqb b 35 && here.fresh)
     (λ directive is. new-directive here text p (omega (arith, length-prefix_len is_in_line text, first-passes is_in_line b bytes (in_line b more))) is) (λ other e.
-    either (is_digit b) (λ digit is. number (length (take_while is_name_byte text)) (number_of (take_while is_name_byte text)) is) (λ other e.
+    either (is_digit b) (λ digit is. number (length (take_while is_name_byte text)) (number_before (take_while is_name_byte text) (slice_get text (length (take_while is_name_byte text)))) is) (λ other e.
     either (is_name_byte b) (λ name is. word (take_while is_name_byte text) is)
     (λ other is. signed (row_at signs text) is) e) e) e) e) e) e
   where

@@ -1,5 +1,5 @@
 -- Each piece has a byte at least, and its text has them all.
-use Rattle.std.proofs.Common.{◌≡◌, ◌<◌, ◌≤◌, ◌+◌, ◌-◌, ◌&&◌, ◌||◌, ℕ, Bool, true, false, cond, inl, inr, List, [], ◌∷◌, length, drop, codes, eqb, Option, Some, None, Result, Ok, Err, refl, ap, subst, arith, length-drop, length-append}
+use Rattle.std.proofs.Common.{◌≡◌, ◌<◌, ◌≤◌, ◌+◌, ◌-◌, ◌&&◌, ◌||◌, ℕ, Bool, true, false, cond, inl, inr, List, [], ◌∷◌, length, slice_get, drop, codes, eqb, Option, Some, None, Result, Ok, Err, refl, ap, subst, arith, length-drop, length-append}
 use Rattle.std.specs.Prelude.{nat_lt, nat_le, option_map}
 use Rattle.std.specs.List.{list_all, prefix_len, take_while}
 use Rattle.std.proofs.lemmas.List.Sums.{prefix_len-le-length}
@@ -9,10 +9,10 @@ use Rattle.std.proofs.lemmas.Bool.{false≢true, or_cases, cases_Bool, and_parts
 use Rattle.std.proofs.lemmas.Bool.Decides.{Decides-eqb}
 use Rattle.vg_ctok.specs.Bytes.{is_digit, is_name_byte, is_space, is_dark, is_in_line, begins}
 use Rattle.vg_ctok.specs.Tables.{row_at, row_of, signs, keywords}
-use Rattle.vg_ctok.specs.Numbers.{base_of, number_of}
+use Rattle.vg_ctok.specs.Numbers.{base_of, number_of, number_before}
 use Rattle.vg_ctok.specs.Comments.{close_from, opens_comment, comment_size, covered, blanked}
 use Rattle.vg_ctok.specs.Directives.{slice, dark_from, word_from, is_include, defines_name, define_of}
-use Rattle.vg_ctok.specs.Pieces.{Place, piece, comment_piece, number_piece, name_piece, name_kind, sign_piece, is_taken, define_piece, directive_piece, first_piece}
+use Rattle.vg_ctok.specs.Pieces.{Place, piece, comment_piece, number_piece, name_piece, name_kind, sign_piece, is_taken, define_piece, directive_piece, first_piece, token_piece}
 use Rattle.vg_ctok.specs.Reader.{IsNamedIn, Fits}
 use Rattle.vg_ctok.specs.declared.kinds.Number.{Number}
 use Rattle.vg_ctok.specs.declared.kinds.Sign.{Sign}
@@ -193,7 +193,7 @@ directive-fits here text line some within e =
 
 -- the whole
 pub first-fits : (here : Place) (text : List ℕ) (p : Piece) → first_piece here text ≡ Ok p → Fits p text
-unfolding first_piece
+unfolding first_piece token_piece
 first-fits here [] p e = no_ok e
 first-fits here (b ∷ bytes) p e =
     let text = b ∷ bytes in
@@ -208,7 +208,7 @@ first-fits here (b ∷ bytes) p e =
     either (eqb b 35 && here.fresh)
     (λ directive is. directive-fits here text (take_while is_in_line text) (omega (arith, line, first-passes is_in_line b bytes (in_line b more))) (omega (arith, line, line_within)) is) (λ other e.
     either (is_digit b)
-    (λ digit is. number-fits here text (length (take_while is_name_byte text)) (number_of (take_while is_name_byte text)) (omega (arith, size, first-passes is_name_byte b bytes (digit_in_names b digit))) (omega (arith, size, size_within)) is) (λ other e.
+    (λ digit is. number-fits here text (length (take_while is_name_byte text)) (number_before (take_while is_name_byte text) (slice_get text (length (take_while is_name_byte text)))) (omega (arith, size, first-passes is_name_byte b bytes (digit_in_names b digit))) (omega (arith, size, size_within)) is) (λ other e.
     either (is_name_byte b)
     (λ name is. name-fits here text (take_while is_name_byte text) (omega (arith, size, first-passes is_name_byte b bytes name)) (omega (arith, size, size_within)) is)
     (λ other is. sign-fits here text signs refl is) e) e) e) e) e) e

@@ -1,5 +1,5 @@
--- The numbers of C: their forms, values and types (C11 6.4.4.1), with an int of 32 bits.
-use Rattle.std.specs.Prelude.{ℕ, ◌+◌, ◌-◌, ◌*◌, ◌^◌, List, [], ◌∷◌, take, drop, codes, length, Bool, ◌&&◌, ◌||◌, nat_le, nat_lt, ◌==◌, if◌then◌else◌, Option, Some, None}
+-- The numbers of C: their forms, values and types (C11 6.4.4.1 and 6.4.8), with an int of 32 bits.
+use Rattle.std.specs.Prelude.{ℕ, ◌+◌, ◌-◌, ◌*◌, ◌^◌, List, [], ◌∷◌, take, drop, codes, length, slice_get, Bool, false, ◌&&◌, ◌||◌, nat_le, nat_lt, ◌==◌, if◌then◌else◌, Option, Some, None}
 use Rattle.std.specs.List.{prefix_len}
 use Rattle.vg_ctok.specs.Bytes.{is_digit, begins}
 use Rattle.vg_ctok.specs.Tables.{row_of, suffixes}
@@ -68,3 +68,18 @@ number_of word =
     let rest = behind_base word in
     let count = prefix_len (is_digit_in base) rest in
     typed base (take count rest) (row_of suffixes (drop count rest))
+
+-- whether a word ends in an exponent's letter and a sign is next: C reads both as one preprocessing number (C11 6.4.8)
+abbrev pub is_exponent : ℕ → Bool
+is_exponent b = b == 101 || b == 69 || b == 112 || b == 80
+
+abbrev pub is_plus_or_minus : ℕ → Bool
+is_plus_or_minus b = b == 43 || b == 45
+
+abbrev pub takes_sign : Option ℕ → Option ℕ → Bool
+takes_sign (Some last) (Some next) = is_exponent last && is_plus_or_minus next
+takes_sign _ _ = false
+
+-- the number that a word is before the next byte of its text; with a sign that belongs to it, it is none
+abbrev pub number_before : List ℕ → Option ℕ → Option Number
+number_before word next = if takes_sign (slice_get word (length word - 1)) next then None else number_of word

@@ -1,10 +1,10 @@
 -- What a C text begins with at a place: a token, or what stands between tokens, which is a blank, a comment or a directive
 -- (C11 6.4, paragraphs 3 and 4); or a fault.
-use Rattle.std.specs.Prelude.{ℕ, ◌+◌, ◌-◌, List, [], ◌∷◌, length, Bool, ◌&&◌, ◌||◌, is_some, nat_lt, ◌==◌, if◌then◌else◌, Option, Some, None, Result, Ok, Err}
+use Rattle.std.specs.Prelude.{ℕ, ◌+◌, ◌-◌, List, [], ◌∷◌, length, slice_get, Bool, ◌&&◌, ◌||◌, is_some, nat_lt, ◌==◌, if◌then◌else◌, Option, Some, None, Result, Ok, Err}
 use Rattle.std.specs.List.{take_while}
 use Rattle.vg_ctok.specs.Bytes.{is_digit, is_name_byte, is_space, is_in_line}
 use Rattle.vg_ctok.specs.Tables.{keywords, signs, row_of, row_at}
-use Rattle.vg_ctok.specs.Numbers.{number_of}
+use Rattle.vg_ctok.specs.Numbers.{number_before}
 use Rattle.vg_ctok.specs.Comments.{comment_size, opens_comment, blanked}
 use Rattle.vg_ctok.specs.Directives.{slice, is_include, define_of}
 use Rattle.vg_ctok.specs.declared.kinds.Keyword.{Keyword}
@@ -80,6 +80,14 @@ directive_piece here line =
     if is_include (blanked 0 line) then piece (length line) what.Include
     else define_piece here line (define_of (blanked 0 line))
 
+-- a token: a number, a name or a sign, by its first byte
+unfoldable pub token_piece : Place → ℕ → List ℕ → Result Piece TokFault
+token_piece here b text =
+    let word = take_while is_name_byte text in
+    if is_digit b then number_piece here (length word) (number_before word (slice_get text (length word)))
+    else if is_name_byte b then name_piece here word
+    else sign_piece here (row_at signs text)
+
 -- what a text begins with
 unfoldable pub first_piece : Place → List ℕ → Result Piece TokFault
 first_piece here [] = Err (BadByte here.at)
@@ -89,6 +97,4 @@ first_piece here (b ∷ bytes) =
     else if is_space b then piece 1 what.Blank
     else if opens_comment text then comment_piece here (comment_size text)
     else if b == 35 && here.fresh then directive_piece here (take_while is_in_line text)
-    else if is_digit b then number_piece here (length (take_while is_name_byte text)) (number_of (take_while is_name_byte text))
-    else if is_name_byte b then name_piece here (take_while is_name_byte text)
-    else sign_piece here (row_at signs text)
+    else token_piece here b text

@@ -1,7 +1,7 @@
 //! Numbers: the values and types of words (C11 6.4.4.1).
 ghost use Rattle.std.specs.Prelude.{◌≡◌, ◌<◌, ◌≤◌, ◌^◌, length, nat_lt, if◌then◌else◌};
 ghost use Rattle.std.specs.List.{prefix_len};
-ghost use Rattle.vg_ctok.specs.Numbers.{digit_of, is_digit_in, value_on, base_of, behind_base, types_of, limit_of, first_typed, typed, number_of};
+ghost use Rattle.vg_ctok.specs.Numbers.{digit_of, is_digit_in, value_on, base_of, behind_base, types_of, limit_of, first_typed, typed, number_of, is_exponent, is_plus_or_minus, takes_sign, number_before};
 
 use crate::bytes::is_digit;
 use crate::kinds::{Number, NumberType};
@@ -132,4 +132,32 @@ pub fn number_of(word: &[u8]) -> Option<Number>
     let rest = behind_base(word);
     let (digits, suffix) = rest.split_at(digit_len(base, rest));
     typed(base, digits, row_of(suffix_rows(), suffix))
+}
+
+// Whether a byte is an exponent's letter.
+fn is_exponent(b: u8) -> bool
+    ensures { result ≡ is_exponent b }
+{
+    b == b'e' || b == b'E' || b == b'p' || b == b'P'
+}
+
+// Whether the last byte of a word and the next byte of its text are an exponent's letter and its sign.
+fn takes_sign(last: Option<u8>, next: Option<u8>) -> bool
+    ensures { result ≡ takes_sign last next }
+{
+    match (last, next) {
+        (Some(last), Some(next)) => is_exponent(last) && (next == b'+' || next == b'-'),
+        _ => false,
+    }
+}
+
+/// The number that a word is before the next byte of its text. `0xe` before `+` is none: C reads both as one preprocessing
+/// number (C11 6.4.8).
+pub fn number_before(word: &[u8], next: Option<u8>) -> Option<Number>
+    ensures { result ≡ number_before word.now next }
+{
+    if takes_sign(word.last().copied(), next) {
+        return None;
+    }
+    number_of(word)
 }

@@ -1,16 +1,16 @@
 //! What a text begins with at a place: a token, or what stands between tokens.
 ghost use Rattle.std.specs.Prelude.{◌≡◌, ◌≤◌, ◌<◌, ◌+◌, ◌^◌, ◌==◌, ◌&&◌, length, IfSome};
 ghost use Rattle.vg_ctok.specs.Tables.{keywords, signs, row_of, row_at};
-ghost use Rattle.vg_ctok.specs.Numbers.{number_of};
+ghost use Rattle.vg_ctok.specs.Numbers.{number_before};
 ghost use Rattle.vg_ctok.specs.Comments.{comment_size};
-ghost use Rattle.vg_ctok.specs.Pieces.{first_piece, comment_piece, number_piece, name_kind, name_piece, sign_piece, define_piece, directive_piece, is_taken};
+ghost use Rattle.vg_ctok.specs.Pieces.{first_piece, comment_piece, number_piece, name_kind, name_piece, sign_piece, token_piece, define_piece, directive_piece, is_taken};
 ghost use Rattle.vg_ctok.specs.Reader.{place, Gives};
 
 use crate::bytes::{is_digit, is_name_byte, is_space, line_len, name_len};
 use crate::comments::{blanked, comment_size, opens_comment};
 use crate::directives::{define_of, is_include, slice};
 use crate::kinds::{Number, TokFault, TokenKind};
-use crate::numbers::number_of;
+use crate::numbers::number_before;
 use crate::tables::{keyword_rows, row_at, row_of, sign_rows};
 use indexmap::IndexMap;
 use std::alloc::Global;
@@ -84,11 +84,11 @@ fn comment_piece(here: Here<'_, '_>, text: &[u8]) -> Result<Piece, TokFault>
     }
 }
 
-// A word that begins with a digit.
-fn number_piece(here: Here<'_, '_>, word: &[u8]) -> Result<Piece, TokFault>
-    ensures { result ≡ number_piece (place here.entry) (length word.now) (number_of word.now) }
+// A word that begins with a digit, before the next byte of its text.
+fn number_piece(here: Here<'_, '_>, word: &[u8], next: Option<u8>) -> Result<Piece, TokFault>
+    ensures { result ≡ number_piece (place here.entry) (length word.now) (number_before word.now next) }
 {
-    match number_of(word) {
+    match number_before(word, next) {
         Some(number) => Ok(Piece {
             size: word.len(),
             what: What::Token(TokenKind::Number(number)),
@@ -187,6 +187,21 @@ fn begins_directive(here: Here<'_, '_>, b: u8) -> bool
     b == b'#' && here.fresh
 }
 
+// A number, a name or a sign, by its first byte.
+#[tactic(auto, unfolding(crate::specs::Pieces::token_piece))]
+fn token_piece(here: Here<'_, '_>, b: u8, text: &[u8]) -> Result<Piece, TokFault>
+    ensures { result ≡ token_piece (place here.entry) b text.now }
+{
+    let (word, _) = text.split_at(name_len(text));
+    if is_digit(b) {
+        return number_piece(here, word, text.get(word.len()).copied());
+    }
+    if is_name_byte(b) {
+        return name_piece(here, word);
+    }
+    sign_piece(here, text)
+}
+
 /// What a text begins with that goes on from here. Fails where nothing begins there, and where memory ran out.
 #[tactic(auto, unfolding(crate::specs::Pieces::first_piece))]
 pub fn first_piece(alloc: Global, here: Here<'_, '_>, text: &[u8]) -> Result<Piece, TokFault>
@@ -214,12 +229,5 @@ pub fn first_piece(alloc: Global, here: Here<'_, '_>, text: &[u8]) -> Result<Pie
         let (line, _) = text.split_at(line_len(text));
         return directive_piece(alloc, here, line);
     }
-    let (word, _) = text.split_at(name_len(text));
-    if is_digit(b) {
-        return number_piece(here, word);
-    }
-    if is_name_byte(b) {
-        return name_piece(here, word);
-    }
-    sign_piece(here, text)
+    token_piece(here, b, text)
 }

@@ -176,6 +176,8 @@ fn words_that_are_no_numbers(rt: HostRuntime) -> Result<(), Fail> {
     assert!(rt; refuses(rt.alloc(), "1_", TokFault::BadNumber(0))?);
     assert!(rt; refuses(rt.alloc(), "18446744073709551616", TokFault::BadNumber(0))?);
     assert!(rt; refuses(rt.alloc(), "9223372036854775808", TokFault::BadNumber(0))?);
+    assert!(rt; refuses(rt.alloc(), "a 0xe+1", TokFault::BadNumber(2))?);
+    assert!(rt; refuses(rt.alloc(), "0X1E-1", TokFault::BadNumber(0))?);
     Ok(())
 }
 

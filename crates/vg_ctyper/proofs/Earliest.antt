@@ -44,6 +44,27 @@ less_kept a b c d e f g h i p q = elim (less_false a b c d e f p) [
   ]
 ]
 
+-- neither is before the other where they stand alike
+less_neither : (a b c d e f : ℕ) → is_less (a, b, c) (d, e, f) ≡ false → is_less (d, e, f) (a, b, c) ≡ false → (a ≡ d) × (b ≡ e) × (c ≡ f)
+less_neither a b c d e f p q = elim (less_false a b c d e f p) [
+  | inl u ↦ elim (less_false d e f a b c q) [ inl v ↦ absurd (omega arith) | inr v ↦ let x : a ≡ d = v.0 in absurd (omega arith) ]
+  | inr u ↦ let x : d ≡ a = u.0 in elim (less_false d e f a b c q) [
+    | inl v ↦ absurd (omega arith)
+    | inr v ↦ elim u.1 [
+      | inl s ↦ elim v.1 [ inl t ↦ absurd (omega arith) | inr t ↦ let y : b ≡ e = t.0 in absurd (omega arith) ]
+      | inr s ↦ let y : e ≡ b = s.0 in let r : f ≤ c = s.1 in elim v.1 [
+        | inl t ↦ absurd (omega arith)
+        | inr t ↦ let o : c ≤ f = t.1 in let z : c ≡ f = omega arith in (sym x, sym y, z)
+      ]
+    ]
+  ]
+]
+
+pub same_rank : (x y : TypeFault) → is_before x y ≡ false → is_before y x ≡ false → rank x ≡ rank y
+same_rank x y p q =
+    let same = less_neither (rank x).0 (rank x).1 (rank x).2 (rank y).0 (rank y).1 (rank y).2 p q in
+    ap (λ (a : ℕ). (a, (rank x).1, (rank x).2)) same.0 ∙ ap (λ (b : ℕ). ((rank y).0, b, (rank x).2)) same.1 ∙ ap (λ (c : ℕ). ((rank y).0, (rank y).1, c)) same.2
+
 before_irrefl : (x : TypeFault) → is_before x x ≡ false
 before_irrefl x = less_irrefl (rank x).0 (rank x).1 (rank x).2
 

@@ -54,3 +54,10 @@ module _ {A : Type 0} (grown : ℕ → List A) (next : ℕ → A) (start : grown
         ∙ get_seam (grown m) (next m)
         ∙ ap (λ k. Some (next k)) (sym e)
   ]
+
+-- the items up to one that stands there
+pub take_next : {A : Type 0} (xs : List A) (n : ℕ) (x : A) → slice_get xs n ≡ Some x → take (suc n) xs ≡ take n xs ++ x ∷ []
+take_next [] zero x e = absurd (cc)
+take_next [] (suc n) x e = absurd (cc)
+take_next (y ∷ ys) zero x e = ap (λ z. z ∷ []) (cc e)
+take_next (y ∷ ys) (suc n) x e = ap (λ l. y ∷ l) (take_next ys n x e)

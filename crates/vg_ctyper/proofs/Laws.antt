@@ -1,19 +1,21 @@
 -- What typing gives, node by node.
 use Rattle.std.proofs.Common.{◌≡◌, ℕ, zero, suc, ◌+◌, ◌<◌, ◌≤◌, List, [], ◌∷◌, ◌++◌, length, take, slice_get, false, Option, Some, None, Ok, Err, refl, sym, ap, subst, ◌∙◌, add-one, arith, inl, inr}
 use Rattle.std.specs.Prelude.{◌⊎◌}
-use Rattle.vg_core.specs.Syntax.{Syntax}
+use Rattle.std.proofs.Math.Seq.{take-length}
+use Rattle.vg_core.specs.Syntax.{Syntax, IsOrdered, IsUsedOnce}
 use Rattle.vg_core.specs.Units.{Typed}
 use Rattle.vg_core.specs.declared.unit.Note.{Note}
 use Rattle.vg_ctyper.specs.declared.fault.TypeFault.{TypeFault}
 use Rattle.vg_ctyper.specs.declared.standing.Standing.{Standing}
-use Rattle.vg_ctyper.specs.Faults.{is_before}
+use Rattle.vg_ctyper.specs.Faults.{rank, is_before}
 use Rattle.vg_ctyper.specs.Scopes.{kind_at, standings_of}
 use Rattle.vg_ctyper.specs.Names.{Known}
 use Rattle.vg_ctyper.specs.Rules.{broken}
-use Rattle.vg_ctyper.specs.Notes.{Progress, known_behind, node_typed, note_of, note_unless, locals_behind, typed_below, whole_fault, or_else, or_whole, judged, typed}
+use Rattle.vg_ctyper.specs.Notes.{note_of, note_unless, locals_behind, whole_fault, or_else}
+use Rattle.vg_ctyper.specs.Passes.{Progress, known_behind, node_typed, typed_below, or_whole, judged, typed}
 use Rattle.vg_ctyper.specs.WellTyped.{known_at, locals_after, locals_before, broken_at, AreNotes, IsWellTyped, IsFirstBroken, IsFirstFault}
-use Rattle.vg_ctyper.proofs.Growing.{below_next, length_grown, take_grown, get_grown}
-use Rattle.vg_ctyper.proofs.Earliest.{sooner_none, sooner_either, sooner_kept, sooner_second}
+use Rattle.vg_ctyper.proofs.Growing.{below_next, length_grown, take_grown, get_grown, take_next}
+use Rattle.vg_ctyper.proofs.Earliest.{sooner_none, sooner_either, sooner_kept, sooner_second, same_rank}
 
 either_some : (a : Option TypeFault) → (a ≡ None) ⊎ ((x : TypeFault) × (a ≡ Some x))
 either_some None = inl refl
@@ -133,15 +135,15 @@ module _ (text : List ℕ) (tree : Syntax) where
         first = λ n g h i. least last f e n g h (sym (broken_is last n (omega arith)) ∙ i);
       }
 
-  sound : or_whole tree (behind last) ≡ None → IsWellTyped (record { text = text; tree = tree; notes = notes last })
-  sound e =
+  sound : IsOrdered tree → IsUsedOnce tree → or_whole tree (behind last) ≡ None → IsWellTyped (record { text = text; tree = tree; notes = notes last })
+  sound ordered used e =
       let both : ((behind last).first ≡ None) × (whole_fault tree (notes last) ≡ None) = or_else_none (behind last).first (whole_fault tree (notes last)) e in
-      record { notes = are_notes; sound = no_fault both.0; short = both.1 }
+      record { ordered = ordered; used_once = used; notes = are_notes; sound = no_fault both.0; short = both.1 }
 
-  pub is_well_typed : (u : Typed) → typed text tree ≡ Ok u → IsWellTyped u
-  is_well_typed u e =
+  pub is_well_typed : IsOrdered tree → IsUsedOnce tree → (u : Typed) → typed text tree ≡ Ok u → IsWellTyped u
+  is_well_typed ordered used u e =
       let both : (or_whole tree (behind last) ≡ None) × (record { text = text; tree = tree; notes = notes last } ≡ u) = judged_ok text tree (notes last) (or_whole tree (behind last)) u e in
-      subst IsWellTyped both.1 (sound both.0)
+      subst IsWellTyped both.1 (sound ordered used both.0)
 
   pub is_first_fault : (f : TypeFault) → typed text tree ≡ Err f → IsFirstFault text tree f
   is_first_fault f e = record {
@@ -152,3 +154,79 @@ module _ (text : List ℕ) (tree : Syntax) where
       | inr b ↦ inr (no_fault b.0, b.1)
     ];
   }
+
+  -- what was typed keeps its text and its tree
+  pub of_text : (u : Typed) → typed text tree ≡ Ok u → (u.text ≡ text) × (u.tree ≡ tree)
+  of_text u e =
+      let same : record { text = text; tree = tree; notes = notes last } ≡ u = (judged_ok text tree (notes last) (or_whole tree (behind last)) u e).1 in
+      (ap (λ (v : Typed). v.text) (sym same), ap (λ (v : Typed). v.tree) (sym same))
+
+  -- the notes of a tree are one
+  module _ (ns : List Note) (are : AreNotes text tree ns) where
+    known_same : (n : ℕ) → n ≤ length tree.nodes → (take n ns ≡ notes n) × (locals_before text tree ns n ≡ (behind n).locals)
+    known_same zero h = (refl, refl)
+    known_same (suc n) h =
+        let l : n < length tree.nodes = omega arith in
+        let k : n ≤ length tree.nodes = omega arith in
+        let before = known_same n k in
+        let breaks : broken_at text tree ns n ≡ fault n =
+        ap (λ b. broken (known_at text tree ns n) b n) before.1 ∙ ap (λ ms. broken (known_behind text tree (standings_of tree) ms) (behind n).locals n) before.0 in
+        let note : slice_get ns n ≡ Some (noted n) =
+        are.each n l ∙ ap (λ f. Some (note_unless f (note_of (known_at text tree ns n) n (kind_at tree n)))) breaks
+        ∙ ap (λ ms. Some (note_unless (fault n) (note_of (known_behind text tree (standings_of tree) ms) n (kind_at tree n)))) before.0 in (
+          take_next ns n (noted n) note ∙ ap (λ ms. ms ++ noted n ∷ []) before.0,
+          ap (λ o. locals_after text tree ns o n (locals_before text tree ns n)) note
+              ∙ ap (λ b. locals_behind (known_at text tree ns n) b (kind_at tree n) (noted n)) before.1
+              ∙ ap (λ ms. locals_behind (known_behind text tree (standings_of tree) ms) (behind n).locals (kind_at tree n) (noted n)) before.0,
+        )
+
+    pub notes_are : ns ≡ notes last
+    notes_are = sym (take-length ns) ∙ ap (λ m. take m ns) are.count ∙ (known_same last (omega arith)).0
+
+  none_or_some : ((n : ℕ) → n < length tree.nodes → fault n ≡ None) → (behind last).first ≡ None
+  none_or_some h = elim (either_some (behind last).first) [
+    | inl none ↦ none
+    | inr some ↦ let r : (n : ℕ) × (n < last) × (fault n ≡ Some some.0) = found last some.0 some.1 in absurd (no_some some.0 (sym (h r.0 r.1) ∙ r.2))
+  ]
+
+  unbroken : (ns : List Note) → AreNotes text tree ns → ((n : ℕ) → n < length tree.nodes → broken_at text tree ns n ≡ None) → (behind last).first ≡ None
+  unbroken ns are h = none_or_some (λ n l. let k : n ≤ last = omega arith in sym (broken_is last n k) ∙ ap (λ ms. broken_at text tree ms n) (sym (notes_are ns are)) ∙ h n l)
+
+  -- a text that is well typed is typed so
+  pub typed_so : (ns : List Note) → IsWellTyped (record { text = text; tree = tree; notes = ns }) → typed text tree ≡ Ok (record { text = text; tree = tree; notes = ns })
+  typed_so ns is =
+      let same : ns ≡ notes last = notes_are ns is.notes in
+      let whole : whole_fault tree (notes last) ≡ None = ap (whole_fault tree) (sym same) ∙ is.short in
+      let none : or_whole tree (behind last) ≡ None = ap (λ f. or_else f (whole_fault tree (notes last))) (unbroken ns is.notes is.sound) ∙ whole in
+      ap (judged text tree (notes last)) none ∙ ap (λ ms. Ok (record { text = text; tree = tree; notes = ms })) (sym same)
+
+  -- a text that has a first fault is refused for it
+  refused_first : (ns : List Note) → AreNotes text tree ns → (f : TypeFault) → IsFirstBroken text tree ns f → (e : TypeFault) × (typed text tree ≡ Err e) × (rank e ≡ rank f)
+  refused_first ns are f is =
+      let same : ns ≡ notes last = notes_are ns are in
+      let breaks : (n : ℕ) (g : TypeFault) → n < last → fault n ≡ Some g → broken_at text tree ns n ≡ Some g =
+      λ n g l e. let k : n ≤ last = omega arith in ap (λ ms. broken_at text tree ms n) same ∙ broken_is last n k ∙ e in
+      let within : is.node < last = is.within in
+      let here : fault is.node ≡ Some f = let k : is.node ≤ last = omega arith in sym (broken_is last is.node k) ∙ ap (λ ms. broken_at text tree ms is.node) (sym same) ∙ is.is in
+      elim (either_some (behind last).first) [
+        | inl none ↦ absurd (no_some f (sym (none_before last is.node none within) ∙ here))
+        | inr some ↦
+            let r : (n : ℕ) × (n < last) × (fault n ≡ Some some.0) = found last some.0 some.1 in (
+              some.0,
+              ap (λ o. judged text tree (notes last) (or_else o (whole_fault tree (notes last)))) some.1,
+              same_rank some.0 f (is.first r.0 some.0 r.1 (breaks r.0 some.0 r.1 r.2)) (least last some.0 some.1 is.node f within here),
+            )
+      ]
+
+  pub refused_so : (f : TypeFault) → IsFirstFault text tree f → (e : TypeFault) × (typed text tree ≡ Err e) × (rank e ≡ rank f)
+  refused_so f is = elim is.cause [
+    | inl first ↦ refused_first is.notes is.are_notes f first
+    | inr short ↦
+        let same : is.notes ≡ notes last = notes_are is.notes is.are_notes in
+        let whole : whole_fault tree (notes last) ≡ Some f = ap (whole_fault tree) (sym same) ∙ short.1 in
+        let none : (behind last).first ≡ None = unbroken is.notes is.are_notes short.0 in (
+          f,
+          ap (λ o. judged text tree (notes last) (or_else o (whole_fault tree (notes last)))) none ∙ ap (judged text tree (notes last)) whole,
+          refl,
+        )
+  ]

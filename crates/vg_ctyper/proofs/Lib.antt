@@ -1,3 +1,4 @@
+pub mod Deciding
 pub mod Earliest
 pub mod Growing
 pub mod Laws

@@ -14,6 +14,7 @@ use Rattle.vg_core.specs.declared.types.CType.{CType}
 use Rattle.vg_core.specs.declared.types.Layout.{Layout}
 use Rattle.vg_core.specs.declared.types.Target.{Target}
 use Rattle.vg_ctyper.specs.declared.demands.Demand.TheVariants as demands
+use Rattle.vg_ctyper.specs.declared.fault.Rule.TheVariants as rules
 use Rattle.vg_ctyper.specs.declared.fault.TypeFault.{TypeFault}
 use Rattle.vg_ctyper.specs.declared.fault.TypeFault.TheVariants as type_faults
 use Rattle.vg_ctyper.specs.declared.given.Wanted.TheVariants as wanted
@@ -44,18 +45,18 @@ is_row k name = is_some (row_named (spelling k.text name))
 
 -- a name is declared once in the file, and once in nested scopes of a function, and those of the library's calls aren't declared
 abbrev pub name_fault : Known → ℕ → Kind → Name → Option TypeFault
-name_fault k n kind name = unless k n 2 (is_free k kind (found k (wanted.Ordinary name) n) && not (is_row k name))
+name_fault k n kind name = unless k n rules.DeclaredOnce (is_free k kind (found k (wanted.Ordinary name) n) && not (is_row k name))
 
 -- ---- sizes
 
 -- an array's length is a constant expression from 1 to 65,536
 abbrev pub length_fault : Known → ℕ → Option ℕ → Option TypeFault
 length_fault k n None = None
-length_fault k n (Some count) = used k count (unless k n 5 (is_some (length_at k count)))
+length_fault k n (Some count) = used k count (unless k n rules.Sizes (is_some (length_at k count)))
 
 -- an object takes at most 65,536 bytes
 abbrev pub size_fault : Known → ℕ → Option CType → Option TypeFault
-size_fault k n type = type >>= λ t. unless k n 5 (is_small k t)
+size_fault k n type = type >>= λ t. unless k n rules.Sizes (is_small k t)
 
 abbrev pub array_fault : Known → ℕ → Option Target → Option ℕ → Option TypeFault
 array_fault k n target count = target >>= λ t. size_fault k n (sized k t count (of_target t))
@@ -63,7 +64,7 @@ array_fault k n target count = target >>= λ t. size_fault k n (sized k t count 
 -- there are no arrays of pointers
 abbrev pub object_size_fault : Known → ℕ → Base → Bool → Option ℕ → Option TypeFault
 object_size_fault k n base true None = None
-object_size_fault k n base true (Some count) = sooner (fault_at k n 5) (length_fault k n (Some count))
+object_size_fault k n base true (Some count) = sooner (fault_at k n rules.Sizes) (length_fault k n (Some count))
 object_size_fault k n base false count = sooner (length_fault k n count) (array_fault k n (base_target k n base) count)
 
 abbrev pub size_of : Known → Option CType → ℕ
@@ -72,7 +73,7 @@ size_of k (Some type) = (layout k.notes type).size
 
 -- the variables of all blocks together take at most 65,536 bytes; the declaration that passes this is at fault
 abbrev pub locals_fault : Known → ℕ → (before size : ℕ) → Option TypeFault
-locals_fault k n before size = unless k n 5 (nat_lt 65536 before || nat_le (before + size) 65536)
+locals_fault k n before size = unless k n rules.Sizes (nat_lt 65536 before || nat_le (before + size) 65536)
 
 -- ---- variables
 
@@ -84,12 +85,12 @@ has_value (bases.Int of) false None = true
 has_value (bases.Struct at tag) false None = false
 
 abbrev pub initial_fault : Known → ℕ → Bool → Option CType → ℕ → Option TypeFault
-initial_fault k n false type value = fault_at k n 11
+initial_fault k n false type value = fault_at k n rules.Assignment
 initial_fault k n true type value = type >>= λ t. assigned k n t value
 
 abbrev pub value_fault : Known → ℕ → Bool → Option CType → Option ℕ → Option TypeFault
 value_fault k n allowed type None = None
-value_fault k n allowed type (Some value) = sooner (wants k value demands.Value 11) (initial_fault k n allowed type value)
+value_fault k n allowed type (Some value) = sooner (wants k value demands.Value rules.Assignment) (initial_fault k n allowed type value)
 
 abbrev pub contents_fault : Known → (locals n : ℕ) → Option CType → Bool → Option ℕ → Option TypeFault
 contents_fault k locals n type allowed value = sooner (locals_fault k n locals (size_of k type)) (value_fault k n allowed type value)
@@ -114,7 +115,7 @@ is_field_type _ _ = true
 
 -- the fields up to a field take at most 65,536 bytes
 abbrev pub total_fault : Known → ℕ → CType → (offset : ℕ) → Option TypeFault
-total_fault k n type offset = unless k n 5 (nat_le (offset + (layout k.notes type).size) 65536)
+total_fault k n type offset = unless k n rules.Sizes (nat_le (offset + (layout k.notes type).size) 65536)
 
 abbrev pub tag_place : Kind → ℕ
 tag_place (nodes.Struct tag fields attribute) = tag.from
@@ -133,23 +134,23 @@ place_fault k n type before = type >>= λ t. before >>= placed_fault k n t
 
 -- a field's name is one of its own among those of its struct
 abbrev pub field_name_fault : Known → ℕ → Name → Option TypeFault
-field_name_fault k n name = unless k n 4 (is_none (found k (wanted.Field name) n))
+field_name_fault k n name = unless k n rules.Fields (is_none (found k (wanted.Field name) n))
 
 abbrev pub field_fault : Known → ℕ → Kind → Base → Name → Option ℕ → Option TypeFault
 field_fault k n kind base name count =
     sooner (base_fault k n base)
     (sooner (field_name_fault k n name)
-    (sooner (unless k n 4 (is_field_type base count))
+    (sooner (unless k n rules.Fields (is_field_type base count))
     (sooner (object_size_fault k n base false count) (place_fault k n (type_declared k n kind) (fields_before k n)))))
 
 -- the only attribute is `packed`
 abbrev pub attribute_fault : Known → ℕ → Option Name → Option TypeFault
 attribute_fault k n None = None
-attribute_fault k n (Some name) = unless k n 4 (is_spelled k name (codes "packed"))
+attribute_fault k n (Some name) = unless k n rules.Fields (is_spelled k name (codes "packed"))
 
 -- a tag is declared once
 abbrev pub tag_fault : Known → ℕ → Name → Option TypeFault
-tag_fault k n tag = unless k n 2 (is_none (found k (wanted.Tag tag) n))
+tag_fault k n tag = unless k n rules.DeclaredOnce (is_none (found k (wanted.Tag tag) n))
 
 abbrev pub last_of : List ℕ → Option ℕ
 last_of items = slice_get items (length items - 1)
@@ -188,8 +189,8 @@ is_process k _ = false
 
 -- the last item is `nf_process`
 abbrev pub last_fault : Known → Option ℕ → Option TypeFault
-last_fault k None = Some (type_faults.Typing 0 3)
-last_fault k (Some item) = unless k item 3 (is_process k (kind_at k.tree item))
+last_fault k None = Some (type_faults.Typing 0 rules.LastItem)
+last_fault k (Some item) = unless k item rules.LastItem (is_process k (kind_at k.tree item))
 
 abbrev pub unit_fault : Known → List ℕ → Option TypeFault
 unit_fault k items = last_fault k (last_of items)

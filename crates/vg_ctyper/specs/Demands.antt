@@ -15,6 +15,8 @@ use Rattle.vg_core.specs.declared.types.Target.{Target}
 use Rattle.vg_core.specs.declared.types.Target.TheVariants as targets
 use Rattle.vg_ctyper.specs.declared.demands.Demand.{Demand}
 use Rattle.vg_ctyper.specs.declared.demands.Demand.TheVariants as demands
+use Rattle.vg_ctyper.specs.declared.fault.Rule.{Rule}
+use Rattle.vg_ctyper.specs.declared.fault.Rule.TheVariants as rules
 use Rattle.vg_ctyper.specs.declared.fault.TypeFault.{TypeFault}
 use Rattle.vg_ctyper.specs.declared.fault.TypeFault.TheVariants as type_faults
 use Rattle.vg_ctyper.specs.declared.given.Wanted.TheVariants as wanted
@@ -34,10 +36,10 @@ abbrev pub place : Known → ℕ → ℕ
 place k n = place_of (slice_get k.tree.nodes n)
 
 -- a node breaks a rule
-abbrev pub fault_at : Known → ℕ → ℕ → Option TypeFault
+abbrev pub fault_at : Known → ℕ → Rule → Option TypeFault
 fault_at k n rule = Some (type_faults.Typing (place k n) rule)
 
-abbrev pub unless : Known → ℕ → ℕ → Bool → Option TypeFault
+abbrev pub unless : Known → ℕ → Rule → Bool → Option TypeFault
 unless k n rule holds = if holds then None else fault_at k n rule
 
 abbrev pub is_spelled : Known → Name → List ℕ → Bool
@@ -48,8 +50,8 @@ is_spelled k name bytes = bytes_eq (spelling k.text name) bytes
 -- an object of the library stands only as an argument, and a call of a `void` function only as a statement. Where such a part stands as a value it
 -- is that part that is at fault, and its node's own rules don't look at it; else they do
 abbrev pub used_as : Known → ℕ → CType → Option TypeFault → Option TypeFault
-used_as k part (types.Handle handle) otherwise = fault_at k part 19
-used_as k part types.Void otherwise = fault_at k part 21
+used_as k part (types.Handle handle) otherwise = fault_at k part rules.Handle
+used_as k part types.Void otherwise = fault_at k part rules.Statement
 used_as k part _ otherwise = otherwise
 
 abbrev pub used : Known → ℕ → Option TypeFault → Option TypeFault
@@ -70,10 +72,10 @@ meets demands.Value type = true
 meets demands.Integer type = is_some (as_integer type)
 meets demands.Object type = is_some (pointee type)
 
-abbrev pub wanted_of : Known → ℕ → Demand → ℕ → CType → Option TypeFault
+abbrev pub wanted_of : Known → ℕ → Demand → Rule → CType → Option TypeFault
 wanted_of k part demand rule type = used_as k part type (unless k part rule (meets demand type))
 
-abbrev pub wants : Known → ℕ → Demand → ℕ → Option TypeFault
+abbrev pub wants : Known → ℕ → Demand → Rule → Option TypeFault
 wants k part demand rule = type_at k part >>= wanted_of k part demand rule
 
 -- ---- lvalues (C11 6.3.2.1, 6.5.1, 6.5.3.2)
@@ -131,7 +133,7 @@ is_counter k n = is_counter_at k (without_parens k n)
 
 -- what is assigned to, incremented or has its address taken is an lvalue, and no loop's counter
 abbrev pub object_fault : Known → ℕ → Option TypeFault
-object_fault k part = sooner (unless k part 10 (is_lvalue k part)) (unless k part 18 (not (is_counter k part)))
+object_fault k part = sooner (unless k part rules.Lvalue (is_lvalue k part)) (unless k part rules.Loop (not (is_counter k part)))
 
 -- ---- assignment (C11 6.5.16.1)
 
@@ -179,4 +181,4 @@ is_passed type source = is_assignable type source
 
 -- an initializer or right side that is assigned to an object of a type
 abbrev pub assigned : Known → ℕ → CType → ℕ → Option TypeFault
-assigned k n type value = value_at k value >>= λ source. unless k n 11 (is_assignable type source)
+assigned k n type value = value_at k value >>= λ source. unless k n rules.Assignment (is_assignable type source)

@@ -5,6 +5,7 @@ pub mod Faults
 pub mod Fields
 pub mod Names
 pub mod Notes
+pub mod Passes
 pub mod Rules
 pub mod Scopes
 pub mod StatementRules

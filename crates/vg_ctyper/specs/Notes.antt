@@ -1,8 +1,7 @@
 -- What typing says of a node that breaks no rule, and of a whole text.
-use Rattle.std.specs.Prelude.{ℕ, zero, suc, ◌+◌, ◌-◌, ◌*◌, nat_le, nat_lt, max, List, [], ◌∷◌, ◌++◌, length, slice_get, Option, Some, None, Result, Ok, Err, if◌then◌else◌}
+use Rattle.std.specs.Prelude.{ℕ, ◌+◌, ◌-◌, ◌*◌, nat_le, nat_lt, max, List, [], ◌∷◌, length, slice_get, Option, Some, None, if◌then◌else◌}
 use Rattle.vg_core.specs.Syntax.{Syntax, listed}
 use Rattle.vg_core.specs.Layouts.{layout}
-use Rattle.vg_core.specs.Units.{Typed}
 use Rattle.vg_core.specs.declared.tree.BinaryOp.{BinaryOp}
 use Rattle.vg_core.specs.declared.tree.BinaryOp.TheVariants as binary
 use Rattle.vg_core.specs.declared.tree.Name.{Name}
@@ -16,15 +15,12 @@ use Rattle.vg_core.specs.declared.unit.Referent.{Referent}
 use Rattle.vg_core.specs.declared.unit.Referent.TheVariants as referents
 use Rattle.vg_ctyper.specs.declared.fault.TypeFault.{TypeFault}
 use Rattle.vg_ctyper.specs.declared.fault.TypeFault.TheVariants as type_faults
-use Rattle.vg_ctyper.specs.declared.standing.Standing.{Standing}
-use Rattle.vg_ctyper.specs.Faults.{sooner}
-use Rattle.vg_ctyper.specs.Scopes.{kind_at, standings_of}
+use Rattle.vg_ctyper.specs.Scopes.{kind_at}
 use Rattle.vg_ctyper.specs.Names.{Known, callee}
 use Rattle.vg_ctyper.specs.Types.{◌>>=◌, below_2_32, type_declared, expression_type, constant_word, referent}
 use Rattle.vg_ctyper.specs.Fields.{layout_at, fields_before, field_align, field_offset, rounded_up}
 use Rattle.vg_ctyper.specs.StatementRules.{turns}
 use Rattle.vg_ctyper.specs.DeclarationRules.{last_of}
-use Rattle.vg_ctyper.specs.Rules.{broken}
 
 -- ---- steps
 
@@ -154,12 +150,6 @@ note_unless (Some fault) note = blank
 
 -- ---- the whole text
 
--- what is known behind so many nodes: notes on them, the bytes of the variables that blocks declare, and the first fault
-pub record Progress : Type 0 where
-  pub notes : List Note
-  pub locals : ℕ
-  pub first : Option TypeFault
-
 abbrev pub size_of_type : Known → Option CType → ℕ
 size_of_type k None = 0
 size_of_type k (Some type) = (layout k.notes type).size
@@ -171,30 +161,6 @@ capped_bytes n = if nat_lt n 65537 then n else 65537
 abbrev pub locals_behind : Known → ℕ → Kind → Note → ℕ
 locals_behind k locals (nodes.Declare base pointer name count value) note = capped_bytes (locals + size_of_type k note.of)
 locals_behind k locals _ note = locals
-
--- one node further, by its kind and the rule that it breaks
-abbrev pub further : Known → Progress → Kind → Option TypeFault → Note → Progress
-further k p kind fault note = record {
-  notes = p.notes ++ note ∷ [];
-  locals = locals_behind k p.locals kind note;
-  first = sooner p.first fault;
-}
-
-abbrev pub known_behind : List ℕ → Syntax → List Standing → List Note → Known
-known_behind text tree standings notes = record { text = text; tree = tree; standings = standings; notes = notes }
-
-abbrev pub node_typed : Known → ℕ → Progress → Progress
-node_typed k n p =
-    further k p (kind_at k.tree n) (broken k p.locals n) (note_unless (broken k p.locals n) (note_of k n (kind_at k.tree n)))
-
-abbrev pub at_start : Progress
-at_start = record { notes = []; locals = 0; first = None }
-
--- behind the nodes below a number
-abbrev pub typed_below : List ℕ → Syntax → List Standing → ℕ → Progress
-typed_below text tree standings zero = at_start
-typed_below text tree standings (suc n) =
-    node_typed (known_behind text tree standings (typed_below text tree standings n).notes) n (typed_below text tree standings n)
 
 -- `nf_process` takes at most 1,000,000 steps
 abbrev pub process_fault : (steps : ℕ) → Kind → Option TypeFault
@@ -212,17 +178,3 @@ items_of tree _ = []
 -- the whole text is the last node, and `nf_process` its last item
 abbrev pub whole_fault : Syntax → List Note → Option TypeFault
 whole_fault tree notes = item_fault tree notes (last_of (items_of tree (kind_at tree (length tree.nodes - 1))))
-
-abbrev pub judged : List ℕ → Syntax → List Note → Option TypeFault → Result Typed TypeFault
-judged text tree notes (Some fault) = Err fault
-judged text tree notes None = Ok (record { text = text; tree = tree; notes = notes })
-
-abbrev pub or_whole : Syntax → Progress → Option TypeFault
-or_whole tree p = or_else p.first (whole_fault tree p.notes)
-
-abbrev pub of_progress : List ℕ → Syntax → Progress → Result Typed TypeFault
-of_progress text tree p = judged text tree p.notes (or_whole tree p)
-
--- what typing gives of a text and its tree
-abbrev pub typed : List ℕ → Syntax → Result Typed TypeFault
-typed text tree = of_progress text tree (typed_below text tree (standings_of tree) (length tree.nodes))

@@ -4,6 +4,7 @@ use Rattle.vg_core.specs.Syntax.{listed}
 use Rattle.vg_core.specs.declared.tree.Kind.{Kind}
 use Rattle.vg_core.specs.declared.tree.Kind.TheVariants as nodes
 use Rattle.vg_ctyper.specs.declared.demands.Demand.TheVariants as demands
+use Rattle.vg_ctyper.specs.declared.fault.Rule.TheVariants as rules
 use Rattle.vg_ctyper.specs.declared.fault.TypeFault.{TypeFault}
 use Rattle.vg_ctyper.specs.Faults.{sooner}
 use Rattle.vg_ctyper.specs.Scopes.{kind_at}
@@ -39,9 +40,9 @@ abbrev pub statement_fault : Known → (locals n : ℕ) → Kind → Option Type
 statement_fault k locals n (nodes.Declare base pointer name count value) = declare_fault k locals n (nodes.Declare base pointer name count value)
 statement_fault k locals n (nodes.Evaluate value) = evaluate_fault k n value
 statement_fault k locals n (nodes.Assign op target value) = assign_fault k n op target value
-statement_fault k locals n (nodes.Increment target) = target_fault k target demands.Integer 6
-statement_fault k locals n (nodes.Decrement target) = target_fault k target demands.Integer 6
-statement_fault k locals n (nodes.If condition first otherwise) = wants k condition demands.Integer 17
+statement_fault k locals n (nodes.Increment target) = target_fault k target demands.Integer rules.Arithmetic
+statement_fault k locals n (nodes.Decrement target) = target_fault k target demands.Integer rules.Arithmetic
+statement_fault k locals n (nodes.If condition first otherwise) = wants k condition demands.Integer rules.Condition
 statement_fault k locals n (nodes.For of counter start tested bound stepped step body) =
     for_fault k n (nodes.For of counter start tested bound stepped step body)
 statement_fault k locals n (nodes.Return value) = return_fault k n value

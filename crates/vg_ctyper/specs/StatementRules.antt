@@ -13,6 +13,8 @@ use Rattle.vg_cint.specs.Values.{converted}
 use Rattle.vg_cint.specs.Operators.{less}
 use Rattle.vg_ctyper.specs.declared.demands.Demand.{Demand}
 use Rattle.vg_ctyper.specs.declared.demands.Demand.TheVariants as demands
+use Rattle.vg_ctyper.specs.declared.fault.Rule.{Rule}
+use Rattle.vg_ctyper.specs.declared.fault.Rule.TheVariants as rules
 use Rattle.vg_ctyper.specs.declared.fault.TypeFault.{TypeFault}
 use Rattle.vg_ctyper.specs.declared.fault.TypeFault.TheVariants as type_faults
 use Rattle.vg_ctyper.specs.declared.given.Wanted.TheVariants as wanted
@@ -26,10 +28,10 @@ use Rattle.vg_ctyper.specs.ExpressionRules.{operand_rule}
 -- ---- assignments (C11 6.5.16, 6.5.2.4)
 
 -- what is assigned to or incremented
-abbrev pub target_of_type : Known → ℕ → Demand → ℕ → CType → Option TypeFault
+abbrev pub target_of_type : Known → ℕ → Demand → Rule → CType → Option TypeFault
 target_of_type k target demand rule type = used_as k target type (sooner (object_fault k target) (unless k target rule (meets demand type)))
 
-abbrev pub target_fault : Known → ℕ → Demand → ℕ → Option TypeFault
+abbrev pub target_fault : Known → ℕ → Demand → Rule → Option TypeFault
 target_fault k target demand rule = type_at k target >>= target_of_type k target demand rule
 
 abbrev pub stored_fault : Known → ℕ → (target value : ℕ) → Option TypeFault
@@ -38,8 +40,8 @@ stored_fault k n target value = value_at k target >>= λ type. assigned k n type
 -- `=` assigns an integer to an integer, and a pointer to a pointer
 abbrev pub plain_fault : Known → ℕ → (target value : ℕ) → Option TypeFault
 plain_fault k n target value =
-    sooner (target_fault k target demands.Value 10)
-    (sooner (wants k value demands.Value 11) (stored_fault k n target value))
+    sooner (target_fault k target demands.Value rules.Lvalue)
+    (sooner (wants k value demands.Value rules.Assignment) (stored_fault k n target value))
 
 -- `op=` has the operands of the operator
 abbrev pub compound_fault : Known → BinaryOp → (target value : ℕ) → Option TypeFault
@@ -55,9 +57,9 @@ abbrev pub is_call : Kind → Bool
 is_call (nodes.Call name arguments) = true
 is_call _ = false
 
--- a statement without an assignment is a call
+-- a statement without an assignment is a call; one with a fault in it breaks no rule besides
 abbrev pub evaluate_fault : Known → ℕ → ℕ → Option TypeFault
-evaluate_fault k n value = if is_call (kind_at k.tree value) then None else sooner (wants k value demands.Value 21) (fault_at k n 21)
+evaluate_fault k n value = if is_call (kind_at k.tree value) then None else used k value (fault_at k n rules.Statement)
 
 -- ---- answers (C11 6.8.6.4)
 
@@ -70,10 +72,10 @@ answers k n = elim (found k wanted.Function n) as (λ _. Bool) [ None ↦ false 
 
 -- `return` has a value, an integer, exactly in a function that answers one
 abbrev pub answer_fault : Known → ℕ → Bool → Option ℕ → Option TypeFault
-answer_fault k n true None = fault_at k n 16
-answer_fault k n true (Some value) = wants k value demands.Integer 16
+answer_fault k n true None = fault_at k n rules.Return
+answer_fault k n true (Some value) = wants k value demands.Integer rules.Return
 answer_fault k n false None = None
-answer_fault k n false (Some value) = fault_at k n 16
+answer_fault k n false (Some value) = fault_at k n rules.Return
 
 abbrev pub return_fault : Known → ℕ → Option ℕ → Option TypeFault
 return_fault k n value = answer_fault k n (answers k n) value
@@ -86,7 +88,7 @@ greatest t = if t.signed then 2 ^ (t.bits - 1) - 1 else 2 ^ t.bits - 1
 
 -- a constant expression that is a whole number
 abbrev pub constant_fault : Known → ℕ → Option TypeFault
-constant_fault k n = used k n (unless k n 18 (is_some (number_at k n)))
+constant_fault k n = used k n (unless k n rules.Loop (is_some (number_at k n)))
 
 abbrev pub is_positive : Option ℕ → Bool
 is_positive None = false
@@ -94,7 +96,7 @@ is_positive (Some n) = nat_lt 0 n
 
 abbrev pub step_fault : Known → Option ℕ → Option TypeFault
 step_fault k None = None
-step_fault k (Some step) = used k step (unless k step 18 (is_positive (number_at k step)))
+step_fault k (Some step) = used k step (unless k step rules.Loop (is_positive (number_at k step)))
 
 -- without a step the counter is incremented
 abbrev pub step_number : Known → Option ℕ → Option ℕ
@@ -103,14 +105,14 @@ step_number k (Some step) = number_at k step
 
 -- a loop's three names are one
 abbrev pub names_fault : Known → ℕ → (counter tested stepped : Name) → Option TypeFault
-names_fault k n counter tested stepped = unless k n 18 (is_same k counter tested && is_same k counter stepped)
+names_fault k n counter tested stepped = unless k n rules.Loop (is_same k counter tested && is_same k counter stepped)
 
 -- the counter's type holds the bound and a step more, so that the counter never wraps
 abbrev pub fits : IntType → ℕ → ℕ → Bool
 fits of bound step = nat_le (bound + step) (greatest (integer_of of))
 
 abbrev pub range_fault : Known → ℕ → IntType → (bound : ℕ) → Option ℕ → Option TypeFault
-range_fault k n of bound step = number_at k bound >>= λ b. step_number k step >>= λ c. unless k n 18 (fits of b c)
+range_fault k n of bound step = number_at k bound >>= λ b. step_number k step >>= λ c. unless k n rules.Loop (fits of b c)
 
 -- how many words a counter's type has. A counter of 64 bits isn't asked for: its start is below 2 ^ 32, and so isn't negative
 abbrev pub words : IntType → ℕ

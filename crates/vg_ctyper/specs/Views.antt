@@ -2,10 +2,10 @@
 use Rattle.vg_ctyper.specs.Names.{Known}
 use Rattle.vg_ctyper.specs.declared.given.Given.{Given}
 use Rattle.vg_ctyper.specs.declared.typing.Progress.{Progress}
-use Rattle.vg_ctyper.specs.Notes as notes
+use Rattle.vg_ctyper.specs.Passes as passes
 
 abbrev pub known : Given → Known
 known given = record { text = given.text.now; tree = given.tree.now; standings = given.standings.now; notes = given.notes.now }
 
-abbrev pub seen : Progress → notes.Progress
+abbrev pub seen : Progress → passes.Progress
 seen p = record { notes = p.notes.items; locals = p.locals; first = p.first }

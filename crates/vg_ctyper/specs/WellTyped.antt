@@ -1,6 +1,6 @@
 -- What a typed text is, and which fault of a text comes first: conditions on the notes as they stand in the end, node by node.
 use Rattle.std.specs.Prelude.{◌≡◌, ℕ, zero, suc, ◌<◌, List, length, take, slice_get, false, Option, Some, None, ◌⊎◌}
-use Rattle.vg_core.specs.Syntax.{Syntax}
+use Rattle.vg_core.specs.Syntax.{Syntax, IsOrdered, IsUsedOnce}
 use Rattle.vg_core.specs.Units.{Typed}
 use Rattle.vg_core.specs.declared.unit.Note.{Note}
 use Rattle.vg_ctyper.specs.declared.fault.TypeFault.{TypeFault}
@@ -33,8 +33,10 @@ module _ (text : List ℕ) (tree : Syntax) (notes : List Note) where
     pub count : length notes ≡ length tree.nodes
     pub each : (n : ℕ) → n < length tree.nodes → slice_get notes n ≡ Some (note_unless (broken_at n) (note_of (known_at n) n (kind_at tree n)))
 
--- a typed text: its notes are right, no node breaks a rule, and `nf_process` takes few enough steps
+-- a typed text: its tree is one that tokens spell, its notes are right, no node breaks a rule, and `nf_process` takes few enough steps
 pub record IsWellTyped (u : Typed) : Type 0 where
+  pub ordered : IsOrdered u.tree
+  pub used_once : IsUsedOnce u.tree
   pub notes : AreNotes u.text u.tree u.notes
   pub sound : (n : ℕ) → n < length u.tree.nodes → broken_at u.text u.tree u.notes n ≡ None
   pub short : whole_fault u.tree u.notes ≡ None

@@ -4,7 +4,7 @@ ghost use Rattle.vg_ctyper.specs.DeclarationRules as rules;
 ghost use Rattle.vg_ctyper.specs.Views.{known};
 
 use crate::demands::{Demand, same_bool};
-use crate::fault::{TypeFault, sooner};
+use crate::fault::{Rule, TypeFault, sooner};
 use crate::given::{Given, Wanted, spelling};
 use crate::kinds::of_target;
 use vg_core::{Base, CType, IntType, Kind, Layout, Name, Target, library_row};
@@ -119,20 +119,27 @@ impl Given<'_> {
         ensures { result ≡ rules.name_fault (known self.now) n kind name }
     {
         let before = self.found(Wanted::Ordinary(name), n);
-        self.unless(n, 2, self.is_free(kind, before) && !self.is_row(name))
+        self.unless(
+            n,
+            Rule::DeclaredOnce,
+            self.is_free(kind, before) && !self.is_row(name),
+        )
     }
 
     fn length_fault(&self, n: u32, count: Option<u32>) -> Option<TypeFault>
         ensures { result ≡ rules.length_fault (known self.now) n count }
     {
         let count = count?;
-        self.used(count, self.unless(n, 5, self.length_at(count).is_some()))
+        self.used(
+            count,
+            self.unless(n, Rule::Sizes, self.length_at(count).is_some()),
+        )
     }
 
     fn size_fault(&self, n: u32, of: Option<CType>) -> Option<TypeFault>
         ensures { result ≡ rules.size_fault (known self.now) n of }
     {
-        self.unless(n, 5, self.size_of(of?) <= 65536)
+        self.unless(n, Rule::Sizes, self.size_of(of?) <= 65536)
     }
 
     fn array_fault(&self, n: u32, target: Option<Target>, count: Option<u32>) -> Option<TypeFault>
@@ -153,7 +160,7 @@ impl Given<'_> {
     {
         match (pointer, count) {
             (true, None) => None,
-            (true, Some(_)) => sooner(self.fault_at(n, 5), self.length_fault(n, count)),
+            (true, Some(_)) => sooner(self.fault_at(n, Rule::Sizes), self.length_fault(n, count)),
             (false, count) => {
                 let target = self.base_target(n, base);
                 sooner(
@@ -178,7 +185,7 @@ impl Given<'_> {
         ensures { result ≡ rules.locals_fault (known self.now) n before size }
     {
         let total = u128::from(before) + u128::from(size);
-        self.unless(n, 5, 65536 < before || total <= 65536)
+        self.unless(n, Rule::Sizes, 65536 < before || total <= 65536)
     }
 
     fn initial_fault(
@@ -193,7 +200,7 @@ impl Given<'_> {
         if allowed {
             self.assigned(n, of?, value)
         } else {
-            self.fault_at(n, 11)
+            self.fault_at(n, Rule::Assignment)
         }
     }
 
@@ -208,7 +215,7 @@ impl Given<'_> {
     {
         match value {
             Some(value) => sooner(
-                self.wants(value, Demand::Value, 11),
+                self.wants(value, Demand::Value, Rule::Assignment),
                 self.initial_fault(n, allowed, of, value),
             ),
             None => None,
@@ -265,7 +272,7 @@ impl Given<'_> {
         ensures { result ≡ rules.total_fault (known self.now) n of offset }
     {
         let total = u128::from(offset) + u128::from(self.size_of(of));
-        self.unless(n, 5, total <= 65536)
+        self.unless(n, Rule::Sizes, total <= 65536)
     }
 
     fn placed_fault(&self, n: u32, of: CType, before: Layout) -> Option<TypeFault>
@@ -288,7 +295,11 @@ impl Given<'_> {
     fn field_name_fault(&self, n: u32, name: Name) -> Option<TypeFault>
         ensures { result ≡ rules.field_name_fault (known self.now) n name }
     {
-        self.unless(n, 4, self.found(Wanted::Field(name), n).is_none())
+        self.unless(
+            n,
+            Rule::Fields,
+            self.found(Wanted::Field(name), n).is_none(),
+        )
     }
 
     /// The rule that a field breaks.
@@ -304,7 +315,10 @@ impl Given<'_> {
     {
         let placed = self.place_fault(n, self.type_declared(n, kind), self.fields_before(n));
         let sized = sooner(self.object_size_fault(n, base, false, count), placed);
-        let typed = sooner(self.unless(n, 4, is_field_type(base, count)), sized);
+        let typed = sooner(
+            self.unless(n, Rule::Fields, is_field_type(base, count)),
+            sized,
+        );
         sooner(
             self.base_fault(n, base),
             sooner(self.field_name_fault(n, name), typed),
@@ -315,7 +329,7 @@ impl Given<'_> {
         ensures { result ≡ rules.attribute_fault (known self.now) n attribute }
     {
         match attribute {
-            Some(name) => self.unless(n, 4, self.is_spelled(name, b"packed")),
+            Some(name) => self.unless(n, Rule::Fields, self.is_spelled(name, b"packed")),
             None => None,
         }
     }
@@ -323,7 +337,11 @@ impl Given<'_> {
     fn tag_fault(&self, n: u32, tag: Name) -> Option<TypeFault>
         ensures { result ≡ rules.tag_fault (known self.now) n tag }
     {
-        self.unless(n, 2, self.found(Wanted::Tag(tag), n).is_none())
+        self.unless(
+            n,
+            Rule::DeclaredOnce,
+            self.found(Wanted::Tag(tag), n).is_none(),
+        )
     }
 
     fn layout_of_last(&self, fields: &[u32]) -> Option<Layout>
@@ -395,8 +413,11 @@ impl Given<'_> {
         ensures { result ≡ rules.last_fault (known self.now) item }
     {
         match item {
-            Some(item) => self.unless(item, 3, self.is_process(self.kind(item))),
-            None => Some(TypeFault::Typing { at: 0, rule: 3 }),
+            Some(item) => self.unless(item, Rule::LastItem, self.is_process(self.kind(item))),
+            None => Some(TypeFault::Typing {
+                at: 0,
+                rule: Rule::LastItem,
+            }),
         }
     }
 

@@ -3,7 +3,7 @@ ghost use Rattle.std.specs.Prelude.{◌≡◌};
 ghost use Rattle.vg_ctyper.specs.Demands as demands;
 ghost use Rattle.vg_ctyper.specs.Views.{known};
 
-use crate::fault::{TypeFault, sooner};
+use crate::fault::{Rule, TypeFault, sooner};
 use crate::given::{Given, Wanted, spelling};
 use crate::kinds::{as_integer, pointed, pointee};
 use vg_core::{CType, HandleKind, Kind, Name, Target, UnaryOp};
@@ -151,14 +151,14 @@ impl Given<'_> {
         }
     }
 
-    pub fn fault_at(&self, n: u32, rule: u8) -> Option<TypeFault>
+    pub fn fault_at(&self, n: u32, rule: Rule) -> Option<TypeFault>
         ensures { result ≡ demands.fault_at (known self.now) n rule }
     {
         let at = self.place(n);
         Some(TypeFault::Typing { at, rule })
     }
 
-    pub fn unless(&self, n: u32, rule: u8, holds: bool) -> Option<TypeFault>
+    pub fn unless(&self, n: u32, rule: Rule, holds: bool) -> Option<TypeFault>
         ensures { result ≡ demands.unless (known self.now) n rule holds }
     {
         if holds { None } else { self.fault_at(n, rule) }
@@ -175,8 +175,8 @@ impl Given<'_> {
         ensures { result ≡ demands.used_as (known self.now) part of otherwise }
     {
         match of {
-            CType::Handle(_) => self.fault_at(part, 19),
-            CType::Void => self.fault_at(part, 21),
+            CType::Handle(_) => self.fault_at(part, Rule::Handle),
+            CType::Void => self.fault_at(part, Rule::Statement),
             _ => otherwise,
         }
     }
@@ -194,14 +194,14 @@ impl Given<'_> {
         as_value(self.type_at(part)?)
     }
 
-    fn wanted_of(&self, part: u32, demand: Demand, rule: u8, of: CType) -> Option<TypeFault>
+    fn wanted_of(&self, part: u32, demand: Demand, rule: Rule, of: CType) -> Option<TypeFault>
         ensures { result ≡ demands.wanted_of (known self.now) part demand rule of }
     {
         self.used_as(part, of, self.unless(part, rule, meets(demand, of)))
     }
 
     /// The fault of an operand whose operator wants something of its type.
-    pub fn wants(&self, part: u32, demand: Demand, rule: u8) -> Option<TypeFault>
+    pub fn wants(&self, part: u32, demand: Demand, rule: Rule) -> Option<TypeFault>
         ensures { result ≡ demands.wants (known self.now) part demand rule }
     {
         self.wanted_of(part, demand, rule, self.type_at(part)?)
@@ -270,8 +270,8 @@ impl Given<'_> {
         ensures { result ≡ demands.object_fault (known self.now) part }
     {
         sooner(
-            self.unless(part, 10, self.is_lvalue(part)),
-            self.unless(part, 18, !self.is_counter(part)),
+            self.unless(part, Rule::Lvalue, self.is_lvalue(part)),
+            self.unless(part, Rule::Loop, !self.is_counter(part)),
         )
     }
 
@@ -279,6 +279,10 @@ impl Given<'_> {
     pub fn assigned(&self, n: u32, of: CType, value: u32) -> Option<TypeFault>
         ensures { result ≡ demands.assigned (known self.now) n of value }
     {
-        self.unless(n, 11, is_assignable(of, self.value_at(value)?))
+        self.unless(
+            n,
+            Rule::Assignment,
+            is_assignable(of, self.value_at(value)?),
+        )
     }
 }

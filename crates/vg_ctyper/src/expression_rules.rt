@@ -4,7 +4,7 @@ ghost use Rattle.vg_ctyper.specs.ExpressionRules as rules;
 ghost use Rattle.vg_ctyper.specs.Views.{known};
 
 use crate::demands::{Demand, is_passed};
-use crate::fault::{TypeFault, sooner};
+use crate::fault::{Rule, TypeFault, sooner};
 use crate::given::{Given, Wanted, is_function, spelling};
 use crate::kinds::{address, cast_type, pointee};
 use vg_core::{
@@ -12,11 +12,11 @@ use vg_core::{
 };
 
 /// By which rule the operands of an operator are integers.
-pub(crate) fn operand_rule(op: BinaryOp) -> u8
+pub(crate) fn operand_rule(op: BinaryOp) -> Rule
     ensures { result ≡ rules.operand_rule op }
 {
     match op {
-        BinaryOp::ShiftLeft | BinaryOp::ShiftRight => 7,
+        BinaryOp::ShiftLeft | BinaryOp::ShiftRight => Rule::Shift,
         BinaryOp::OrElse
         | BinaryOp::AndThen
         | BinaryOp::Equal
@@ -24,8 +24,8 @@ pub(crate) fn operand_rule(op: BinaryOp) -> u8
         | BinaryOp::Less
         | BinaryOp::Greater
         | BinaryOp::LessEqual
-        | BinaryOp::GreaterEqual => 8,
-        _ => 6,
+        | BinaryOp::GreaterEqual => Rule::Comparison,
+        _ => Rule::Arithmetic,
     }
 }
 
@@ -42,7 +42,7 @@ impl Given<'_> {
     fn variable_fault(&self, n: u32, name: Name) -> Option<TypeFault>
         ensures { result ≡ rules.variable_fault (known self.now) n name }
     {
-        self.unless(n, 1, self.variable(n, name).is_some())
+        self.unless(n, Rule::Declared, self.variable(n, name).is_some())
     }
 
     fn is_before(&self, declaration: Option<u32>) -> bool
@@ -64,7 +64,10 @@ impl Given<'_> {
                 if self.is_before(self.found(Wanted::Tag(tag), n)) {
                     None
                 } else {
-                    Some(TypeFault::Typing { at, rule: 1 })
+                    Some(TypeFault::Typing {
+                        at,
+                        rule: Rule::Declared,
+                    })
                 }
             }
         }
@@ -74,10 +77,13 @@ impl Given<'_> {
         ensures { result ≡ rules.choose_fault (known self.now) condition one other }
     {
         let chosen = sooner(
-            self.wants(one, Demand::Integer, 9),
-            self.wants(other, Demand::Integer, 9),
+            self.wants(one, Demand::Integer, Rule::Conditional),
+            self.wants(other, Demand::Integer, Rule::Conditional),
         );
-        sooner(self.wants(condition, Demand::Integer, 9), chosen)
+        sooner(
+            self.wants(condition, Demand::Integer, Rule::Conditional),
+            chosen,
+        )
     }
 
     fn binary_fault(&self, op: BinaryOp, left: u32, right: u32) -> Option<TypeFault>
@@ -99,7 +105,7 @@ impl Given<'_> {
     fn address_fault(&self, operand: u32) -> Option<TypeFault>
         ensures { result ≡ rules.address_fault (known self.now) operand }
     {
-        let plain = self.unless(operand, 14, self.address_at(operand).is_some());
+        let plain = self.unless(operand, Rule::Address, self.address_at(operand).is_some());
         self.used(operand, sooner(self.object_fault(operand), plain))
     }
 
@@ -107,9 +113,13 @@ impl Given<'_> {
         ensures { result ≡ rules.unary_fault (known self.now) op operand }
     {
         match op {
-            UnaryOp::Negate | UnaryOp::Complement => self.wants(operand, Demand::Integer, 6),
-            UnaryOp::Not => self.wants(operand, Demand::Integer, 8),
-            UnaryOp::Load => self.wants(operand, Demand::Object, 12),
+            UnaryOp::Negate | UnaryOp::Complement => self.wants(
+                operand,
+                Demand::Integer,
+                Rule::Arithmetic,
+            ),
+            UnaryOp::Not => self.wants(operand, Demand::Integer, Rule::Comparison),
+            UnaryOp::Load => self.wants(operand, Demand::Object, Rule::Indirection),
             UnaryOp::Address => self.address_fault(operand),
         }
     }
@@ -125,7 +135,7 @@ impl Given<'_> {
     {
         let to = to?;
         let from = from?;
-        self.unless(n, 20, cast_type(pointer, to, from).is_some())
+        self.unless(n, Rule::Cast, cast_type(pointer, to, from).is_some())
     }
 
     fn cast_fault(&self, n: u32, base: Base, pointer: bool, operand: u32) -> Option<TypeFault>
@@ -135,7 +145,7 @@ impl Given<'_> {
         let converted = self.converted_fault(n, pointer, target, self.value_at(operand));
         sooner(
             self.base_fault(n, base),
-            sooner(self.wants(operand, Demand::Value, 20), converted),
+            sooner(self.wants(operand, Demand::Value, Rule::Cast), converted),
         )
     }
 
@@ -143,8 +153,8 @@ impl Given<'_> {
         ensures { result ≡ rules.index_fault (known self.now) array index }
     {
         sooner(
-            self.wants(array, Demand::Object, 12),
-            self.wants(index, Demand::Integer, 12),
+            self.wants(array, Demand::Object, Rule::Indirection),
+            self.wants(index, Demand::Integer, Rule::Indirection),
         )
     }
 
@@ -152,7 +162,7 @@ impl Given<'_> {
         ensures { result ≡ rules.member_fault (known self.now) n whole field }
     {
         let taken = self.referent(n, Kind::Member { whole, field });
-        self.used(whole, self.unless(n, 13, taken.is_some()))
+        self.used(whole, self.unless(n, Rule::Member, taken.is_some()))
     }
 
     fn pointed_fault(
@@ -165,8 +175,8 @@ impl Given<'_> {
         ensures { result ≡ rules.pointed_fault (known self.now) n pointer field target }
     {
         match target {
-            Some(target) => self.unless(n, 13, self.field_of(field, target).is_some()),
-            None => self.fault_at(pointer, 12),
+            Some(target) => self.unless(n, Rule::Member, self.field_of(field, target).is_some()),
+            None => self.fault_at(pointer, Rule::Indirection),
         }
     }
 
@@ -249,7 +259,7 @@ impl Given<'_> {
         ensures { result ≡ rules.borrowed_fault (known self.now) borrowed argument }
     {
         if borrowed {
-            self.unless(argument, 22, self.number_at(argument).is_some())
+            self.unless(argument, Rule::Borrow, self.number_at(argument).is_some())
         } else {
             None
         }
@@ -259,7 +269,7 @@ impl Given<'_> {
         ensures { result ≡ rules.passed_fault (known self.now) argument of param }
     {
         match param {
-            Some(param) => self.unless(argument, 15, is_passed(param, of)),
+            Some(param) => self.unless(argument, Rule::Arguments, is_passed(param, of)),
             None => None,
         }
     }
@@ -274,7 +284,7 @@ impl Given<'_> {
         ensures { result ≡ rules.typed_argument_fault (known self.now) borrowed param argument of }
     {
         match of {
-            CType::Void => self.fault_at(argument, 21),
+            CType::Void => self.fault_at(argument, Rule::Statement),
             _ => sooner(
                 self.passed_fault(argument, of, param),
                 self.borrowed_fault(borrowed, argument),
@@ -332,7 +342,11 @@ impl Given<'_> {
     fn count_fault(&self, n: u32, callee: Referent, arguments: &[u32]) -> Option<TypeFault>
         ensures { result ≡ rules.count_fault (known self.now) n callee arguments.now }
     {
-        self.unless(n, 15, arguments.len() == self.param_count(callee))
+        self.unless(
+            n,
+            Rule::Arguments,
+            arguments.len() == self.param_count(callee),
+        )
     }
 
     fn called_fault(
@@ -345,7 +359,7 @@ impl Given<'_> {
         ensures { result ≡ rules.called_fault (known self.now) n name arguments.now callee }
     {
         match callee {
-            None => self.fault_at(n, 1),
+            None => self.fault_at(n, Rule::Declared),
             Some(callee) => {
                 let borrowed = self.is_borrow(name, callee);
                 let count = self.count_fault(n, callee, arguments);
@@ -369,7 +383,7 @@ impl Given<'_> {
     {
         match kind {
             Kind::Variable { name } => self.variable_fault(n, name),
-            Kind::Parens { inner } => self.wants(inner, Demand::Value, 21),
+            Kind::Parens { inner } => self.wants(inner, Demand::Value, Rule::Statement),
             Kind::Sizeof { base } => self.base_fault(n, base),
             Kind::Cast {
                 base,

@@ -15,8 +15,8 @@ mod statement_rules;
 mod typed;
 mod typing;
 
-pub use fault::TypeFault;
-pub use typing::{type_unit, typed_texts};
+pub use fault::{Rule, TypeFault};
+pub use typing::{notes_are_one, type_unit};
 
 #[cfg(test)]
 mod tests;

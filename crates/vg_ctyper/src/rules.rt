@@ -4,7 +4,7 @@ ghost use Rattle.vg_ctyper.specs.Rules as rules;
 ghost use Rattle.vg_ctyper.specs.Views.{known};
 
 use crate::demands::Demand;
-use crate::fault::{TypeFault, sooner};
+use crate::fault::{Rule, TypeFault, sooner};
 use crate::given::Given;
 use vg_core::Kind;
 
@@ -61,9 +61,9 @@ impl Given<'_> {
             Kind::Evaluate { value } => self.evaluate_fault(n, value),
             Kind::Assign { op, target, value } => self.assign_fault(n, op, target, value),
             Kind::Increment { target } | Kind::Decrement { target } => {
-                self.target_fault(target, Demand::Integer, 6)
+                self.target_fault(target, Demand::Integer, Rule::Arithmetic)
             }
-            Kind::If { condition, .. } => self.wants(condition, Demand::Integer, 17),
+            Kind::If { condition, .. } => self.wants(condition, Demand::Integer, Rule::Condition),
             Kind::For { .. } => self.for_fault(n, kind),
             Kind::Return { value } => self.return_fault(n, value),
             _ => None,

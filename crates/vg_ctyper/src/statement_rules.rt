@@ -6,7 +6,7 @@ ghost use Rattle.vg_cint.specs.Types.{integer_of};
 
 use crate::demands::{Demand, meets};
 use crate::expression_rules::operand_rule;
-use crate::fault::{TypeFault, sooner};
+use crate::fault::{Rule, TypeFault, sooner};
 use crate::given::{Given, Wanted};
 use crate::kinds::UNSIGNED_64;
 use vg_cint::{common, converted, integer_of, less};
@@ -99,7 +99,13 @@ fn steps_to(distance: u64, step: u32) -> u64
 }
 
 impl Given<'_> {
-    fn target_of_type(&self, target: u32, demand: Demand, rule: u8, of: CType) -> Option<TypeFault>
+    fn target_of_type(
+        &self,
+        target: u32,
+        demand: Demand,
+        rule: Rule,
+        of: CType,
+    ) -> Option<TypeFault>
         ensures { result ≡ rules.target_of_type (known self.now) target demand rule of }
     {
         let wanted = self.unless(target, rule, meets(demand, of));
@@ -107,7 +113,7 @@ impl Given<'_> {
     }
 
     /// The fault of what is assigned to or incremented.
-    pub fn target_fault(&self, target: u32, demand: Demand, rule: u8) -> Option<TypeFault>
+    pub fn target_fault(&self, target: u32, demand: Demand, rule: Rule) -> Option<TypeFault>
         ensures { result ≡ rules.target_fault (known self.now) target demand rule }
     {
         self.target_of_type(target, demand, rule, self.type_at(target)?)
@@ -122,9 +128,9 @@ impl Given<'_> {
     fn plain_fault(&self, n: u32, target: u32, value: u32) -> Option<TypeFault>
         ensures { result ≡ rules.plain_fault (known self.now) n target value }
     {
-        let value_fault = self.wants(value, Demand::Value, 11);
+        let value_fault = self.wants(value, Demand::Value, Rule::Assignment);
         sooner(
-            self.target_fault(target, Demand::Value, 10),
+            self.target_fault(target, Demand::Value, Rule::Lvalue),
             sooner(value_fault, self.stored_fault(n, target, value)),
         )
     }
@@ -162,8 +168,7 @@ impl Given<'_> {
         if is_call(self.kind(value)) {
             None
         } else {
-            let value_fault = self.wants(value, Demand::Value, 21);
-            sooner(value_fault, self.fault_at(n, 21))
+            self.used(value, self.fault_at(n, Rule::Statement))
         }
     }
 
@@ -181,8 +186,8 @@ impl Given<'_> {
         ensures { result ≡ rules.answer_fault (known self.now) n answers value }
     {
         match (answers, value) {
-            (true, None) | (false, Some(_)) => self.fault_at(n, 16),
-            (true, Some(value)) => self.wants(value, Demand::Integer, 16),
+            (true, None) | (false, Some(_)) => self.fault_at(n, Rule::Return),
+            (true, Some(value)) => self.wants(value, Demand::Integer, Rule::Return),
             (false, None) => None,
         }
     }
@@ -197,7 +202,7 @@ impl Given<'_> {
     fn constant_fault(&self, n: u32) -> Option<TypeFault>
         ensures { result ≡ rules.constant_fault (known self.now) n }
     {
-        self.used(n, self.unless(n, 18, self.number_at(n).is_some()))
+        self.used(n, self.unless(n, Rule::Loop, self.number_at(n).is_some()))
     }
 
     fn step_fault(&self, step: Option<u32>) -> Option<TypeFault>
@@ -206,7 +211,7 @@ impl Given<'_> {
         let step = step?;
         self.used(
             step,
-            self.unless(step, 18, is_positive(self.number_at(step))),
+            self.unless(step, Rule::Loop, is_positive(self.number_at(step))),
         )
     }
 
@@ -230,7 +235,7 @@ impl Given<'_> {
         ensures { result ≡ rules.names_fault (known self.now) n counter tested stepped }
     {
         let alike = self.is_same(counter, tested) && self.is_same(counter, stepped);
-        self.unless(n, 18, alike)
+        self.unless(n, Rule::Loop, alike)
     }
 
     fn range_fault(&self, n: u32, of: IntType, bound: u32, step: Option<u32>) -> Option<TypeFault>
@@ -238,7 +243,7 @@ impl Given<'_> {
     {
         let bound = self.number_at(bound)?;
         let step = self.step_number(step)?;
-        self.unless(n, 18, fits(of, bound, step))
+        self.unless(n, Rule::Loop, fits(of, bound, step))
     }
 
     /// How many turns a loop has.

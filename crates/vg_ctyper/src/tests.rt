@@ -24,53 +24,60 @@ fn fault_of(alloc: Global, text: &str) -> Result<Option<TypeFault>, Fail> {
 const HEAD: &str = "int nf_process(uint16_t port, uint64_t now) {";
 
 // Bodies, and the rule that each breaks, with its place in the body.
-const BODIES: [(&str, u8, u32); 46] = [
-    ("x = 1;", 1, 0),
-    ("int a = b;", 1, 8),
-    ("f();", 1, 0),
-    ("nf_process = 1;", 1, 0),
-    ("port();", 1, 0),
-    ("struct s v;", 1, 0),
-    ("x = undeclared;", 1, 0),
-    ("int x; x = undeclared;", 1, 11),
-    ("int a; int a;", 2, 7),
-    ("int port;", 2, 0),
-    ("int packet_length;", 2, 0),
-    ("int a; { int a; }", 2, 9),
-    ("for (int port = 0; port < 1; port++) ;", 2, 0),
-    ("int a[0];", 5, 0),
-    ("int a[65536];", 5, 0),
-    ("uint8_t a[65536]; int b;", 5, 18),
-    ("int *a[2];", 5, 0),
-    ("int a[now];", 5, 0),
-    ("int a[2 - 3];", 5, 0),
-    ("int a[2147483647 + 1];", 5, 0),
-    ("int a; int *p = &a; a = p + 1;", 6, 24),
-    ("int a; int *p = &a; a = p << 1;", 7, 24),
-    ("int a; int *p = &a; a = !p;", 8, 25),
-    ("int a; int *p = &a; a = p ? 1 : 2;", 9, 24),
-    ("1 = 2;", 10, 0),
-    ("int a; int *p = &a; a = p;", 11, 20),
-    ("int a[2] = 1;", 11, 0),
-    ("uint8_t b; int *p = &b;", 11, 11),
-    ("int a; *a = 1;", 12, 8),
-    ("int a; a[0] = 1;", 12, 7),
-    ("int a[2]; int *p = &a[0]; a[p] = 1;", 12, 28),
-    ("int a; a.b = 1;", 13, 7),
-    ("int a[2]; int *p = &a;", 14, 20),
-    ("packet_length(1);", 15, 0),
-    ("packet_borrow();", 15, 0),
-    ("uint8_t b = 1; packet_return(b);", 15, 29),
-    ("return;", 16, 0),
-    ("int a; int *p = &a; if (p) ;", 17, 24),
-    ("for (int i = 0; i < 3; i += 0) ;", 18, 28),
-    ("for (int i = 0; j < 3; i++) ;", 18, 0),
-    ("for (int i = port; i < 3; i++) ;", 18, 13),
-    ("for (uint8_t i = 0; i < 255; i++) ;", 18, 0),
-    ("for (int i = 0; i < 3; i++) i = 1;", 18, 28),
-    ("int a; int *p = &a; a = (int)p;", 20, 24),
-    ("(packet_length());", 21, 0),
-    ("packet_borrow(port);", 22, 14),
+const BODIES: [(&str, Rule, u32); 49] = [
+    ("x = 1;", Rule::Declared, 0),
+    ("int a = b;", Rule::Declared, 8),
+    ("f();", Rule::Declared, 0),
+    ("nf_process = 1;", Rule::Declared, 0),
+    ("port();", Rule::Declared, 0),
+    ("struct s v;", Rule::Declared, 0),
+    ("x = undeclared;", Rule::Declared, 0),
+    ("int x; x = undeclared;", Rule::Declared, 11),
+    ("int a; int a;", Rule::DeclaredOnce, 7),
+    ("int port;", Rule::DeclaredOnce, 0),
+    ("int packet_length;", Rule::DeclaredOnce, 0),
+    ("int a; { int a; }", Rule::DeclaredOnce, 9),
+    (
+        "for (int port = 0; port < 1; port++) ;",
+        Rule::DeclaredOnce,
+        0,
+    ),
+    ("int a[0];", Rule::Sizes, 0),
+    ("int a[65536];", Rule::Sizes, 0),
+    ("uint8_t a[65536]; int b;", Rule::Sizes, 18),
+    ("int *a[2];", Rule::Sizes, 0),
+    ("int a[now];", Rule::Sizes, 0),
+    ("int a[2 - 3];", Rule::Sizes, 0),
+    ("int a[2147483647 + 1];", Rule::Sizes, 0),
+    ("int a; int *p = &a; a = p + 1;", Rule::Arithmetic, 24),
+    ("int a; int *p = &a; a = p << 1;", Rule::Shift, 24),
+    ("int a; int *p = &a; a = !p;", Rule::Comparison, 25),
+    ("int a; int *p = &a; a = p ? 1 : 2;", Rule::Conditional, 24),
+    ("1 = 2;", Rule::Lvalue, 0),
+    ("int a; int *p = &a; a = p;", Rule::Assignment, 20),
+    ("int a[2] = 1;", Rule::Assignment, 0),
+    ("uint8_t b; int *p = &b;", Rule::Assignment, 11),
+    ("int a; *a = 1;", Rule::Indirection, 8),
+    ("int a; a[0] = 1;", Rule::Indirection, 7),
+    ("int a[2]; int *p = &a[0]; a[p] = 1;", Rule::Indirection, 28),
+    ("int a; a.b = 1;", Rule::Member, 7),
+    ("int a[2]; int *p = &a;", Rule::Address, 20),
+    ("packet_length(1);", Rule::Arguments, 0),
+    ("packet_borrow();", Rule::Arguments, 0),
+    ("uint8_t b = 1; packet_return(b);", Rule::Arguments, 29),
+    ("return;", Rule::Return, 0),
+    ("int a; int *p = &a; if (p) ;", Rule::Condition, 24),
+    ("for (int i = 0; i < 3; i += 0) ;", Rule::Loop, 28),
+    ("for (int i = 0; j < 3; i++) ;", Rule::Loop, 0),
+    ("for (int i = port; i < 3; i++) ;", Rule::Loop, 13),
+    ("for (uint8_t i = 0; i < 255; i++) ;", Rule::Loop, 0),
+    ("for (int i = 0; i < 3; i++) i = 1;", Rule::Loop, 28),
+    ("int a; int *p = &a; a = (int)p;", Rule::Cast, 24),
+    ("(packet_length());", Rule::Statement, 0),
+    ("*b;", Rule::Declared, 1),
+    ("int a[2]; a[b];", Rule::Declared, 12),
+    ("int a; (a + b);", Rule::Declared, 12),
+    ("packet_borrow(port);", Rule::Borrow, 14),
 ];
 
 #[test]
@@ -118,30 +125,48 @@ fn sound_bodies_are_typed(rt: HostRuntime) -> Result<(), Fail> {
 const NF: &str = "int nf_process(uint16_t p, uint64_t n) { return -1; }";
 
 // What stands before `nf_process`, and the fault.
-const HEADS: [(&str, TypeFault); 18] = [
+const HEADS: [(&str, TypeFault); 19] = [
     (
         "struct s { int a; int a; }; ",
-        TypeFault::Typing { at: 18, rule: 4 },
+        TypeFault::Typing {
+            at: 18,
+            rule: Rule::Fields,
+        },
     ),
     (
         "struct s { int a; } __attribute__((pack)); ",
-        TypeFault::Typing { at: 0, rule: 4 },
+        TypeFault::Typing {
+            at: 0,
+            rule: Rule::Fields,
+        },
     ),
     (
         "struct t { int a; }; struct s { struct t x[2]; }; ",
-        TypeFault::Typing { at: 32, rule: 4 },
+        TypeFault::Typing {
+            at: 32,
+            rule: Rule::Fields,
+        },
     ),
     (
         "struct s { struct s x; }; ",
-        TypeFault::Typing { at: 11, rule: 1 },
+        TypeFault::Typing {
+            at: 11,
+            rule: Rule::Declared,
+        },
     ),
     (
         "struct s { int a; }; struct s { int b; }; ",
-        TypeFault::Typing { at: 21, rule: 2 },
+        TypeFault::Typing {
+            at: 21,
+            rule: Rule::DeclaredOnce,
+        },
     ),
     (
         "struct s { uint8_t a[65536]; uint8_t b; }; ",
-        TypeFault::Typing { at: 29, rule: 5 },
+        TypeFault::Typing {
+            at: 29,
+            rule: Rule::Sizes,
+        },
     ),
     (
         "struct s { uint8_t a; uint32_t b; }; ",
@@ -153,7 +178,10 @@ const HEADS: [(&str, TypeFault); 18] = [
     ),
     (
         "extern map_t m; extern const int m; ",
-        TypeFault::Typing { at: 16, rule: 2 },
+        TypeFault::Typing {
+            at: 16,
+            rule: Rule::DeclaredOnce,
+        },
     ),
     (
         "int f(int a) { return f(a); } ",
@@ -161,35 +189,66 @@ const HEADS: [(&str, TypeFault); 18] = [
     ),
     (
         "void f(void) { return 1; } ",
-        TypeFault::Typing { at: 15, rule: 16 },
+        TypeFault::Typing {
+            at: 15,
+            rule: Rule::Return,
+        },
     ),
     (
         "int f(void) { return; } ",
-        TypeFault::Typing { at: 14, rule: 16 },
+        TypeFault::Typing {
+            at: 14,
+            rule: Rule::Return,
+        },
     ),
     (
         "void f(void) { } int g(void) { return f(); } ",
-        TypeFault::Typing { at: 38, rule: 21 },
+        TypeFault::Typing {
+            at: 38,
+            rule: Rule::Statement,
+        },
+    ),
+    (
+        "void f(void) { } void g(void) { (f()); } ",
+        TypeFault::Typing {
+            at: 33,
+            rule: Rule::Statement,
+        },
     ),
     (
         "extern map_t m; int f(void) { return m; } ",
-        TypeFault::Typing { at: 37, rule: 19 },
+        TypeFault::Typing {
+            at: 37,
+            rule: Rule::Handle,
+        },
     ),
     (
         "extern map_t m; void f(void) { chain_count(m); } ",
-        TypeFault::Typing { at: 31, rule: 1 },
+        TypeFault::Typing {
+            at: 31,
+            rule: Rule::Declared,
+        },
     ),
     (
         "extern map_t m; void f(void) { chain_free(m, 1); } ",
-        TypeFault::Typing { at: 42, rule: 15 },
+        TypeFault::Typing {
+            at: 42,
+            rule: Rule::Arguments,
+        },
     ),
     (
         "extern const int e; void f(void) { e = 1; } ",
-        TypeFault::Typing { at: 35, rule: 10 },
+        TypeFault::Typing {
+            at: 35,
+            rule: Rule::Lvalue,
+        },
     ),
     (
         "struct s { int a; }; int f(struct s *q) { return q->b; } ",
-        TypeFault::Typing { at: 49, rule: 13 },
+        TypeFault::Typing {
+            at: 49,
+            rule: Rule::Member,
+        },
     ),
 ];
 
@@ -204,22 +263,40 @@ fn the_first_fault_before_the_last_item(rt: HostRuntime) -> Result<(), Fail> {
 
 // Whole texts.
 const WHOLE: [(&str, Option<TypeFault>); 10] = [
-    ("", Some(TypeFault::Typing { at: 0, rule: 3 })),
+    (
+        "",
+        Some(TypeFault::Typing {
+            at: 0,
+            rule: Rule::LastItem,
+        }),
+    ),
     (
         "int f(int a) { return a; }",
-        Some(TypeFault::Typing { at: 0, rule: 3 }),
+        Some(TypeFault::Typing {
+            at: 0,
+            rule: Rule::LastItem,
+        }),
     ),
     (
         "int32_t nf_process(uint16_t p, uint64_t n) { return 0; }",
-        Some(TypeFault::Typing { at: 0, rule: 3 }),
+        Some(TypeFault::Typing {
+            at: 0,
+            rule: Rule::LastItem,
+        }),
     ),
     (
         "static int nf_process(uint16_t p, uint64_t n) { return 0; }",
-        Some(TypeFault::Typing { at: 0, rule: 3 }),
+        Some(TypeFault::Typing {
+            at: 0,
+            rule: Rule::LastItem,
+        }),
     ),
     (
         "int nf_process(uint16_t p) { return 0; }",
-        Some(TypeFault::Typing { at: 0, rule: 3 }),
+        Some(TypeFault::Typing {
+            at: 0,
+            rule: Rule::LastItem,
+        }),
     ),
     (
         "int nf_process(uint16_t port, uint64_t now) { return nf_process(port, now); }",

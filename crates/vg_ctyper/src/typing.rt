@@ -1,9 +1,11 @@
 //! Typing a whole text.
-ghost use Rattle.std.specs.Prelude.{◌≡◌, ◌⊎◌, ℕ, List, length, IfOk, IfErr, Ok, Err, OnOk};
-ghost use Rattle.vg_core.specs.Syntax.{Syntax};
-ghost use Rattle.vg_core.specs.Units.{Typed};
+ghost use Rattle.std.specs.Prelude.{◌≡◌, ◌⊎◌, ℕ, List, length, IfOk, IfErr, Ok, Err, OnOk, MatchResult};
+ghost use Rattle.vg_core.specs.Syntax.{Syntax, IsOrdered, IsUsedOnce};
+ghost use Rattle.vg_core.specs.declared.unit.Note.{Note};
 ghost use Rattle.vg_ctyper.specs.Notes as notes;
-ghost use Rattle.vg_ctyper.specs.WellTyped.{IsWellTyped, IsFirstFault};
+ghost use Rattle.vg_ctyper.specs.Passes as passes;
+ghost use Rattle.vg_ctyper.specs.Faults.{rank};
+ghost use Rattle.vg_ctyper.specs.WellTyped.{AreNotes, IsWellTyped, IsFirstFault};
 ghost use Rattle.vg_ctyper.specs.declared.fault.TypeFault.{TypeFault};
 ghost use Rattle.vg_ctyper.specs.Views.{known, seen};
 ghost use Rattle.vg_ctyper.specs.declared.fault.TypeFault.TheVariants as type_faults;
@@ -24,15 +26,33 @@ struct Progress {
     first: Option<TypeFault>,
 }
 
-/// The typed text of a tree that the bytes' tokens spell.
+/// The typed text of a tree that the bytes' tokens spell, with one note on each node.
 ///
 /// `Typing` is answered where a typing rule of the profile is broken, `Padded` where a struct that isn't packed would get bytes between or behind its
 /// fields, `Recursive` where a function calls itself, and `Turns` where a loop has more than 4,096 turns, each the first by its place, at one place
 /// the lowest rule, and behind all rules the others in this order; `Turns` at the name of `nf_process` where it may take more than 1,000,000 steps and
 /// there is no other fault. `Memory` is answered where memory ran out.
+#[tactic(auto, using(crate::proofs::Deciding::of_its_text, crate::proofs::Deciding::of_its_tree, crate::proofs::Deciding::first_fault))]
 pub fn type_unit(alloc: Global, text: &[u8], tree: Tree) -> Result<Unit, TypeFault>
-    ensures typed { IfOk result (λ u. notes.typed text.now tree ≡ Ok u) }
-    ensures fault { IfErr result (λ e. (e ≡ type_faults.Memory) ⊎ (notes.typed text.now tree ≡ Err e)) }
+    ensures text { IfOk result (λ u. u.text ≡ text.now) }
+    ensures tree { IfOk result (λ u. u.tree ≡ tree) }
+    ensures typed { IsOrdered tree → IsUsedOnce tree → IfOk result (λ u. IsWellTyped u) }
+    ensures fault { IfErr result (λ e. (e ≡ type_faults.Memory) ⊎ IsFirstFault text.now tree e) }
+    ensures only_typed { (ns : List Note) → IsWellTyped (record { text = text.now; tree = tree; notes = ns }) → MatchResult result (λ u. u.notes ≡ ns) (λ e. e ≡ type_faults.Memory) }
+    ensures only_fault { (f : TypeFault) → IsFirstFault text.now tree f → MatchResult result (λ _. ⊥) (λ e. (e ≡ type_faults.Memory) ⊎ (rank e ≡ rank f)) }
+{
+    typed(alloc, text, tree)
+}
+
+/// There is one list of notes on a tree.
+pub fn notes_are_one()
+    ensures { (text : List ℕ) (tree : Syntax) (ms ns : List Note) → AreNotes text tree ms → AreNotes text tree ns → ms ≡ ns }
+{}
+
+/// The typed text of a tree, or its first fault.
+fn typed(alloc: Global, text: &[u8], tree: Tree) -> Result<Unit, TypeFault>
+    ensures typed { IfOk result (λ u. passes.typed text.now tree ≡ Ok u) }
+    ensures fault { IfErr result (λ e. (e ≡ type_faults.Memory) ⊎ (passes.typed text.now tree ≡ Err e)) }
 {
     let standings = standings_of(alloc, &tree)?;
     let progress = type_nodes(alloc, text, &tree, &standings)?;
@@ -46,13 +66,6 @@ pub fn type_unit(alloc: Global, text: &[u8], tree: Tree) -> Result<Unit, TypeFau
     }
 }
 
-/// What `type_unit` answers is a typed text, and what it refuses a text for is its first fault: conditions on the notes as they stand in the end, node by
-/// node, which don't speak of the order of work.
-pub fn typed_texts()
-    ensures well_typed { (text : List ℕ) (tree : Syntax) (u : Typed) → notes.typed text tree ≡ Ok u → IsWellTyped u }
-    ensures first_fault { (text : List ℕ) (tree : Syntax) (e : TypeFault) → notes.typed text tree ≡ Err e → IsFirstFault text tree e }
-{}
-
 /// Notes on all nodes, and the first fault.
 fn type_nodes(
     alloc: Global,
@@ -60,7 +73,7 @@ fn type_nodes(
     tree: &Tree,
     standings: &[Standing],
 ) -> Result<Progress, AllocError>
-    ensures { IfOk result (λ p. seen p ≡ notes.typed_below text.now tree.now standings.now (length tree.now.nodes)) }
+    ensures { IfOk result (λ p. seen p ≡ passes.typed_below text.now tree.now standings.now (length tree.now.nodes)) }
 {
     let mut progress = Progress {
         notes: Vec::new(alloc),
@@ -81,7 +94,7 @@ fn type_node(
     progress: &mut Progress,
     n: u32,
 ) -> Result<(), AllocError>
-    ensures { OnOk result (seen progress.new ≡ notes.node_typed (notes.known_behind text.now tree.now standings.now progress.old.notes.items) n (seen progress.old)) }
+    ensures { OnOk result (seen progress.new ≡ passes.node_typed (passes.known_behind text.now tree.now standings.now progress.old.notes.items) n (seen progress.old)) }
 {
     let given = Given {
         text,
@@ -135,7 +148,7 @@ fn capped_bytes(bytes: u128) -> u32
 
 /// The first fault of all nodes, or where there is none, that of the whole.
 fn or_whole(tree: &Tree, progress: &Progress) -> Option<TypeFault>
-    ensures { result ≡ notes.or_whole tree.now (seen progress.now) }
+    ensures { result ≡ passes.or_whole tree.now (seen progress.now) }
 {
     match progress.first {
         Some(fault) => Some(fault),

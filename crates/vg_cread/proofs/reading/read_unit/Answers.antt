@@ -7,6 +7,7 @@ use Rattle.vg_cread.specs.Refusals.{Refuses}
 use Rattle.vg_cread.specs.Reading.{Wrong, Deep, read}
 use Rattle.vg_cread.specs.declared.reading.ReadFault.TheVariants as faults
 use Rattle.vg_cread.proofs.Units.{unit_spelled}
+use Rattle.vg_cread.proofs.Telling.{spelled_of}
 use Rattle.vg_cread.proofs.Rules.{parts_first, parts_used_once}
 use Rattle.vg_cread.proofs.Answering.{gave_wrong, gave_deep, only_tree, no_tree, no_fault, wrong_fault, wrong_only, deep_fault, deep_only}
 use Rattle.vg_cread.proofs.reading.read_unit.Goals as goal
@@ -14,7 +15,7 @@ use Rattle.vg_cread.proofs.reading.read_unit.Goals as goal
 pub returns-in-Ok-clause-tree : goal.returns-in-Ok-clause-tree
 returns-in-Ok-clause-tree c =
     let e = subst (λ (s : State). read c.args.toks.now 64 unit s ≡ Ok (c.in-Ok.field-0, c.unit.new.self)) c.new-reader.ensures c.in-Ok.ensures in
-    subst (λ (t : Syntax). Spells 64 c.args.toks.now t) (sym c.into_tree.ensures) (unit_spelled c.args.toks.now 64 c.in-Ok.field-0 c.unit.new.self e)
+    subst (λ (t : Syntax). Spells 64 c.args.toks.now t) (sym c.into_tree.ensures) (spelled_of c.args.toks.now 64 c.unit.new.self.tree (unit_spelled c.args.toks.now 64 c.in-Ok.field-0 c.unit.new.self e))
 
 pub returns-in-Ok-clause-ordered : goal.returns-in-Ok-clause-ordered
 returns-in-Ok-clause-ordered c =

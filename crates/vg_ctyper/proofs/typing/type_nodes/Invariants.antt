@@ -1,7 +1,7 @@
 use Rattle.std.proofs.Common.{◌≡◌}
-use Rattle.vg_ctyper.specs.Notes as notes
+use Rattle.vg_ctyper.specs.Passes as passes
 use Rattle.vg_ctyper.specs.Views.{seen}
 use Rattle.vg_ctyper.proofs.typing.type_nodes.Given as goal
 
 abbrev pub invariant-loop-n : goal.invariant-loop-n
-invariant-loop-n l = seen l.progress ≡ notes.typed_below l.text l.tree l.standings l.n
+invariant-loop-n l = seen l.progress ≡ passes.typed_below l.text l.tree l.standings l.n
