@@ -1,8 +1,8 @@
-mod Below
+pub mod Below
 mod Closing
-mod Turns
+pub mod Turns
 mod Lists
 mod Strict
 mod Declarations
-mod Behind
-mod Heights
+mod Depths
+mod Links

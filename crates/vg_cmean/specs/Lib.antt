@@ -4,5 +4,5 @@ pub mod Values
 pub mod Places
 pub mod Meaning
 pub mod Runs
-pub mod Apart
+pub mod Chains
 pub mod Nesting

@@ -46,9 +46,6 @@ Parts_mean = ℕ → Meaning
 abbrev pub value : Meaning → State → Outcome
 value part s = and_then (part.gives s) read
 
-abbrev pub values : Meaning → Meaning → State → (Datum → Datum → State → Outcome) → Outcome
-values one other s go = and_then (value one s) (λ a t. and_then (value other t) (λ b v. go a b v))
-
 -- ---- expressions
 
 abbrev pub is_truth : Datum → State → Outcome
@@ -61,14 +58,18 @@ both right d s = if is_true d then and_then (value right s) is_truth else Gives 
 abbrev pub either : Meaning → Datum → State → Outcome
 either right d s = if is_true d then Gives (of_bool true) s else and_then (value right s) is_truth
 
+-- an operator, where its left operand has this value
+abbrev pub operated : BinaryOp → (at : ℕ) → (right : Meaning) → Datum → State → Outcome
+operated binaries.AndThen at right a s = both right a (tick s)
+operated binaries.OrElse at right a s = either right a (tick s)
+operated op at right a s = and_then (value right s) (binary op at a)
+
 abbrev pub operation : BinaryOp → (at : ℕ) → (left right : Meaning) → State → Outcome
-operation binaries.AndThen at left right s = and_then (value left s) (λ d t. both right d (tick t))
-operation binaries.OrElse at left right s = and_then (value left s) (λ d t. either right d (tick t))
-operation op at left right s = values left right s (binary op at)
+operation op at left right s = and_then (value left s) (operated op at right)
 
 abbrev pub before_operand : Typed → UnaryOp → ℕ → Meaning → State → Outcome
 before_operand u unaries.Load n operand s = and_then (value operand s) (λ d t. Gives (pointed_to (type_at u n) (place_at u n) d) t)
-before_operand u unaries.Address n operand s = and_then (operand.gives s) (λ d t. Gives (address d) t)
+before_operand u unaries.Address n operand s = and_then (operand.gives s) (address u)
 before_operand u op n operand s = and_then (value operand s) (unary op (place_at u n))
 
 -- `?:` (6.5.15): the operand that is chosen, in the common type of both
@@ -79,10 +80,13 @@ abbrev pub choice : Typed → ℕ → (condition one other : Meaning) → State 
 choice u n condition one other s = and_then (value condition s) (λ d t. chosen (type_at u n) one other d (tick t))
 
 -- `array[index]` (6.5.2.1): the array or pointer first
-abbrev pub index_of : Typed → Parts_mean → (n array index : ℕ) → State → Outcome
-index_of u part n array index s =
-    and_then (and_then ((part array).gives s) indexed) (λ a t. and_then (value (part index) t)
+abbrev pub indexed_by : Typed → Parts_mean → (n array index : ℕ) → Datum → State → Outcome
+indexed_by u part n array index d s =
+    and_then (indexed d s) (λ a t. and_then (value (part index) t)
     (element (element_size u (type_at u array)) (type_at u n) (place_at u n) (place_at u index) a))
+
+abbrev pub index_of : Typed → Parts_mean → (n array index : ℕ) → State → Outcome
+index_of u part n array index s = and_then ((part array).gives s) (indexed_by u part n array index)
 
 -- ---- calls (6.5.2.2): all arguments are evaluated, left first, and each parameter is a new variable with its argument
 

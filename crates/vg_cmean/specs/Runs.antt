@@ -1,5 +1,5 @@
 -- A run of `nf_process` on a frame, whole.
-use Rattle.std.specs.Prelude.{◌≡◌, ℕ, zero, suc, ◌+◌, ◌-◌, List, [], ◌∷◌, ◌++◌, length, replicate, slice_get, Option, Some, None, ℤ, Bool, true, false, ◌||◌}
+use Rattle.std.specs.Prelude.{◌≡◌, ℕ, zero, suc, ◌-◌, List, [], ◌∷◌, ◌++◌, length, slice_get, Option, Some, None, ℤ, Bool, true, false, ◌||◌}
 use Rattle.vg_core.specs.Syntax.{listed}
 use Rattle.vg_core.specs.Layouts.{layout}
 use Rattle.vg_core.specs.Units.{Typed}
@@ -11,8 +11,8 @@ use Rattle.vg_core.specs.declared.types.CType.{CType}
 use Rattle.vg_core.specs.declared.types.CType.TheVariants as types
 use Rattle.vg_cint.specs.Types.{int, without_sign}
 use Rattle.vg_cint.specs.Values.{reading}
-use Rattle.vg_cmemory.specs.declared.object.Variable.{Variable}
-use Rattle.vg_cmemory.specs.State.{Own, State}
+use Rattle.vg_cmemory.specs.State.{Own, State, sizes}
+use Rattle.vg_cmemory.specs.State as memory
 use Rattle.vg_cmean.specs.declared.datum.Datum.{Datum}
 use Rattle.vg_cmean.specs.declared.datum.Datum.TheVariants as data_of
 use Rattle.vg_cmean.specs.declared.machine.Done.{Done}
@@ -22,7 +22,7 @@ use Rattle.vg_cmean.specs.Typings.{kind_at, type_at}
 use Rattle.vg_cmean.specs.Values.{word_of}
 use Rattle.vg_cmean.specs.Meaning.{meaning, parameter, answer_as, closing, end_of}
 
--- ---- where the bytes of each declaration stand: one behind the other, in the order of the text
+-- ---- how many bytes the objects of each declaration have
 
 -- a pointer variable has no bytes: its pointer is kept apart
 abbrev pub bytes_of : Typed → CType → ℕ
@@ -41,37 +41,20 @@ bytes_declared u n (nodes.Declare base pointer name count value) = bytes_of u (t
 bytes_declared u n (nodes.For type counter start tested bound stepped step body) = bytes_of u (type_at u n)
 bytes_declared u n kind = 0
 
--- the bytes of all declarations below a node
-unfoldable pub bytes_below : Typed → ℕ → ℕ
-bytes_below u zero = 0
-bytes_below u (suc n) = bytes_below u n + bytes_declared u n (kind_at u n)
+-- of the nodes below one
+unfoldable pub sizes_below : Typed → ℕ → List ℕ
+sizes_below u zero = []
+sizes_below u (suc n) = sizes_below u n ++ bytes_declared u n (kind_at u n) ∷ []
 
-abbrev pub variable_at : Typed → ℕ → Variable
-variable_at u n = record { from = bytes_below u n; size = bytes_declared u n (kind_at u n); number = None; points = None }
+abbrev pub sizes_in : Typed → List ℕ
+sizes_in u = sizes_below u (length u.tree.nodes)
 
-unfoldable pub variables_below : Typed → ℕ → List Variable
-variables_below u zero = []
-variables_below u (suc n) = variables_below u n ++ variable_at u n ∷ []
-
-abbrev pub variables_of : Typed → List Variable
-variables_of u = variables_below u (length u.tree.nodes)
-
-abbrev pub unset_of : Typed → List (Option ℕ)
-unset_of u = replicate (bytes_below u (length u.tree.nodes)) None
-
--- what a run of a text begins with: no variable lives, no byte is set, no chunk is lent
 abbrev pub start : Typed → Own
-start u = record { variables = variables_of u; bytes = unset_of u; chunks = []; lent = 0; steps = 0; born = 1 }
+start u = memory.start (sizes_in u)
 
--- ---- a machine: what its runs begin with, and what the last one left
-pub record Made : Type 0 where
-  pub variables : List Variable
-  pub bytes : List (Option ℕ)
-  pub own : Own
-
-pub record IsMadeFor (machine : Made) (u : Typed) : Type 0 where
-  pub variables : machine.variables ≡ variables_of u
-  pub bytes : machine.bytes ≡ unset_of u
+-- ---- a machine: what the last run left
+abbrev pub IsMadeFor : Own → Typed → Type 0
+IsMadeFor own u = sizes own ≡ sizes_in u
 
 -- ---- objects of the library come with it, and so do texts that name them
 

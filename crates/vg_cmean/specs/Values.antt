@@ -14,7 +14,7 @@ use Rattle.vg_cint.specs.Expressions.{binary_of, unary_of}
 use Rattle.vg_cint.specs.declared.value.Value.{Value}
 use Rattle.vg_cmemory.specs.declared.object.Object.TheVariants as objects
 use Rattle.vg_cmemory.specs.declared.object.Pointer.{Pointer}
-use Rattle.vg_cmemory.specs.State.{State, variable, hold}
+use Rattle.vg_cmemory.specs.State.{State, slot, points_of, hold}
 use Rattle.vg_cmemory.specs.Access.{load, store}
 use Rattle.vg_cmean.specs.declared.datum.Datum.{Datum}
 use Rattle.vg_cmean.specs.declared.datum.Datum.TheVariants as data_of
@@ -71,7 +71,7 @@ abbrev pub align_of : Bool → Integer → ℕ
 align_of loose t = if loose then 1 else size_of t
 
 abbrev pub read_integer : Integer → Lvalue → State → Outcome
-read_integer t p s = or_wrong (load s p.pointer (size_of t) (align_of p.loose t)) p.at s (λ word. Gives (data_of.Word (record { of = t; word = word })) s)
+read_integer t p s = or_wrong (load s p.pointer p.room (size_of t) (align_of p.loose t)) p.at s (λ word. Gives (data_of.Word (record { of = t; word = word })) s)
 
 -- an array stands for a pointer to its first element
 abbrev pub read_lvalue : CType → Lvalue → State → Outcome
@@ -86,11 +86,11 @@ read_pointer (Some p) at s = Gives (data_of.Address p) s
 -- the value of what an expression gave
 abbrev pub read : Datum → State → Outcome
 read (data_of.Lvalue place) s = read_lvalue place.of place s
-read (data_of.PointerVariable node at) s = read_pointer (variable s.own node).points at s
+read (data_of.PointerVariable node at) s = read_pointer (points_of (slot s.own node).life) at s
 read d s = Gives d s
 
 abbrev pub write_integer : Integer → Lvalue → Value → State → Outcome
-write_integer t p v s = or_wrong (store s p.pointer (size_of t) (align_of p.loose t) (converted t v.of v.word)) p.at s Next
+write_integer t p v s = or_wrong (store s p.pointer p.room (size_of t) (align_of p.loose t) (converted t v.of v.word)) p.at s Next
 
 abbrev pub write : Datum → Datum → State → Outcome
 write (data_of.Lvalue place) d s = write_integer (integer_of place.of) place (word_of d) s

@@ -1,7 +1,7 @@
 //! What expressions give.
 
 use vg_cint::Value;
-use vg_cmemory::Pointer;
+use vg_cmemory::{Pointer, Room};
 use vg_core::CType;
 
 /// An lvalue that is made of bytes (C11 6.3.2.1).
@@ -12,6 +12,10 @@ pub struct Lvalue {
     pub of: CType,
     /// Whether it is in a packed struct, where it may stand at any offset.
     pub loose: bool,
+    /// The innermost array that its path names, of which it is an element or a part of one.
+    pub room: Option<Room>,
+    /// Whether it is the element just past the last one of that array.
+    pub past: bool,
     /// Where it is named in the text.
     pub at: u32,
 }

@@ -2,9 +2,9 @@
 #![tactic(auto)]
 
 mod calls;
+mod chains;
 mod datum;
 mod fault;
-mod laws;
 mod machine;
 mod nesting;
 mod operators;
@@ -13,7 +13,6 @@ mod run;
 mod typings;
 mod values;
 
-pub use laws::variables_apart;
 pub use machine::{Done, Machine, has_externs};
 
 #[cfg(test)]

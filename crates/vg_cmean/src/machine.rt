@@ -2,23 +2,24 @@
 ghost use Rattle.std.specs.Prelude.{◌≡◌, ◌≤◌, ◌<◌, ◌^◌, [], false, List, ℕ, IfOk, OnOk, None, length, replicate};
 ghost use Rattle.vg_cmean.specs.Outcomes.{gives, goes, full};
 ghost use Rattle.vg_cmean.specs.Runs as runs;
-ghost use Rattle.vg_cmean.specs.Runs.{has_extern, IsMadeFor, run, run_at, done_of, frame_of, variables_below, bytes_below};
+ghost use Rattle.vg_cmean.specs.Runs.{has_extern, IsMadeFor, run, run_at, done_of, frame_of, sizes_below};
 ghost use Rattle.vg_cmean.specs.Nesting.{nesting};
 ghost use Rattle.vg_cmean.specs.Typings as typings;
 ghost use Rattle.vg_cmemory.specs.State.{sizes};
 
 use crate::calls::{answer_as, end_all, end_of, parameter};
+use crate::chains::{Env, chains_of};
 use crate::datum::Datum;
 use crate::fault::Fault;
-use crate::nesting::{MOST_NESTED, height, heights};
+use crate::nesting::{MOST_NESTED, depth, depths};
 use crate::run::statement;
-use crate::typings::{kind_at, type_at};
+use crate::typings::{is_pointer, kind_at, size_of_type, type_at};
 use crate::values::word_of;
 use std::alloc::Global;
 use std::marker::Model;
 use vg_cint::{INT, Value, reading};
-use vg_cmemory::{FrameMemory, Variable};
-use vg_core::{CType, Integer, Kind, Node, Reason, Target, Unit, erase, target_layout};
+use vg_cmemory::FrameMemory;
+use vg_core::{CType, Integer, Kind, Node, Reason, Unit, erase};
 use vg_parts::Memory;
 
 /// What comes of a frame.
@@ -33,21 +34,16 @@ pub enum Done {
 /// A machine that runs one typed text on frames. All its memory is taken when it is made.
 #[derive(Drop)]
 pub struct Machine {
-    variables: Vec<Variable>,
-    bytes: Vec<Option<u8>>,
     memory: FrameMemory,
+    above: Vec<u32>,
 }
 
 impl Model for Machine {
-    ghost use Rattle.std.specs.Prelude.{◌≡◌, length};
-    ghost use Rattle.vg_cmemory.specs.State.{sizes};
-    ghost use Rattle.vg_cmean.specs.Runs.{Made};
+    ghost use Rattle.vg_cmemory.specs.State.{Own};
 
-    ghost Value = { Made };
+    ghost Value = { Own };
 
-    ghost view = { λ m. record { variables = m.variables.items; bytes = m.bytes.items; own = m.memory } };
-
-    ghost invariant = { λ m. sizes m.memory ≡ (length m.variables.items, length m.bytes.items) };
+    ghost view = { λ m. m.memory };
 }
 
 /// Whether a text names an object of the library or a configured number. Machines don't run such texts yet.
@@ -80,9 +76,9 @@ fn is_extern(node: &Node) -> bool
 impl Machine {
     /// A machine for a typed text.
     ///
-    /// `Memory`: memory ran out, or the variables of the text have more bytes than numbers of 32 bits count, or a run of it nests more than 1,000 nodes
-    /// and calls in one another.
-    #[tactic(auto, using(crate::proofs::Declarations::variables_next, crate::proofs::Declarations::bytes_next, crate::proofs::Declarations::variables_none, crate::proofs::Declarations::bytes_none))]
+    /// `Memory`: memory ran out, the objects of a declaration have more bytes than numbers of 32 bits count, or a run nests more than 1,000 constructs,
+    /// those of called functions included.
+    #[tactic(auto, using(crate::proofs::Declarations::sizes_next, crate::proofs::Declarations::sizes_none))]
     pub fn new(alloc: Global, unit: &Unit) -> Result<Machine, Memory>
         ensures made { IfOk result (λ m. IsMadeFor m unit.now) }
         ensures shallow { OnOk result (nesting unit.now ≤ 1000) }
@@ -90,26 +86,16 @@ impl Machine {
         if nesting_of(alloc, unit)? > MOST_NESTED {
             return Err(Memory);
         }
-        let mut variables = Vec::new(alloc);
-        let mut others = Vec::new(alloc);
-        let mut total = 0;
+        let mut memory = FrameMemory::new(alloc);
         for n in 0..erase(unit).nodes().len() as u32 {
             let size = bytes_declared(unit, n);
-            if size > u64::from(u32::MAX - total) {
+            if size > u64::from(u32::MAX) {
                 return Err(Memory);
             }
-            let variable = resting(total, size as u32);
-            variables.push(variable)?;
-            others.push(variable)?;
-            total += size as u32;
+            memory.add(alloc, size as u32)?;
         }
-        let bytes = unset_bytes(alloc, total)?;
-        let memory = FrameMemory::new(others, unset_bytes(alloc, total)?);
-        Ok(Machine {
-            variables,
-            bytes,
-            memory,
-        })
+        let above = chains_of(alloc, unit)?;
+        Ok(Machine { memory, above })
     }
 
     /// Runs `nf_process` on a frame of at most 262,144 bytes that came to a port at a time in nanoseconds. `unit` is the text that the machine was
@@ -123,10 +109,14 @@ impl Machine {
         ensures runs { result ≡ done_of (run unit.now port now frame.old) }
         ensures frame { frame.new ≡ frame_of (run unit.now port now frame.old) }
         ensures made_for { IsMadeFor self.new unit.now }
-        ensures taken_back { self.new.own.chunks ≡ [] }
+        ensures taken_back { self.new.chunks ≡ [] }
     {
-        self.memory.restart(&self.variables, &self.bytes);
-        let answer = process(&mut self.memory, frame, unit, port, now);
+        self.memory.restart();
+        let env = Env {
+            unit,
+            above: self.above.as_slice(),
+        };
+        let answer = process(&mut self.memory, frame, &env, port, now);
         let done = told(&self.memory, answer);
         self.memory.take_back_all();
         done
@@ -137,50 +127,21 @@ impl Machine {
 fn nesting_of(alloc: Global, unit: &Unit) -> Result<u32, Memory>
     ensures { IfOk result (λ n. n ≡ nesting unit.now) }
 {
-    let heights = heights(alloc, unit)?;
+    let depths = depths(alloc, unit)?;
     match process_of(unit) {
-        Some(function) => Ok(height(&heights, function)),
+        Some(function) => Ok(depth(&depths, function)),
         None => Ok(0),
     }
-}
-
-// A variable of so many bytes from one on that doesn't live.
-fn resting(from: u32, size: u32) -> Variable
-    ensures { result ≡ record { from = from; size = size; number = None; points = None } }
-{
-    Variable {
-        from,
-        size,
-        number: None,
-        points: None,
-    }
-}
-
-// So many bytes that aren't set.
-fn unset_bytes(alloc: Global, count: u32) -> Result<Vec<Option<u8>>, Memory>
-    ensures { IfOk result (λ bytes. bytes.items ≡ replicate count None) }
-{
-    let mut bytes = Vec::new(alloc);
-    for _byte in 0..count {
-        bytes.push(None)?;
-    }
-    Ok(bytes)
 }
 
 // How many bytes a variable of a type has. A pointer variable has none.
 fn bytes_of(unit: &Unit, of: CType) -> u64
     ensures { result ≡ runs.bytes_of unit.now of }
 {
-    match of {
-        CType::Void | CType::Handle(_) | CType::Pointer(_) => 0,
-        CType::Int { bits, signed } => {
-            u64::from(target_layout(unit.notes(), Target::Int { bits, signed }).size)
-        }
-        CType::Array(target, length) => {
-            u64::from(target_layout(unit.notes(), target).size) * u64::from(length)
-        }
-        CType::Struct(tag) => u64::from(target_layout(unit.notes(), Target::Struct(tag)).size),
+    if is_pointer(of) {
+        return 0;
     }
+    size_of_type(unit, of)
 }
 
 // How many bytes a parameter has. Nothing can be given for one that is a struct.
@@ -264,29 +225,29 @@ fn arguments(
 fn process(
     memory: &mut FrameMemory,
     frame: &mut [u8],
-    unit: &Unit,
+    env: &Env,
     port: u16,
     now: u64,
 ) -> Result<Datum, Fault>
     requires size { length frame.old < 2 ^ 32 }
-    ensures value { gives result (full memory.new frame.new) ≡ run_at unit.now (runs.process_of unit.now) port now (full memory.old frame.old) }
+    ensures value { gives result (full memory.new frame.new) ≡ run_at env.now.unit.now (runs.process_of env.now.unit.now) port now (full memory.old frame.old) }
     ensures sizes { sizes memory.new ≡ sizes memory.old }
 {
-    let Some(function) = process_of(unit) else {
+    let Some(function) = process_of(env.unit) else {
         return Err(NOTHING_TO_RUN);
     };
-    match kind_at(unit, function) {
+    match kind_at(env.unit, function) {
         Kind::Function {
             answer,
             params,
             body,
             ..
         } => {
-            let params = erase(unit).listed(params);
-            arguments(memory, frame, unit, params, port, now)?;
-            let returned = statement(memory, frame, unit, body)?;
+            let params = erase(env.unit).listed(params);
+            arguments(memory, frame, env.unit, params, port, now)?;
+            let returned = statement(memory, frame, env, body)?;
             end_all(memory, params);
-            answer_as(answer, end_of(kind_at(unit, body)), returned)
+            answer_as(answer, end_of(kind_at(env.unit, body)), returned)
         }
         _ => Err(NOTHING_TO_RUN),
     }

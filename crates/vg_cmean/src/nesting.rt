@@ -1,96 +1,115 @@
-//! How deep a text nests: nodes in one another, and calls of functions.
-ghost use Rattle.std.specs.Prelude.{◌≡◌, [], ◌∷◌, IfOk, length, slice_index_or, option_to_list};
+//! How deep a run of a text nests: constructs in one another, and those of called functions.
+ghost use Rattle.std.specs.Prelude.{◌≡◌, ◌≤◌, ◌+◌, ◌^◌, [], ◌∷◌, IfOk, length, slice_index_or, option_to_list};
 ghost use Rattle.vg_core.specs.Syntax as syntax;
 ghost use Rattle.vg_cmean.specs.Nesting as nesting;
-ghost use Rattle.vg_cmean.specs.Nesting.{highest, heights_below};
+ghost use Rattle.vg_cmean.specs.Nesting.{deepest, depths_below};
 
 use crate::typings::{kind_at, referent_at};
 use std::alloc::Global;
 use vg_core::{Kind, Parts, Referent, Unit, erase};
 use vg_parts::Memory;
 
-/// So many nodes may stand in one another, calls of functions included: the machine's own stack grows with them.
+/// So many constructs may stand in one another, those of called functions included: the machine's own stack grows with them.
 pub const MOST_NESTED: u32 = 1000;
 
-/// The height of a node.
-pub fn height(heights: &[u32], n: u32) -> u32
-    ensures { result ≡ slice_index_or heights.now n 0 }
+/// The depth of a node.
+pub fn depth(depths: &[u32], n: u32) -> u32
+    ensures { result ≡ slice_index_or depths.now n 0 }
 {
-    heights.get(n as usize).copied().unwrap_or(0)
+    depths.get(n as usize).copied().unwrap_or(0)
 }
 
-fn highest(heights: &[u32], nodes: &[u32]) -> u32
-    ensures { result ≡ highest heights.now nodes.now }
+// The greatest depth of some parts that are constructs of their own.
+fn deepest_listed(depths: &[u32], nodes: &[u32]) -> u64
+    ensures value { result ≡ deepest depths.now 1 nodes.now }
+    ensures small { result ≤ 2 ^ 32 }
 {
     let mut most = 0;
     for &n in nodes {
-        most = u32::max(most, height(heights, n));
+        most = u64::max(most, inside(depths, n));
     }
     most
 }
 
-fn highest_of_two(heights: &[u32], one: u32, other: u32) -> u32
-    ensures { result ≡ highest heights.now (one ∷ other ∷ []) }
+// The depth of a part that is a construct of its own.
+fn inside(depths: &[u32], n: u32) -> u64
+    ensures value { result ≡ 1 + slice_index_or depths.now n 0 }
+    ensures small { result ≤ 2 ^ 32 }
 {
-    u32::max(height(heights, one), height(heights, other))
+    u64::from(depth(depths, n)) + 1
 }
 
-fn optional(heights: &[u32], node: Option<u32>) -> u32
-    ensures { result ≡ highest heights.now (option_to_list node) }
+fn optional(depths: &[u32], node: Option<u32>) -> u64
+    ensures value { result ≡ deepest depths.now 1 (option_to_list node) }
+    ensures small { result ≤ 2 ^ 32 }
 {
     match node {
-        Some(node) => height(heights, node),
+        Some(node) => inside(depths, node),
         None => 0,
     }
 }
 
-// The greatest height of the parts that a node names by itself.
-#[tactic(auto, using(crate::proofs::Heights::highest_append))]
-fn highest_named(heights: &[u32], kind: Kind) -> u32
-    ensures { result ≡ highest heights.now (syntax.named_by kind) }
+fn deeper(depths: &[u32], one: u32, other: u32) -> u64
+    ensures value { result ≡ deepest depths.now 1 (one ∷ other ∷ []) }
+    ensures small { result ≤ 2 ^ 32 }
+{
+    u64::max(inside(depths, one), inside(depths, other))
+}
+
+// The greatest depth of the parts that are constructs of their own.
+#[tactic(auto, using(crate::proofs::Depths::deepest_append))]
+fn deepest_inner(depths: &[u32], kind: Kind) -> u64
+    ensures value { result ≡ deepest depths.now 1 (nesting.inner kind) }
+    ensures small { result ≤ 2 ^ 32 }
 {
     match kind {
-        Kind::Field { length, .. } => optional(heights, length),
-        Kind::Function { body, .. } => height(heights, body),
-        Kind::Declare { length, value, .. } => {
-            u32::max(optional(heights, length), optional(heights, value))
-        }
-        Kind::Evaluate { value } => height(heights, value),
-        Kind::Assign { target, value, .. } => highest_of_two(heights, target, value),
-        Kind::Increment { target } | Kind::Decrement { target } => height(heights, target),
+        Kind::Field { length, .. } => optional(depths, length),
+        Kind::Function { body, .. } => inside(depths, body),
+        Kind::Evaluate { value } => inside(depths, value),
+        Kind::Assign { target, value, .. } => deeper(depths, target, value),
+        Kind::Increment { target } | Kind::Decrement { target } => inside(depths, target),
         Kind::If {
             condition,
             then,
             otherwise,
-        } => u32::max(
-            highest_of_two(heights, condition, then),
-            optional(heights, otherwise),
-        ),
+        } => u64::max(deeper(depths, condition, then), optional(depths, otherwise)),
         Kind::For {
             start,
             bound,
             step,
             body,
             ..
-        } => u32::max(
-            highest_of_two(heights, start, bound),
-            u32::max(optional(heights, step), height(heights, body)),
+        } => u64::max(
+            deeper(depths, start, bound),
+            u64::max(optional(depths, step), inside(depths, body)),
         ),
-        Kind::Return { value } => optional(heights, value),
+        Kind::Return { value } => optional(depths, value),
         Kind::Choose {
-            condition,
             then,
             otherwise,
-        } => u32::max(
-            height(heights, condition),
-            highest_of_two(heights, then, otherwise),
-        ),
-        Kind::Binary { left, right, .. } => highest_of_two(heights, left, right),
-        Kind::Unary { operand, .. } | Kind::Cast { operand, .. } => height(heights, operand),
-        Kind::Index { array, index } => highest_of_two(heights, array, index),
-        Kind::Member { whole, .. } => height(heights, whole),
-        Kind::Arrow { pointer, .. } => height(heights, pointer),
-        Kind::Parens { inner } => height(heights, inner),
+            ..
+        } => deeper(depths, then, otherwise),
+        Kind::Unary { operand, .. } | Kind::Cast { operand, .. } => inside(depths, operand),
+        Kind::Index { index, .. } => inside(depths, index),
+        Kind::Parens { inner } => inside(depths, inner),
+        _ => 0,
+    }
+}
+
+// The greatest depth of the parts that belong to the construct that their node belongs to.
+fn deepest_operand(depths: &[u32], kind: Kind) -> u32
+    ensures { result ≡ deepest depths.now 0 (nesting.operands kind) }
+{
+    match kind {
+        Kind::Binary { left, right, .. } => u32::max(depth(depths, left), depth(depths, right)),
+        Kind::Choose { condition, .. } => depth(depths, condition),
+        Kind::Index { array, .. } => depth(depths, array),
+        Kind::Member { whole, .. } => depth(depths, whole),
+        Kind::Arrow { pointer, .. } => depth(depths, pointer),
+        Kind::Declare { value, .. } => match value {
+            Some(value) => depth(depths, value),
+            None => 0,
+        },
         _ => 0,
     }
 }
@@ -109,40 +128,44 @@ fn list_of(kind: Kind) -> Parts
     }
 }
 
-fn height_called(heights: &[u32], called: Option<Referent>) -> u32
-    ensures { result ≡ nesting.height_called heights.now called }
+// The depth of the function that a call calls.
+fn depth_called(depths: &[u32], kind: Kind, called: Option<Referent>) -> u32
+    ensures { result ≡ nesting.depth_called depths.now kind called }
 {
-    match called {
-        Some(Referent::Declared(function)) => height(heights, function),
+    match (kind, called) {
+        (Kind::Call { .. }, Some(Referent::Declared(function))) => depth(depths, function),
         _ => 0,
     }
 }
 
-fn height_of(unit: &Unit, heights: &[u32], n: u32) -> u32
-    ensures { result ≡ nesting.height_of unit.now heights.now n }
+fn depth_of(unit: &Unit, depths: &[u32], n: u32) -> u32
+    ensures { result ≡ nesting.depth_of unit.now depths.now n }
 {
     let kind = kind_at(unit, n);
-    let listed = highest(heights, erase(unit).listed(list_of(kind)));
-    let named = highest_named(heights, kind);
-    let called = height_called(heights, referent_at(unit, n));
-    let inside = u32::max(listed, u32::max(named, called));
-    if inside > MOST_NESTED {
+    let listed = deepest_listed(depths, erase(unit).listed(list_of(kind)));
+    let own = u64::max(listed, deepest_inner(depths, kind));
+    let same = u32::max(
+        deepest_operand(depths, kind),
+        depth_called(depths, kind, referent_at(unit, n)),
+    );
+    let all = u64::max(own, u64::from(same));
+    if all > u64::from(MOST_NESTED) {
         MOST_NESTED + 1
     } else {
-        inside + 1
+        all as u32
     }
 }
 
-/// The heights of all nodes: each is one higher than its parts and the function that it calls. A height above the limit counts as one more than the
-/// limit.
-#[tactic(auto, using(crate::proofs::Heights::heights_next, crate::proofs::Heights::heights_none))]
-pub fn heights(alloc: Global, unit: &Unit) -> Result<Vec<u32>, Memory>
-    ensures { IfOk result (λ heights. heights.items ≡ heights_below unit.now (length unit.now.tree.nodes)) }
+/// The depths of all nodes: how many constructs stand in one another in each, those of the function that it calls included. A depth above the limit
+/// counts as one more than the limit.
+#[tactic(auto, using(crate::proofs::Depths::depths_next, crate::proofs::Depths::depths_none))]
+pub fn depths(alloc: Global, unit: &Unit) -> Result<Vec<u32>, Memory>
+    ensures { IfOk result (λ depths. depths.items ≡ depths_below unit.now (length unit.now.tree.nodes)) }
 {
-    let mut heights = Vec::new(alloc);
+    let mut depths = Vec::new(alloc);
     for n in 0..erase(unit).nodes().len() as u32 {
-        let height = height_of(unit, &heights, n);
-        heights.push(height)?;
+        let depth = depth_of(unit, &depths, n);
+        depths.push(depth)?;
     }
-    Ok(heights)
+    Ok(depths)
 }

@@ -7,10 +7,12 @@ ghost use Rattle.vg_cmemory.specs.State.{State};
 
 use crate::datum::{Datum, Lvalue};
 use crate::fault::Fault;
-use crate::typings::{is_array, is_packed, is_pointer, offset_at, place_at, referent_at, type_at};
+use crate::typings::{
+    is_array, is_packed, is_pointer, offset_at, place_at, referent_at, size_of_type, type_at,
+};
 use crate::values::{pointer_of, read, word_of};
 use vg_cint::{Value, converted, reading};
-use vg_cmemory::{FrameMemory, Pointer};
+use vg_cmemory::{FrameMemory, Pointer, Room, lies_in};
 use vg_core::{CType, Integer, Reason, Referent, Unit};
 
 const SIGNED_64: Integer = Integer {
@@ -18,15 +20,18 @@ const SIGNED_64: Integer = Integer {
     signed: true,
 };
 
-fn lvalue_at(pointer: Pointer, of: CType, loose: bool, at: u32) -> Datum
-    ensures { result ≡ places.lvalue_at pointer of loose at }
+// An lvalue that no array's bounds are asked of.
+fn lvalue_at(pointer: Pointer, of: CType, at: u32) -> Lvalue
+    ensures { result ≡ places.lvalue_at pointer of at }
 {
-    Datum::Lvalue(Lvalue {
+    Lvalue {
         pointer,
         of,
-        loose,
+        loose: false,
+        room: None,
+        past: false,
         at,
-    })
+    }
 }
 
 /// What a declaration declares, named at a place of the text.
@@ -37,7 +42,7 @@ pub fn declared(memory: &FrameMemory, unit: &Unit, node: u32, at: u32) -> Datum
     if is_pointer(of) {
         return Datum::PointerVariable { node, at };
     }
-    lvalue_at(memory.start_of(node), of, false, at)
+    Datum::Lvalue(lvalue_at(memory.start_of(node), of, at))
 }
 
 /// What a name stands for in an expression.
@@ -113,6 +118,77 @@ fn element_of(pointer: Pointer, size: u32, index: Value) -> Pointer
     moved(pointer, elements.wrapping_mul(u64::from(size)))
 }
 
+fn length_of(of: CType) -> u32
+    ensures { result ≡ places.length_of of }
+{
+    match of {
+        CType::Array(_, length) => length,
+        _ => 0,
+    }
+}
+
+fn room_of_array(size: u32, array: Lvalue) -> Room
+    ensures { result ≡ places.room_of_array size array }
+{
+    Room {
+        from: array.pointer.offset,
+        size: u64::from(size) * u64::from(length_of(array.of)),
+    }
+}
+
+fn narrowed(outer: Option<Room>, inner: Room) -> Room
+    ensures { result ≡ places.narrowed outer inner }
+{
+    if lies_in(outer, inner.from, inner.size) {
+        return inner;
+    }
+    Room { size: 0, ..inner }
+}
+
+fn room_of_element(size: u32, array: Datum) -> Option<Room>
+    ensures { result ≡ places.room_of_element size array }
+{
+    match array {
+        Datum::Lvalue(array) => Some(narrowed(array.room, room_of_array(size, array))),
+        _ => None,
+    }
+}
+
+fn stands_behind(outer: Option<Room>, room: Room, element: Pointer) -> bool
+    ensures { result ≡ places.stands_behind outer room element }
+{
+    lies_in(outer, room.from, room.size) && element.offset == room.from.wrapping_add(room.size)
+}
+
+fn is_past(size: u32, array: Datum, element: Pointer) -> bool
+    ensures { result ≡ places.is_past size array element }
+{
+    match array {
+        Datum::Lvalue(array) => stands_behind(array.room, room_of_array(size, array), element),
+        _ => false,
+    }
+}
+
+fn element_at(size: u32, of: CType, at: u32, array: Datum, pointer: Pointer) -> Lvalue
+    ensures { result ≡ places.element_at size of at array pointer }
+{
+    Lvalue {
+        loose: is_loose(array),
+        room: room_of_element(size, array),
+        past: is_past(size, array, pointer),
+        ..lvalue_at(pointer, of, at)
+    }
+}
+
+fn room_under(datum: Datum) -> Option<Room>
+    ensures { result ≡ places.room_under datum }
+{
+    match datum {
+        Datum::Lvalue(place) => place.room,
+        _ => None,
+    }
+}
+
 /// An element of an array, or of what a pointer points into.
 ///
 /// `OutOfObject`, at the index: the index lies beyond 262,144 to either side, or the array or pointer stands beyond 2^40 bytes from its object.
@@ -134,7 +210,8 @@ pub fn element(
             reason: Reason::OutOfObject,
         });
     }
-    Ok(lvalue_at(element_of(start, size, number), of, is_loose(array), at))
+    let pointer = element_of(start, size, number);
+    Ok(Datum::Lvalue(element_at(size, of, at, array, pointer)))
 }
 
 fn offset_of(unit: &Unit, field: Option<Referent>) -> u32
@@ -151,24 +228,51 @@ pub fn member(unit: &Unit, n: u32, whole: u32, datum: Datum) -> Datum
     ensures { result ≡ places.member unit.now n whole (typings.place_at unit.now n) datum }
 {
     let offset = offset_of(unit, referent_at(unit, n));
-    lvalue_at(
-        moved(start_under(datum), u64::from(offset)),
-        type_at(unit, n),
-        is_loose(datum) || is_packed(unit, type_at(unit, whole)),
-        place_at(unit, n),
-    )
+    let pointer = moved(start_under(datum), u64::from(offset));
+    Datum::Lvalue(Lvalue {
+        loose: is_loose(datum) || is_packed(unit, type_at(unit, whole)),
+        room: room_under(datum),
+        ..lvalue_at(pointer, type_at(unit, n), place_at(unit, n))
+    })
 }
 
 /// What a pointer points to.
 pub fn pointed_to(of: CType, at: u32, datum: Datum) -> Datum
     ensures { result ≡ places.pointed_to of at datum }
 {
-    lvalue_at(pointer_of(datum), of, false, at)
+    Datum::Lvalue(lvalue_at(pointer_of(datum), of, at))
+}
+
+fn may_be_pointed_to(memory: &FrameMemory, frame: &[u8], size: u64, place: Lvalue) -> bool
+    ensures { result ≡ places.may_be_pointed_to size place (full memory.now frame.now) }
+{
+    lies_in(place.room, place.pointer.offset, size)
+        || (place.past && memory.ends_at(frame, place.pointer))
 }
 
 /// The address of an lvalue.
-pub fn address(datum: Datum) -> Datum
-    ensures { result ≡ places.address datum }
+///
+/// `OutOfObject`, at the lvalue: it doesn't lie in the arrays that its path names, nor is it the element just past the last of an array with which its
+/// object ends.
+pub fn address(
+    memory: &FrameMemory,
+    frame: &[u8],
+    unit: &Unit,
+    datum: Datum,
+) -> Result<Datum, Fault>
+    ensures { gives result (full memory.now frame.now) ≡ places.address unit.now datum (full memory.now frame.now) }
 {
-    Datum::Address(start_under(datum))
+    match datum {
+        Datum::Lvalue(place) => {
+            if may_be_pointed_to(memory, frame, size_of_type(unit, place.of), place) {
+                Ok(Datum::Address(place.pointer))
+            } else {
+                Err(Fault {
+                    at: place.at,
+                    reason: Reason::OutOfObject,
+                })
+            }
+        }
+        _ => Ok(Datum::Address(pointer_of(datum))),
+    }
 }

@@ -1,6 +1,7 @@
 //! What the tree and typing say of a node.
 ghost use Rattle.std.specs.Prelude.{◌≡◌, slice_get};
 ghost use Rattle.vg_cmean.specs.Typings as typings;
+ghost use Rattle.vg_core.specs.Layouts.{layout};
 
 use vg_core::{CType, Kind, Note, Referent, Target, Unit, erase, target_layout};
 
@@ -99,6 +100,23 @@ pub fn element_size(unit: &Unit, of: CType) -> u32
         CType::Pointer(target) => target_layout(unit.notes(), target).size,
         CType::Array(target, _) => target_layout(unit.notes(), target).size,
         _ => 0,
+    }
+}
+
+/// The size of a type, in bytes.
+pub fn size_of_type(unit: &Unit, of: CType) -> u64
+    ensures { result ≡ (layout unit.now.notes of).size }
+{
+    match of {
+        CType::Void | CType::Handle(_) => 0,
+        CType::Pointer(_) => 8,
+        CType::Int { bits, signed } => {
+            u64::from(target_layout(unit.notes(), Target::Int { bits, signed }).size)
+        }
+        CType::Array(target, length) => {
+            u64::from(target_layout(unit.notes(), target).size) * u64::from(length)
+        }
+        CType::Struct(tag) => u64::from(target_layout(unit.notes(), Target::Struct(tag)).size),
     }
 }
 

@@ -109,7 +109,10 @@ fn read_integer(
 {
     let size = size_of(of);
     let align = align_of(place.loose, of);
-    let word = or_wrong(memory.load(frame, place.pointer, size, align), place.at)?;
+    let word = or_wrong(
+        memory.load(frame, place.pointer, place.room, size, align),
+        place.at,
+    )?;
     Ok(Datum::Word(Value { of, word }))
 }
 
@@ -162,7 +165,7 @@ fn write_integer(
     let align = align_of(place.loose, of);
     let word = converted(of, value.of, value.word);
     or_wrong(
-        memory.store(frame, place.pointer, size, align, word),
+        memory.store(frame, place.pointer, place.room, size, align, word),
         place.at,
     )
 }

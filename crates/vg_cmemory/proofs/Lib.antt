@@ -1,2 +1,7 @@
+mod Slots
 mod Rows
+mod Parts
+mod Gone
 mod Outside
+mod Seen
+mod Stacked

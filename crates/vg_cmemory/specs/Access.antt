@@ -1,114 +1,158 @@
--- Reads and writes of objects: where the bytes stand, the first reason against it, and the word in them.
-use Rattle.std.specs.Prelude.{ℕ, zero, suc, ◌+◌, ◌*◌, ◌/◌, ◌%◌, nat_lt, nat_eq, List, [], ◌∷◌, slice_get, slice_set, Option, Some, None, Result, Ok, Err, if◌then◌else◌}
+-- Reads and writes of objects: what is asked of an access, and the bytes and the word in them.
+use Rattle.std.specs.Prelude.{ℕ, zero, suc, ◌+◌, ◌-◌, ◌*◌, ◌/◌, ◌%◌, ◌^◌, nat_le, nat_eq, Bool, true, false, ◌&&◌, List, [], ◌∷◌, ◌++◌, length, map, take, drop, slice_set, Option, Some, None, Result, Ok, Err, if◌then◌else◌}
 use Rattle.vg_core.specs.declared.reason.Reason.{Reason}
 use Rattle.vg_core.specs.declared.reason.Reason.TheVariants as reasons
 use Rattle.vg_cmemory.specs.declared.object.Object.{Object}
 use Rattle.vg_cmemory.specs.declared.object.Object.TheVariants as objects
 use Rattle.vg_cmemory.specs.declared.object.Pointer.{Pointer}
-use Rattle.vg_cmemory.specs.declared.object.Variable.{Variable}
 use Rattle.vg_cmemory.specs.declared.object.Chunk.{Chunk}
-use Rattle.vg_cmemory.specs.declared.object.Region.{Region}
-use Rattle.vg_cmemory.specs.declared.object.Region.TheVariants as regions
 use Rattle.vg_cmemory.specs.declared.object.Room.{Room}
-use Rattle.vg_cmemory.specs.State.{Own, State}
+use Rattle.vg_cmemory.specs.State.{Life, Slot, Own, State, slot, with_slot}
+use Rattle.vg_cmemory.specs.Tests.{Test, test, first_against, unless}
 
--- ---- where the bytes of an object stand; nowhere where its life has ended
+-- ---- what an object is: a list of bytes, set or unset; a chunk of the frame, whose bytes are the frame's; or gone
 
-abbrev pub room_made : Option ℕ → ℕ → Room → Option Room
-room_made None number room = None
-room_made (Some m) number room = if nat_eq m number then Some room else None
+pub data Content : Type 0 where
+  Bytes : List (Option ℕ) → Content
+  Lent : (from size : ℕ) → Content
+  Gone : Content
 
-abbrev pub room_of_variable : Option Variable → ℕ → Option Room
-room_of_variable None number = None
-room_of_variable (Some v) number = room_made v.number number (record { region = regions.Variables; from = v.from; size = v.size })
+abbrev pub content_of_life : Option Life → ℕ → Content
+content_of_life None number = Gone
+content_of_life (Some life) number = if nat_eq life.number number then Bytes life.bytes else Gone
 
-abbrev pub room_if_made : Chunk → ℕ → Option Room
-room_if_made chunk number = if nat_eq chunk.number number then Some (record { region = regions.Frame; from = chunk.from; size = chunk.size }) else None
+abbrev pub content_of_option : Option Chunk → Content
+content_of_option None = Gone
+content_of_option (Some chunk) = Lent chunk.from chunk.size
 
-abbrev pub or_else : Option Room → Option Room → Option Room
-or_else None other = other
-or_else (Some room) other = Some room
+abbrev pub content_of_chunk : List Chunk → ℕ → Content
+content_of_chunk [] number = Gone
+content_of_chunk (chunk ∷ chunks) number = if nat_eq chunk.number number then Lent chunk.from chunk.size else content_of_chunk chunks number
 
-abbrev pub room_of_chunk : List Chunk → ℕ → Option Room
-room_of_chunk [] number = None
-room_of_chunk (chunk ∷ chunks) number = or_else (room_if_made chunk number) (room_of_chunk chunks number)
+abbrev pub content : Own → Object → Content
+content own (objects.Declared node number) = content_of_life (slot own node).life number
+content own (objects.Chunk number) = content_of_chunk own.chunks number
 
-abbrev pub room_of : Own → Object → Option Room
-room_of own (objects.Declared node number) = room_of_variable (slice_get own.variables node) number
-room_of own (objects.Chunk number) = room_of_chunk own.chunks number
+abbrev pub lives : Content → Bool
+lives Gone = false
+lives content = true
 
--- ---- whether an access is right: `Dead`, `OutOfObject` and `Misaligned`, the first in this order. A pointer before its object has an offset of
--- nearly 2 ^ 64, which is outside
+abbrev pub set : ℕ → Option ℕ
+set byte = Some byte
 
-abbrev pub within : Room → (offset size align : ℕ) → Result Room Reason
-within room offset size align =
-    if nat_lt room.size (offset + size) then Err reasons.OutOfObject
-    else if nat_eq (offset % align) 0 then Ok (record { region = room.region; from = room.from + offset; size = size })
-    else Err reasons.Misaligned
+abbrev pub bytes_of : (frame : List ℕ) → Content → List (Option ℕ)
+bytes_of frame (Bytes bytes) = bytes
+bytes_of frame (Lent from size) = map set (take size (drop from frame))
+bytes_of frame Gone = []
 
-abbrev pub reached : Option Room → (offset size align : ℕ) → Result Room Reason
-reached None offset size align = Err reasons.Dead
-reached (Some room) offset size align = within room offset size align
+-- ---- what is asked of an access
 
-abbrev pub access : Own → Pointer → (size align : ℕ) → Result Room Reason
-access own p size align = reached (room_of own p.object) p.offset size align
+-- an element of an array that an lvalue's path names lies in that array. Offsets are words of 64 bits
+abbrev pub lies_in : Option Room → (offset size : ℕ) → Bool
+lies_in None offset size = true
+lies_in (Some room) offset size = nat_le ((offset + (2 ^ 64 - room.from)) % 2 ^ 64 + size) room.size
+
+abbrev pub lies_within : (bytes : ℕ) → Option Room → (offset size : ℕ) → Bool
+lies_within bytes room offset size = nat_le (offset + size) bytes && lies_in room offset size
+
+abbrev pub place_tests : (bytes : ℕ) → Option Room → (offset size align : ℕ) → List Test
+place_tests bytes room offset size align =
+    test reasons.OutOfObject (lies_within bytes room offset size)
+    ∷ test reasons.Misaligned (nat_eq (offset % align) 0)
+    ∷ []
+
+abbrev pub access_tests : Content → (bytes : ℕ) → Option Room → (offset size align : ℕ) → List Test
+access_tests content bytes room offset size align = test reasons.Dead (lives content) ∷ place_tests bytes room offset size align
+
+abbrev pub part : {A : Type 0} → List A → (from size : ℕ) → List A
+part bytes from size = take size (drop from bytes)
+
+abbrev pub all_set : List (Option ℕ) → Bool
+all_set [] = true
+all_set (None ∷ bytes) = false
+all_set (Some byte ∷ bytes) = all_set bytes
+
+abbrev pub read_tests : Content → List (Option ℕ) → Option Room → (offset size align : ℕ) → List Test
+read_tests content bytes room offset size align =
+    access_tests content (length bytes) room offset size align ++ test reasons.Unset (all_set (part bytes offset size)) ∷ []
+
+-- whether a pointer stands just past the end of an object that lives (6.5.6 p8)
+abbrev pub ends_at : State → Pointer → Bool
+ends_at s p = lives (content s.own p.object) && nat_eq p.offset (length (bytes_of s.frame (content s.own p.object)))
 
 -- ---- words: the machine is little-endian, so the byte at the lowest place is the lowest
 
-abbrev pub set_byte : Option (Option ℕ) → Option ℕ
-set_byte None = None
-set_byte (Some byte) = byte
+abbrev pub or_zero : Option ℕ → ℕ
+or_zero None = 0
+or_zero (Some byte) = byte
 
-abbrev pub byte_at : State → Region → ℕ → Option ℕ
-byte_at s regions.Variables at = set_byte (slice_get s.own.bytes at)
-byte_at s regions.Frame at = slice_get s.frame at
+abbrev pub word_of : List (Option ℕ) → ℕ
+word_of [] = 0
+word_of (byte ∷ bytes) = or_zero byte + 256 * word_of bytes
 
-abbrev pub joined : Option ℕ → Option ℕ → Option ℕ
-joined None rest = None
-joined (Some byte) None = None
-joined (Some byte) (Some rest) = Some (byte + 256 * rest)
+-- the word where all are set
+abbrev pub set_word : List (Option ℕ) → Option ℕ
+set_word bytes = if all_set bytes then Some (word_of bytes) else None
 
--- the word of so many bytes; none where one of them isn't set
-unfoldable pub word_at : State → Region → (from size : ℕ) → Option ℕ
-word_at s region from zero = Some 0
-word_at s region from (suc size) = joined (byte_at s region from) (word_at s region (from + 1) size)
+abbrev pub bytes_of_word : (size word : ℕ) → List ℕ
+bytes_of_word zero word = []
+bytes_of_word (suc size) word = word % 256 ∷ bytes_of_word size (word / 256)
 
-abbrev pub or_unset : Option ℕ → Result ℕ Reason
-or_unset None = Err reasons.Unset
-or_unset (Some word) = Ok word
+-- ---- a read of an integer of so many bytes
 
-abbrev pub word_in : State → Result Room Reason → Result ℕ Reason
-word_in s (Ok room) = or_unset (word_at s room.region room.from room.size)
-word_in s (Err reason) = Err reason
+abbrev pub load_from : Content → List (Option ℕ) → Option Room → (offset size align : ℕ) → Result ℕ Reason
+load_from content bytes room offset size align =
+    unless (first_against (read_tests content bytes room offset size align)) (word_of (part bytes offset size))
 
--- a read of an integer of so many bytes
-abbrev pub load : State → Pointer → (size align : ℕ) → Result ℕ Reason
-load s p size align = word_in s (access s.own p size align)
+abbrev pub load : State → Pointer → Option Room → (size align : ℕ) → Result ℕ Reason
+load s p room size align = load_from (content s.own p.object) (bytes_of s.frame (content s.own p.object)) room p.offset size align
 
--- the bytes of a word from one on, each as `mark` says
-unfoldable pub written : {A : Type 0} → (ℕ → A) → (from size word : ℕ) → List A → List A
-written mark from zero word bytes = bytes
-written mark from (suc size) word bytes = written mark (from + 1) size (word / 256) (slice_set bytes from (mark (word % 256)))
+-- ---- a write of an integer of so many bytes
 
-abbrev pub set_to : ℕ → Option ℕ
-set_to byte = Some byte
+-- each of some bytes in its place, from one on
+abbrev pub put : {A : Type 0} → List A → ℕ → List A → List A
+put bytes at [] = bytes
+put bytes at (byte ∷ more) = put (slice_set bytes at byte) (at + 1) more
 
-abbrev pub itself : ℕ → ℕ
-itself byte = byte
+abbrev pub put_in_life : ℕ → List ℕ → Option Life → Option Life
+put_in_life at new None = None
+put_in_life at new (Some life) = Some (record life { bytes = put life.bytes at (map set new) })
 
-abbrev pub written_in : State → Region → (from size word : ℕ) → State
-written_in s regions.Variables from size word = record s { own = record s.own { bytes = written set_to from size word s.own.bytes } }
-written_in s regions.Frame from size word = record s { frame = written itself from size word s.frame }
+abbrev pub put_in_slot : ℕ → List ℕ → Slot → Slot
+put_in_slot at new slot = record slot { life = put_in_life at new slot.life }
 
-abbrev pub stored_in : State → Result Room Reason → ℕ → Result State Reason
-stored_in s (Ok room) word = Ok (written_in s room.region room.from room.size word)
-stored_in s (Err reason) word = Err reason
+abbrev pub start_in_frame : Content → ℕ
+start_in_frame (Lent from size) = from
+start_in_frame content = 0
 
--- a write of an integer of so many bytes
-abbrev pub store : State → Pointer → (size align word : ℕ) → Result State Reason
-store s p size align word = stored_in s (access s.own p size align) word
+abbrev pub written_in : ℕ → ℕ → List ℕ → Own → Own
+written_in node at new own = with_slot own node (put_in_slot at new (slot own node))
 
--- what a call left, where it answered that it did it
-abbrev pub leaves : {A : Type 0} → {S : Type 0} → Result A Reason → S → Result S Reason
-leaves (Ok done) s = Ok s
-leaves (Err reason) s = Err reason
+abbrev pub tests_declared : Own → (node number : ℕ) → Option Room → (offset size align : ℕ) → List Test
+tests_declared own node number room offset size align =
+    access_tests (content_of_life (slot own node).life number) (length (bytes_of [] (content_of_life (slot own node).life number))) room offset size align
+
+abbrev pub store_declared : Own → (node number : ℕ) → Option Room → (offset size align word : ℕ) → Result Own Reason
+store_declared own node number room offset size align word =
+    unless (first_against (tests_declared own node number room offset size align)) (written_in node offset (bytes_of_word size word) own)
+
+abbrev pub store_lent : (frame : List ℕ) → Content → Option Room → (offset size align word : ℕ) → Result (List ℕ) Reason
+store_lent frame content room offset size align word =
+    unless (first_against (access_tests content (length (bytes_of frame content)) room offset size align))
+    (put frame (start_in_frame content + offset) (bytes_of_word size word))
+
+abbrev pub in_own : State → Result Own Reason → Result State Reason
+in_own s (Ok own) = Ok (record s { own = own })
+in_own s (Err reason) = Err reason
+
+abbrev pub in_frame : State → Result (List ℕ) Reason → Result State Reason
+in_frame s (Ok frame) = Ok (record s { frame = frame })
+in_frame s (Err reason) = Err reason
+
+-- the bytes of a declaration's object are its own, those of a chunk are the frame's
+abbrev pub store_at : State → Object → Option Room → (offset size align word : ℕ) → Result State Reason
+store_at s (objects.Declared node number) room offset size align word = in_own s (store_declared s.own node number room offset size align word)
+store_at s (objects.Chunk number) room offset size align word = in_frame s (store_lent s.frame (content_of_chunk s.own.chunks number) room offset size align word)
+
+abbrev pub store : State → Pointer → Option Room → (size align word : ℕ) → Result State Reason
+store s p room size align word = store_at s p.object room p.offset size align word

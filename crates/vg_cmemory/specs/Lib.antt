@@ -1,4 +1,6 @@
 pub mod State
+pub mod Kept
+pub mod Tests
 pub mod Access
 pub mod Loans
-pub mod Apart
+pub mod Laws

@@ -1,11 +1,12 @@
 -- Chunks of the frame, borrowed from its start on and given back the last first.
-use Rattle.std.specs.Prelude.{ℕ, ◌+◌, ◌-◌, nat_lt, nat_le, nat_eq, Bool, false, ◌&&◌, [], ◌∷◌, ◌++◌, length, take, slice_get, Option, Some, None, Result, Ok, Err, if◌then◌else◌}
+use Rattle.std.specs.Prelude.{ℕ, ◌+◌, ◌-◌, nat_lt, nat_le, nat_eq, Bool, false, ◌&&◌, List, [], ◌∷◌, ◌++◌, length, take, slice_get, Option, Some, None, Result}
 use Rattle.vg_core.specs.declared.reason.Reason.{Reason}
 use Rattle.vg_core.specs.declared.reason.Reason.TheVariants as reasons
 use Rattle.vg_cmemory.specs.declared.object.Object.{Object}
 use Rattle.vg_cmemory.specs.declared.object.Object.TheVariants as objects
 use Rattle.vg_cmemory.specs.declared.object.Pointer.{Pointer}
 use Rattle.vg_cmemory.specs.declared.object.Chunk.{Chunk}
+use Rattle.vg_cmemory.specs.Tests.{Test, test, first_against, unless}
 use Rattle.vg_cmemory.specs.State.{Own, next_number}
 
 -- at least one byte, no more than are left of the frame, and fewer than 16 chunks lent
@@ -39,13 +40,19 @@ start_of_chunk (Some chunk) = chunk.from
 abbrev pub without_loan : Own → Own
 without_loan own = record own { chunks = take (length own.chunks - 1) own.chunks; lent = start_of_chunk (last_chunk own) }
 
+abbrev pub borrow_tests : Own → (frame_length count : ℕ) → List Test
+borrow_tests own frame_length count = test (reasons.Before 2) (can_borrow own frame_length count) ∷ []
+
 -- `packet_borrow`
 abbrev pub borrow : Own → (frame_length count : ℕ) → Result Own Reason
-borrow own frame_length count = if can_borrow own frame_length count then Ok (with_loan own count) else Err (reasons.Before 2)
+borrow own frame_length count = unless (first_against (borrow_tests own frame_length count)) (with_loan own count)
 
 abbrev pub start_of_loan : Own → Pointer
 start_of_loan own = record { object = objects.Chunk own.born; offset = 0 }
 
+abbrev pub return_tests : Own → Pointer → List Test
+return_tests own p = test (reasons.Before 3) (is_start p (last_chunk own)) ∷ []
+
 -- `packet_return`
 abbrev pub give_back : Own → Pointer → Result Own Reason
-give_back own p = if is_start p (last_chunk own) then Ok (without_loan own) else Err (reasons.Before 3)
+give_back own p = unless (first_against (return_tests own p)) (without_loan own)

@@ -1,16 +1,23 @@
--- What stands in memory while a C function runs on a frame, and how objects come and go (C11 6.2.4).
-use Rattle.std.specs.Prelude.{ℕ, zero, suc, ◌+◌, ◌%◌, ◌^◌, List, length, slice_index_or, slice_set, Option, Some, None}
+-- Memory while a C function runs on a frame: a finite list of objects, and how they come and go (C11 6.2.4, 6.7.9).
+use Rattle.std.specs.Prelude.{ℕ, ◌+◌, ◌%◌, ◌^◌, List, [], ◌∷◌, ◌++◌, replicate, slice_index_or, slice_set, Option, Some, None}
 use Rattle.vg_cmemory.specs.declared.object.Object.TheVariants as objects
 use Rattle.vg_cmemory.specs.declared.object.Pointer.{Pointer}
-use Rattle.vg_cmemory.specs.declared.object.Variable.{Variable}
 use Rattle.vg_cmemory.specs.declared.object.Chunk.{Chunk}
 
--- what a run has beside the frame
-pub record Own : Type 0 where
-  -- one for each node of the text. A node that declares nothing has one that never lives
-  pub variables : List Variable
-  -- the bytes of the variables, each variable's in a part of its own; one that isn't set is None
+-- an object that a declaration made: its number, its bytes, of which one that isn't set is None, and what a pointer variable was set to
+pub record Life : Type 0 where
+  pub number : ℕ
   pub bytes : List (Option ℕ)
+  pub points : Option Pointer
+
+-- of a node of the text: how many bytes each object that it declares has, and the one that lives. No function calls itself, so at most one lives
+pub record Slot : Type 0 where
+  pub size : ℕ
+  pub life : Option Life
+
+pub record Own : Type 0 where
+  -- by the nodes of the text. A node that declares nothing has one of no bytes that never lives
+  pub slots : List Slot
   -- the chunks of the frame that are lent, in the order of their loans
   pub chunks : List Chunk
   -- how many bytes of the frame are lent
@@ -24,53 +31,82 @@ pub record State : Type 0 where
   pub own : Own
   pub frame : List ℕ
 
--- how many variables and bytes there are. No call changes it
-unfoldable pub sizes : Own → ℕ × ℕ
-sizes own = (length own.variables, length own.bytes)
+-- of a node that declares nothing
+abbrev pub no_slot : Slot
+no_slot = record { size = 0; life = None }
 
--- one step more. Steps are counted in 32 bits; no typed text takes more than 1,000,000
+abbrev pub slot : Own → ℕ → Slot
+slot own node = slice_index_or own.slots node no_slot
+
+abbrev pub with_slot : Own → ℕ → Slot → Own
+with_slot own node to = record own { slots = slice_set own.slots node to }
+
+-- one node more
+abbrev pub with_node : (size : ℕ) → Own → Own
+with_node size own = record own { slots = own.slots ++ record { size = size; life = None } ∷ [] }
+
+-- all chunks are taken back
+abbrev pub take_back_all : Own → Own
+take_back_all own = record own { chunks = []; lent = 0 }
+
+-- one step more
 abbrev pub tick : Own → Own
 tick own = record own { steps = (own.steps + 1) % 2 ^ 32 }
-
--- of a node that declares nothing
-abbrev pub no_variable : Variable
-no_variable = record { from = 0; size = 0; number = None; points = None }
-
-abbrev pub variable : Own → ℕ → Variable
-variable own node = slice_index_or own.variables node no_variable
-
-abbrev pub with_variable : Own → ℕ → Variable → Own
-with_variable own node v = record own { variables = slice_set own.variables node v }
-
--- bytes from one on lose what they were set to
-unfoldable pub unset : (from size : ℕ) → List (Option ℕ) → List (Option ℕ)
-unset from zero bytes = bytes
-unset from (suc size) bytes = unset (from + 1) size (slice_set bytes from None)
 
 -- objects are numbered as they are made, in 64 bits: no run makes so many
 abbrev pub next_number : ℕ → ℕ
 next_number n = (n + 1) % 2 ^ 64
 
--- a declaration runs: its variable is a new object, and nothing of it is set
+-- a new object, of which nothing is set
+abbrev pub made : ℕ → Slot → Slot
+made number slot = record slot { life = Some (record { number = number; bytes = replicate slot.size None; points = None }) }
+
+abbrev pub ended : Slot → Slot
+ended slot = record slot { life = None }
+
+abbrev pub points_to : Pointer → Option Life → Option Life
+points_to p None = None
+points_to p (Some life) = Some (record life { points = Some p })
+
+abbrev pub held : Pointer → Slot → Slot
+held p slot = record slot { life = points_to p slot.life }
+
+-- a declaration runs
 abbrev pub declare : ℕ → Own → Own
-declare node own = record own {
-  variables = slice_set own.variables node (record (variable own node) { number = Some own.born; points = None });
-  bytes = unset (variable own node).from (variable own node).size own.bytes;
-  born = next_number own.born;
-}
+declare node own = record own { slots = slice_set own.slots node (made own.born (slot own node)); born = next_number own.born }
 
 -- the block or call that a declaration stands in ends, and so does its object's life
 abbrev pub end_life : ℕ → Own → Own
-end_life node own = with_variable own node (record (variable own node) { number = None; points = None })
+end_life node own = with_slot own node (ended (slot own node))
 
 -- a pointer variable is set
 abbrev pub hold : ℕ → Pointer → Own → Own
-hold node p own = with_variable own node (record (variable own node) { points = Some p })
+hold node p own = with_slot own node (held p (slot own node))
 
--- the object that a declaration made last; where none lives, a number that no object has
-abbrev pub number_or_none : Option ℕ → ℕ
-number_or_none None = 0
-number_or_none (Some number) = number
+abbrev pub points_of : Option Life → Option Pointer
+points_of None = None
+points_of (Some life) = life.points
+
+-- where none lives, a number that no object has
+abbrev pub number_of : Option Life → ℕ
+number_of None = 0
+number_of (Some life) = life.number
 
 abbrev pub start_of : Own → ℕ → Pointer
-start_of own node = record { object = objects.Declared node (number_or_none (variable own node).number); offset = 0 }
+start_of own node = record { object = objects.Declared node (number_of (slot own node).life); offset = 0 }
+
+-- how many bytes the objects of each node have. No call changes it
+abbrev pub sizes_of : List Slot → List ℕ
+sizes_of [] = []
+sizes_of (slot ∷ slots) = slot.size ∷ sizes_of slots
+
+unfoldable pub sizes : Own → List ℕ
+sizes own = sizes_of own.slots
+
+-- what a run begins with: nothing lives, no chunk is lent
+abbrev pub at_rest : (sizes : List ℕ) → List Slot
+at_rest [] = []
+at_rest (size ∷ sizes) = record { size = size; life = None } ∷ at_rest sizes
+
+abbrev pub start : (sizes : List ℕ) → Own
+start sizes = record { slots = at_rest sizes; chunks = []; lent = 0; steps = 0; born = 1 }

@@ -1,178 +1,306 @@
 //! Reads and writes of objects.
-ghost use Rattle.std.specs.Prelude.{◌≡◌, ◌≤◌, ◌<◌, ◌+◌, ◌-◌, ◌*◌, ◌^◌, OnErr, IfOk, IfSome, Some};
+ghost use Rattle.std.specs.Prelude.{◌≡◌, ◌≤◌, ◌<◌, ◌+◌, ◌-◌, ◌^◌, IfNone, OnOk, OnErr, Some, length, map};
 ghost use Rattle.vg_cmemory.specs.Access as accesses;
+ghost use Rattle.vg_cmemory.specs.Access.{Bytes, Lent, place_tests, load_from, bytes_of, content_of_chunk, content_of_option, load, store, ends_at, part, bytes_of_word, set};
 ghost use Rattle.vg_cmemory.specs.State.{sizes};
-ghost use Rattle.vg_cmemory.specs.Access.{room_of, access, byte_at, word_at, load, store, leaves};
+ghost use Rattle.vg_cmemory.specs.Tests.{first_against, unless, leaves};
 
-use crate::bytes::{set_bytes, write_bytes};
+use crate::bytes::{put_in_frame, word_in_frame, word_of};
+use crate::local::write;
 use crate::memory::FrameMemory;
-use crate::object::{Chunk, Object, Pointer, Region, Room, Variable};
+use crate::object::{Chunk, Object, Pointer, Room};
 use vg_core::Reason;
 
-fn room_of_variable(variable: Variable, number: u64) -> Option<Room>
-    ensures value { result ≡ accesses.room_of_variable (Some variable) number }
-    ensures from { IfSome result (λ room. room.from < 2 ^ 32) }
+/// Whether so many bytes from an offset on are in a room. Where none is given, they are.
+pub fn lies_in(room: Option<Room>, offset: u64, size: u64) -> bool
+    ensures { result ≡ accesses.lies_in room offset size }
 {
-    if variable.number? == number {
-        return Some(Room {
-            region: Region::Variables,
-            from: u64::from(variable.from),
-            size: variable.size,
-        });
-    }
-    None
-}
-
-fn room_of_chunk(chunks: &[Chunk], number: u64) -> Option<Room>
-    ensures value { result ≡ accesses.room_of_chunk chunks.now number }
-    ensures from { IfSome result (λ room. room.from < 2 ^ 32) }
-{
-    for chunk in chunks {
-        if let Some(room) = room_if_made(chunk, number) {
-            return Some(room);
+    match room {
+        Some(room) => {
+            let at = offset.wrapping_sub(room.from);
+            at <= room.size && size <= room.size - at
         }
+        None => true,
     }
-    None
 }
 
-fn room_if_made(chunk: &Chunk, number: u64) -> Option<Room>
-    ensures value { result ≡ accesses.room_if_made chunk.now number }
-    ensures from { IfSome result (λ room. room.from < 2 ^ 32) }
+fn lies_within(bytes: u64, room: Option<Room>, offset: u64, size: u32) -> bool
+    ensures { result ≡ accesses.lies_within bytes room offset size }
 {
-    if chunk.number != number {
-        return None;
-    }
-    Some(Room {
-        region: Region::Frame,
-        from: u64::from(chunk.from),
-        size: chunk.size,
-    })
+    offset <= bytes && u64::from(size) <= bytes - offset && lies_in(room, offset, u64::from(size))
 }
 
-fn within(room: Room, offset: u64, size: u32, align: u32) -> Result<Room, Reason>
+// The first reason against an access to an object of so many bytes that lives.
+fn refusal(bytes: u64, room: Option<Room>, offset: u64, size: u32, align: u32) -> Option<Reason>
     requires aligned { 0 < align }
-    requires near { room.from < 2 ^ 32 }
-    ensures value { result ≡ accesses.within room offset size align }
-    ensures from { IfOk result (λ at. at.from < 2 ^ 33) }
-    ensures size { IfOk result (λ at. at.size ≡ size) }
+    ensures value { result ≡ first_against (place_tests bytes room offset size align) }
+    ensures within { IfNone result (offset + size ≤ bytes) }
 {
-    if offset > u64::from(room.size) || u64::from(room.size) - offset < u64::from(size) {
-        return Err(Reason::OutOfObject);
+    if !lies_within(bytes, room, offset, size) {
+        return Some(Reason::OutOfObject);
     }
     if offset % u64::from(align) != 0 {
-        return Err(Reason::Misaligned);
+        return Some(Reason::Misaligned);
     }
-    Ok(Room {
-        region: room.region,
-        from: room.from + offset,
-        size,
-    })
+    None
 }
 
-// A byte before the word of the bytes behind it, so many with it.
-#[tactic(auto, using(crate::proofs::Rows::joined_below, crate::proofs::Rows::fits_word, crate::proofs::Rows::fits_rest))]
-fn joined(byte: u8, rest: u64, size: u32) -> u64
-    requires some { 0 < size }
+fn load_bytes(
+    bytes: &[Option<u8>],
+    room: Option<Room>,
+    offset: u64,
+    size: u32,
+    align: u32,
+) -> Result<u64, Reason>
     requires at_most_a_word { size ≤ 8 }
-    requires below { rest < 256 ^ (size - 1) }
-    ensures value { result ≡ byte + 256 * rest }
-    ensures below { result < 256 ^ size }
+    requires aligned { 0 < align }
+    ensures { result ≡ load_from (Bytes bytes.now) bytes.now room offset size align }
 {
-    byte as u64 + 256 * rest
+    if let Some(reason) = refusal(bytes.len() as u64, room, offset, size, align) {
+        return Err(reason);
+    }
+    let from = offset as usize;
+    match word_of(&bytes[from..][..size as usize]) {
+        Some(word) => Ok(word),
+        None => Err(Reason::Unset),
+    }
+}
+
+fn chunk_of(chunks: &[Chunk], number: u64) -> Option<Chunk>
+    ensures { content_of_option result ≡ content_of_chunk chunks.now number }
+{
+    match chunks {
+        [] => None,
+        [first, rest @ ..] => {
+            if first.number == number {
+                return Some(*first);
+            }
+            chunk_of(rest, number)
+        }
+    }
+}
+
+// So many bytes from one on, as far as there are.
+fn part_of(bytes: &[u8], from: usize, size: usize) -> &[u8]
+    ensures { result.now ≡ part bytes.now from size }
+{
+    let behind = &bytes[from.min(bytes.len())..];
+    &behind[..size.min(behind.len())]
+}
+
+// A refusal as a fault.
+fn refused(reason: Option<Reason>) -> Result<(), Reason>
+    ensures { result ≡ unless reason tt }
+{
+    match reason {
+        Some(reason) => Err(reason),
+        None => Ok(()),
+    }
 }
 
 impl FrameMemory {
-    fn room_of(&self, object: Object) -> Option<Room>
-        ensures value { result ≡ room_of self.now object }
-        ensures from { IfSome result (λ room. room.from < 2 ^ 32) }
+    /// Whether a pointer stands just past the end of an object that lives (C11 6.5.6 p8).
+    pub fn ends_at(&self, frame: &[u8], pointer: Pointer) -> bool
+        ensures { result ≡ ends_at (record { own = self.now; frame = frame.now }) pointer }
     {
-        match object {
+        match pointer.object {
             Object::Declared { node, number } => {
-                let variable = self.variable_list.get(node as usize).copied()?;
-                room_of_variable(variable, number)
+                let Some(local) = self.local_list.as_slice().get(node as usize) else {
+                    return false;
+                };
+                local.run == self.run
+                    && local.number == number
+                    && pointer.offset == local.bytes.len() as u64
             }
-            Object::Chunk { number } => room_of_chunk(self.chunk_list.as_slice(), number),
+            Object::Chunk { number } => {
+                let Some(chunk) = chunk_of(self.chunk_list.as_slice(), number) else {
+                    return false;
+                };
+                let bytes = part_of(frame, chunk.from as usize, chunk.size as usize);
+                pointer.offset == bytes.len() as u64
+            }
         }
-    }
-
-    // Where so many bytes behind a pointer stand, or the first reason against an access to them.
-    fn access(&self, pointer: Pointer, size: u32, align: u32) -> Result<Room, Reason>
-        requires aligned { 0 < align }
-        ensures value { result ≡ access self.now pointer size align }
-        ensures from { IfOk result (λ at. at.from < 2 ^ 33) }
-        ensures size { IfOk result (λ at. at.size ≡ size) }
-    {
-        match self.room_of(pointer.object) {
-            Some(room) => within(room, pointer.offset, size, align),
-            None => Err(Reason::Dead),
-        }
-    }
-
-    fn byte_at(&self, frame: &[u8], region: Region, at: u64) -> Option<u8>
-        ensures { result ≡ byte_at (record { own = self.now; frame = frame.now }) region at }
-    {
-        match region {
-            Region::Variables => self.byte_list.get(at as usize).copied()?,
-            Region::Frame => frame.get(at as usize).copied(),
-        }
-    }
-
-    #[tactic(auto, using(crate::proofs::Rows::word_none, crate::proofs::Rows::word_next))]
-    fn word_at(&self, frame: &[u8], region: Region, from: u64, size: u32) -> Option<u64>
-        requires near { from + size < 2 ^ 64 }
-        requires at_most_a_word { size ≤ 8 }
-        ensures value { result ≡ word_at (record { own = self.now; frame = frame.now }) region from size }
-        ensures below { IfSome result (λ word. word < 256 ^ size) }
-    {
-        if size == 0 {
-            return Some(0);
-        }
-        let byte = self.byte_at(frame, region, from)?;
-        let rest = self.word_at(frame, region, from + 1, size - 1)?;
-        Some(joined(byte, rest, size))
     }
 
     /// The word of so many bytes behind a pointer, little-endian.
     ///
-    /// The first that holds: `Dead`: the object lives no longer. `OutOfObject`: not all of the bytes are in it. `Misaligned`: the offset isn't a
-    /// multiple of `align`. `Unset`: one of the bytes isn't set.
-    pub fn load(&self, frame: &[u8], pointer: Pointer, size: u32, align: u32) -> Result<u64, Reason>
+    /// The first that holds: `Dead`: the object lives no longer. `OutOfObject`: not all of the bytes are in it, or in the room that is given.
+    /// `Misaligned`: the offset isn't a multiple of `align`. `Unset`: one of the bytes isn't set.
+    pub fn load(
+        &self,
+        frame: &[u8],
+        pointer: Pointer,
+        room: Option<Room>,
+        size: u32,
+        align: u32,
+    ) -> Result<u64, Reason>
         requires at_most_a_word { size ≤ 8 }
         requires aligned { 0 < align }
-        ensures { result ≡ load (record { own = self.now; frame = frame.now }) pointer size align }
+        ensures { result ≡ load (record { own = self.now; frame = frame.now }) pointer room size align }
     {
-        let room = self.access(pointer, size, align)?;
-        match self.word_at(frame, room.region, room.from, room.size) {
-            Some(word) => Ok(word),
-            None => Err(Reason::Unset),
+        match pointer.object {
+            Object::Declared { node, number } => {
+                let Some(local) = self.local_list.as_slice().get(node as usize) else {
+                    return Err(Reason::Dead);
+                };
+                if local.run != self.run || local.number != number {
+                    return Err(Reason::Dead);
+                }
+                load_bytes(local.bytes.as_slice(), room, pointer.offset, size, align)
+            }
+            Object::Chunk { number } => {
+                let Some(chunk) = chunk_of(self.chunk_list.as_slice(), number) else {
+                    return Err(Reason::Dead);
+                };
+                load_lent(frame, chunk, room, pointer.offset, size, align)
+            }
         }
     }
 
     /// Writes the low bytes of a word, so many, behind a pointer, little-endian.
     ///
-    /// The first that holds, and then nothing is written: `Dead`: the object lives no longer. `OutOfObject`: not all of the bytes are in it.
-    /// `Misaligned`: the offset isn't a multiple of `align`.
-    #[tactic(auto, unfolding(crate::specs::State::sizes))]
+    /// The first that holds, and then nothing is written: `Dead`: the object lives no longer. `OutOfObject`: not all of the bytes are in it, or in
+    /// the room that is given. `Misaligned`: the offset isn't a multiple of `align`.
     pub fn store(
         &mut self,
         frame: &mut [u8],
         pointer: Pointer,
+        room: Option<Room>,
         size: u32,
         align: u32,
         word: u64,
     ) -> Result<(), Reason>
-        requires at_most_a_word { size ≤ 8 }
         requires aligned { 0 < align }
-        ensures value { leaves result (record { own = self.new; frame = frame.new }) ≡ store (record { own = self.old; frame = frame.old }) pointer size align word }
+        ensures value { leaves result (record { own = self.new; frame = frame.new }) ≡ store (record { own = self.old; frame = frame.old }) pointer room size align word }
         ensures kept { OnErr result (self.new ≡ self.old) }
         ensures frame_kept { OnErr result (frame.new ≡ frame.old) }
         ensures sizes { sizes self.new ≡ sizes self.old }
     {
-        let room = self.access(pointer, size, align)?;
-        match room.region {
-            Region::Variables => set_bytes(&mut self.byte_list, room.from, room.size, word),
-            Region::Frame => write_bytes(frame, room.from, room.size, word),
+        match pointer.object {
+            Object::Declared { node, number } => {
+                self.store_declared(node, number, room, pointer.offset, size, align, word)
+            }
+            Object::Chunk { number } => {
+                let Some(chunk) = chunk_of(self.chunk_list.as_slice(), number) else {
+                    return Err(Reason::Dead);
+                };
+                store_lent(frame, chunk, room, pointer.offset, size, align, word)
+            }
         }
+    }
+
+    fn store_declared(
+        &mut self,
+        node: u32,
+        number: u64,
+        room: Option<Room>,
+        offset: u64,
+        size: u32,
+        align: u32,
+        word: u64,
+    ) -> Result<(), Reason>
+        requires aligned { 0 < align }
+        ensures value { leaves result self.new ≡ accesses.store_declared self.old node number room offset size align word }
+        ensures kept { OnErr result (self.new ≡ self.old) }
+        ensures sizes { sizes self.new ≡ sizes self.old }
+    {
+        self.refusal_declared(node, number, room, offset, size, align)?;
+        self.write(node, offset, size, word);
         Ok(())
     }
+
+    // The first reason against an access to the object that a declaration made with this number.
+    fn refusal_declared(
+        &self,
+        node: u32,
+        number: u64,
+        room: Option<Room>,
+        offset: u64,
+        size: u32,
+        align: u32,
+    ) -> Result<(), Reason>
+        requires aligned { 0 < align }
+        ensures value { result ≡ unless (first_against (accesses.tests_declared self.now node number room offset size align)) tt }
+        ensures near { OnOk result (offset + size < 2 ^ 64) }
+    {
+        let Some(local) = self.local_list.as_slice().get(node as usize) else {
+            return Err(Reason::Dead);
+        };
+        if local.run != self.run || local.number != number {
+            return Err(Reason::Dead);
+        }
+        refused(refusal(local.bytes.len() as u64, room, offset, size, align))
+    }
+
+    fn write(&mut self, node: u32, at: u64, size: u32, word: u64)
+        requires near { at + size < 2 ^ 64 }
+        ensures value { self.new ≡ accesses.written_in node at (bytes_of_word size word) self.old }
+        ensures sizes { sizes self.new ≡ sizes self.old }
+    {
+        let run = self.run;
+        if (node as usize) < self.local_list.len() {
+            write(&mut self.local_list[node as usize], run, at, size, word);
+        }
+    }
+}
+
+fn load_lent(
+    frame: &[u8],
+    chunk: Chunk,
+    room: Option<Room>,
+    offset: u64,
+    size: u32,
+    align: u32,
+) -> Result<u64, Reason>
+    requires at_most_a_word { size ≤ 8 }
+    requires aligned { 0 < align }
+    ensures { result ≡ load_from (Lent chunk.from chunk.size) (bytes_of frame.now (Lent chunk.from chunk.size)) room offset size align }
+{
+    load_set(
+        part_of(frame, chunk.from as usize, chunk.size as usize),
+        chunk,
+        room,
+        offset,
+        size,
+        align,
+    )
+}
+
+// A read of a chunk with these bytes.
+#[tactic(auto, using(crate::proofs::Parts::chunk_read))]
+fn load_set(
+    bytes: &[u8],
+    chunk: Chunk,
+    room: Option<Room>,
+    offset: u64,
+    size: u32,
+    align: u32,
+) -> Result<u64, Reason>
+    requires at_most_a_word { size ≤ 8 }
+    requires aligned { 0 < align }
+    ensures { result ≡ load_from (Lent chunk.from chunk.size) (map set bytes.now) room offset size align }
+{
+    match refusal(bytes.len() as u64, room, offset, size, align) {
+        Some(reason) => Err(reason),
+        None => { Ok(word_in_frame(part_of(bytes, offset as usize, size as usize))) }
+    }
+}
+
+fn store_lent(
+    frame: &mut [u8],
+    chunk: Chunk,
+    room: Option<Room>,
+    offset: u64,
+    size: u32,
+    align: u32,
+    word: u64,
+) -> Result<(), Reason>
+    requires aligned { 0 < align }
+    ensures value { leaves result frame.new ≡ accesses.store_lent frame.old (Lent chunk.from chunk.size) room offset size align word }
+    ensures kept { OnErr result (frame.new ≡ frame.old) }
+{
+    let bytes = part_of(frame, chunk.from as usize, chunk.size as usize).len() as u64;
+    refused(refusal(bytes, room, offset, size, align))?;
+    put_in_frame(frame, u64::from(chunk.from) + offset, size, word);
+    Ok(())
 }

@@ -1,56 +1,75 @@
-//! Rows of bytes.
-ghost use Rattle.std.specs.Prelude.{◌≡◌, ◌<◌, ◌+◌, ◌^◌, Some, None, length, slice_set};
-ghost use Rattle.vg_cmemory.specs.State as state;
-ghost use Rattle.vg_cmemory.specs.Access.{written, set_to, itself};
+//! Bytes and words.
+ghost use Rattle.std.specs.Prelude.{◌≡◌, ◌≤◌, ◌<◌, ◌+◌, ◌-◌, ◌*◌, ◌^◌, IfSome, Some, map, length, slice_set};
+ghost use Rattle.vg_cmemory.specs.Access.{set, set_word, word_of, put, bytes_of_word};
 
-#[tactic(auto, using(crate::proofs::Rows::unset_next), unfolding(crate::specs::State::unset))]
-/// So many bytes from one on lose what they were set to.
-pub fn unset(bytes: &mut Vec<Option<u8>>, from: u32, size: u32)
-    ensures value { bytes.new.items ≡ state.unset from size bytes.old.items }
-    ensures length { length bytes.new.items ≡ length bytes.old.items }
+// A byte before the word of the bytes behind it, so many with it.
+#[tactic(auto, using(crate::proofs::Rows::joined_below, crate::proofs::Rows::fits_word, crate::proofs::Rows::fits_rest))]
+fn joined(byte: u8, rest: u64, size: u32) -> u64
+    requires some { 0 < size }
+    requires at_most_a_word { size ≤ 8 }
+    requires below { rest < 256 ^ (size - 1) }
+    ensures value { result ≡ byte + 256 * rest }
+    ensures below { result < 256 ^ size }
 {
-    for k in 0..size {
-        unset_one(bytes, from as usize + k as usize);
+    byte as u64 + 256 * rest
+}
+
+/// The word of some bytes, the lowest first, where all are set.
+pub fn word_of(bytes: &[Option<u8>]) -> Option<u64>
+    requires at_most_a_word { length bytes.now ≤ 8 }
+    ensures value { result ≡ set_word bytes.now }
+    ensures below { IfSome result (λ word. word < 256 ^ length bytes.now) }
+{
+    match bytes {
+        [] => Some(0),
+        [first, rest @ ..] => {
+            let byte = (*first)?;
+            let word = word_of(rest)?;
+            Some(joined(byte, word, rest.len() as u32 + 1))
+        }
     }
 }
 
-fn unset_one(bytes: &mut Vec<Option<u8>>, at: usize)
-    ensures value { bytes.new.items ≡ slice_set bytes.old.items at None }
-    ensures length { length bytes.new.items ≡ length bytes.old.items }
+/// The word of some bytes of the frame.
+pub fn word_in_frame(bytes: &[u8]) -> u64
+    requires at_most_a_word { length bytes.now ≤ 8 }
+    ensures value { result ≡ word_of (map set bytes.now) }
+    ensures below { result < 256 ^ length bytes.now }
 {
-    if at < bytes.len() {
-        bytes[at] = None;
+    match bytes {
+        [] => 0,
+        [first, rest @ ..] => joined(*first, word_in_frame(rest), rest.len() as u32 + 1),
     }
 }
 
-#[tactic(auto, using(crate::proofs::Rows::written_none, crate::proofs::Rows::written_next))]
+#[tactic(auto, using(crate::proofs::Rows::bytes_next))]
 /// Writes the low bytes of a word to as many places from one on, the lowest first. Places past the end are left out.
-pub fn set_bytes(bytes: &mut Vec<Option<u8>>, from: u64, size: u32, word: u64)
-    requires { from + size < 2 ^ 64 }
-    ensures value { bytes.new.items ≡ written set_to from size word bytes.old.items }
+pub fn put(bytes: &mut Vec<Option<u8>>, at: u64, size: u32, word: u64)
+    requires { at + size < 2 ^ 64 }
+    ensures value { bytes.new.items ≡ put bytes.old.items at (map set (bytes_of_word size word)) }
     ensures length { length bytes.new.items ≡ length bytes.old.items }
 {
     if size == 0 {
         return;
     }
-    set_byte(bytes, from, (word % 256) as u8);
-    set_bytes(bytes, from + 1, size - 1, word / 256)
+    put_byte(bytes, at, (word % 256) as u8);
+    put(bytes, at + 1, size - 1, word / 256)
 }
 
-#[tactic(auto, using(crate::proofs::Rows::written_none, crate::proofs::Rows::written_next))]
 /// The same in the frame.
-pub fn write_bytes(frame: &mut [u8], from: u64, size: u32, word: u64)
-    requires { from + size < 2 ^ 64 }
-    ensures { frame.new ≡ written itself from size word frame.old }
+#[tactic(auto, using(crate::proofs::Rows::bytes_next))]
+pub fn put_in_frame(frame: &mut [u8], at: u64, size: u32, word: u64)
+    requires { at + size < 2 ^ 64 }
+    ensures value { frame.new ≡ put frame.old at (bytes_of_word size word) }
 {
     if size == 0 {
         return;
     }
-    write_byte(frame, from, (word % 256) as u8);
-    write_bytes(frame, from + 1, size - 1, word / 256)
+    put_byte_in_frame(frame, at, (word % 256) as u8);
+    put_in_frame(frame, at + 1, size - 1, word / 256)
 }
 
-fn set_byte(bytes: &mut Vec<Option<u8>>, at: u64, byte: u8)
+fn put_byte(bytes: &mut Vec<Option<u8>>, at: u64, byte: u8)
     ensures value { bytes.new.items ≡ slice_set bytes.old.items at (Some byte) }
     ensures length { length bytes.new.items ≡ length bytes.old.items }
 {
@@ -59,7 +78,7 @@ fn set_byte(bytes: &mut Vec<Option<u8>>, at: u64, byte: u8)
     }
 }
 
-fn write_byte(frame: &mut [u8], at: u64, byte: u8)
+fn put_byte_in_frame(frame: &mut [u8], at: u64, byte: u8)
     ensures { frame.new ≡ slice_set frame.old at byte }
 {
     if at < frame.len() as u64 {

@@ -1,13 +1,28 @@
 //! Laws of the memory's definitions, each as the contract of a function that does nothing.
-ghost use Rattle.vg_cmemory.specs.Apart.{WritesStayInside, FrameWritesStayInside, DeclarationsStayInside};
+ghost use Rattle.vg_cmemory.specs.Laws.{NothingAgainst, WritesAreSeen, WritesStayInside, FrameWritesStayInside, StartsStacked, StaysStacked, ChunksAreApart, StaysGone, StaysGoneAtLoans, EndsLife};
 
-/// A write changes no byte outside of those that it writes, so none of another object.
+/// No reason is against what all tests of a list allow, and only that.
+pub fn nothing_against()
+    ensures { NothingAgainst }
+{}
+
+/// A write is seen in its own object, and changes no other.
 pub fn writes_stay_inside()
-    ensures variables { WritesStayInside }
+    ensures seen { WritesAreSeen }
+    ensures objects { WritesStayInside }
     ensures frame { FrameWritesStayInside }
 {}
 
-/// A declaration changes no byte outside of its variable's.
-pub fn declarations_stay_inside()
-    ensures { DeclarationsStayInside }
+/// Chunks that are lent have no byte in common.
+pub fn chunks_are_apart()
+    ensures starts { StartsStacked }
+    ensures stays { StaysStacked }
+    ensures apart { ChunksAreApart }
+{}
+
+/// An object that is gone stays so.
+pub fn gone_stays_gone()
+    ensures stays { StaysGone }
+    ensures stays_at_loans { StaysGoneAtLoans }
+    ensures ends { EndsLife }
 {}

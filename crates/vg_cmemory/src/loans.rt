@@ -1,6 +1,6 @@
 //! Chunks of the frame, borrowed and given back.
 ghost use Rattle.std.specs.Prelude.{◌≡◌, length, OnErr, IfOk, Ok, slice_get};
-ghost use Rattle.vg_cmemory.specs.Access.{leaves};
+ghost use Rattle.vg_cmemory.specs.Tests.{leaves};
 ghost use Rattle.vg_cmemory.specs.State.{sizes};
 ghost use Rattle.vg_cmemory.specs.Loans as loans;
 ghost use Rattle.vg_cmemory.specs.Loans.{can_borrow, start_of_loan, is_start, last_chunk};

@@ -1,18 +1,21 @@
 //! What a run has beside the frame.
-ghost use Rattle.std.specs.Prelude.{◌≡◌, [], length};
-ghost use Rattle.vg_cmemory.specs.State.{sizes, tick, declare, end_life, hold, start_of, variable, with_variable, number_or_none};
+ghost use Rattle.std.specs.Prelude.{◌≡◌, ◌∷◌, ◌++◌, [], length, IfOk, OnErr, None};
+ghost use Rattle.vg_cmemory.specs.State as state;
+ghost use Rattle.vg_cmemory.specs.State.{sizes, with_node, take_back_all, tick, declare, end_life, hold, start_of, start, slot, points_of};
 
-use crate::bytes::unset;
-use crate::object::{Chunk, Object, Pointer, Variable};
+use crate::local::{Local, begin, end, hold};
+use crate::object::{Chunk, Object, Pointer};
+use crate::runs::next_run;
 use arrayvec::ArrayVec;
+use std::alloc::{AllocError, Global};
 use std::marker::Model;
 
 /// The memory of a run of a C function beside the frame, and the count of its steps.
 #[derive(Drop)]
 pub struct FrameMemory {
-    pub(crate) variable_list: Vec<Variable>,
-    pub(crate) byte_list: Vec<Option<u8>>,
+    pub(crate) local_list: Vec<Local>,
     pub(crate) chunk_list: ArrayVec<Chunk, 16>,
+    pub(crate) run: u64,
     pub(crate) next: u32,
     pub(crate) taken: u32,
     pub(crate) next_object: u64,
@@ -23,51 +26,60 @@ impl Model for FrameMemory {
 
     ghost Value = { Own };
 
-    ghost view = { λ m. record { variables = m.variable_list.items; bytes = m.byte_list.items; chunks = m.chunk_list.items; lent = m.next; steps = m.taken; born = m.next_object } };
-}
+    ghost use Rattle.vg_cmemory.specs.Kept.{slots_of, AreOfRuns};
 
-const NO_VARIABLE: Variable = Variable {
-    from: 0,
-    size: 0,
-    number: None,
-    points: None,
-};
+    ghost view = { λ m. record { slots = slots_of m.run m.local_list.items; chunks = m.chunk_list.items; lent = m.next; steps = m.taken; born = m.next_object } };
 
-fn number_or_none(number: Option<u64>) -> u64
-    ensures { result ≡ number_or_none number }
-{
-    match number {
-        Some(number) => number,
-        None => 0,
-    }
+    ghost invariant = { λ m. AreOfRuns m.run m.local_list.items };
 }
 
 impl FrameMemory {
-    /// The memory that a run begins with, by what its declarations make and by their bytes: nothing lives, is set or is lent.
+    /// The memory of a text of no nodes.
     #[tactic(auto, unfolding(crate::specs::State::sizes))]
-    pub fn new(variables: Vec<Variable>, bytes: Vec<Option<u8>>) -> FrameMemory
-        ensures value { result ≡ record { variables = variables.items; bytes = bytes.items; chunks = []; lent = 0; steps = 0; born = 1 } }
-        ensures sizes { sizes result ≡ (length variables.items, length bytes.items) }
+    pub fn new(alloc: Global) -> FrameMemory
+        ensures value { result ≡ start [] }
+        ensures sizes { sizes result ≡ [] }
     {
         FrameMemory {
-            variable_list: variables,
-            byte_list: bytes,
+            local_list: Vec::new(alloc),
             chunk_list: ArrayVec::new(),
+            run: 1,
             next: 0,
             taken: 0,
             next_object: 1,
         }
     }
 
-    /// Begins a run anew, with these variables and bytes: nothing is lent, and no step is taken.
-    #[tactic(auto, unfolding(crate::specs::State::sizes))]
-    pub fn restart(&mut self, variables: &[Variable], bytes: &[Option<u8>])
-        requires fits { sizes self.old ≡ (length variables.now, length bytes.now) }
-        ensures value { self.new ≡ record { variables = variables.now; bytes = bytes.now; chunks = []; lent = 0; steps = 0; born = 1 } }
+    /// One node more, whose objects have so many bytes.
+    #[tactic(auto, using(crate::proofs::Slots::sizes_more))]
+    pub fn add(&mut self, alloc: Global, size: u32) -> Result<(), AllocError>
+        ensures value { IfOk result (λ _. self.new ≡ with_node size self.old) }
+        ensures sizes { IfOk result (λ _. sizes self.new ≡ sizes self.old ++ size ∷ []) }
+    {
+        self.add_node(alloc, size)?;
+        Ok(())
+    }
+
+    fn add_node(&mut self, alloc: Global, size: u32) -> Result<(), AllocError>
+        ensures { IfOk result (λ _. self.new ≡ with_node size self.old) }
+    {
+        let bytes = vec![in alloc; None; size as usize]?;
+        self.local_list.push(Local {
+            bytes,
+            points: None,
+            number: 0,
+            run: 0,
+        })?;
+        Ok(())
+    }
+
+    /// Begins a run anew: nothing lives or is lent, and no step is taken. It takes as long for a text of any size.
+    #[tactic(auto, using(crate::proofs::Slots::sizes_at_rest), unfolding(crate::specs::State::sizes))]
+    pub fn restart(&mut self)
+        ensures value { self.new ≡ start (sizes self.old) }
         ensures sizes { sizes self.new ≡ sizes self.old }
     {
-        self.variable_list.copy_from_slice(variables);
-        self.byte_list.copy_from_slice(bytes);
+        self.run = next_run(&mut self.local_list, self.run);
         self.chunk_list.clear();
         self.next = 0;
         self.taken = 0;
@@ -77,10 +89,11 @@ impl FrameMemory {
     /// Takes back all chunks that are lent.
     #[tactic(auto, unfolding(crate::specs::State::sizes))]
     pub fn take_back_all(&mut self)
-        ensures value { self.new ≡ record self.old { chunks = [] } }
+        ensures value { self.new ≡ take_back_all self.old }
         ensures sizes { sizes self.new ≡ sizes self.old }
     {
         self.chunk_list.clear();
+        self.next = 0;
     }
 
     /// Counts a step.
@@ -106,89 +119,79 @@ impl FrameMemory {
         self.chunk_list.len() as u32
     }
 
-    // What a node declares.
-    fn variable(&self, node: u32) -> Variable
-        ensures { result ≡ variable self.now node }
-    {
-        self.variable_list
-            .get(node as usize)
-            .copied()
-            .unwrap_or(NO_VARIABLE)
-    }
-
-    #[tactic(auto, unfolding(crate::specs::State::sizes))]
-    fn set_variable(&mut self, node: u32, to: Variable)
-        ensures value { self.new ≡ with_variable self.old node to }
-        ensures sizes { sizes self.new ≡ sizes self.old }
-    {
-        if (node as usize) < self.variable_list.len() {
-            self.variable_list[node as usize] = to;
-        }
-    }
-
     /// A new object of the declaration with this node, of which nothing is set (C11 6.2.4, 6.7.9).
-    #[tactic(auto, unfolding(crate::specs::State::sizes))]
+    #[tactic(auto, using(crate::proofs::Slots::sizes_declare))]
     pub fn declare(&mut self, node: u32)
         ensures value { self.new ≡ declare node self.old }
         ensures sizes { sizes self.new ≡ sizes self.old }
     {
-        let variable = self.variable(node);
-        let number = Some(self.next_object);
-        self.next_object = self.next_object.wrapping_add(1);
-        self.set_variable(
-            node,
-            Variable {
-                number,
-                points: None,
-                ..variable
-            },
-        );
-        unset(&mut self.byte_list, variable.from, variable.size);
+        let number = self.next_object;
+        self.next_object = number.wrapping_add(1);
+        let run = self.run;
+        if (node as usize) < self.local_list.len() {
+            begin(&mut self.local_list[node as usize], run, number);
+        }
     }
 
     /// The object of the declaration with this node lives no longer.
-    #[tactic(auto, unfolding(crate::specs::State::sizes))]
+    #[tactic(auto, using(crate::proofs::Slots::sizes_end_life))]
     pub fn end_life(&mut self, node: u32)
         ensures value { self.new ≡ end_life node self.old }
         ensures sizes { sizes self.new ≡ sizes self.old }
     {
-        let variable = self.variable(node);
-        self.set_variable(
-            node,
-            Variable {
-                number: None,
-                points: None,
-                ..variable
-            },
-        );
+        let run = self.run;
+        if (node as usize) < self.local_list.len() {
+            end(&mut self.local_list[node as usize], run);
+        }
     }
 
     /// Sets the pointer variable that a node declares.
-    #[tactic(auto, unfolding(crate::specs::State::sizes))]
+    #[tactic(auto, using(crate::proofs::Slots::sizes_hold))]
     pub fn hold(&mut self, node: u32, pointer: Pointer)
         ensures value { self.new ≡ hold node pointer self.old }
         ensures sizes { sizes self.new ≡ sizes self.old }
     {
-        let variable = self.variable(node);
-        let points = Some(pointer);
-        self.set_variable(node, Variable { points, ..variable });
+        let run = self.run;
+        if (node as usize) < self.local_list.len() {
+            hold(&mut self.local_list[node as usize], run, pointer);
+        }
     }
 
     /// The pointer in the pointer variable that a node declares, where it is set.
     pub fn held(&self, node: u32) -> Option<Pointer>
-        ensures { result ≡ (variable self.now node).points }
+        ensures { result ≡ points_of (slot self.now node).life }
     {
-        self.variable(node).points
+        let local = self.local_list.as_slice().get(node as usize)?;
+        if local.run == self.run {
+            local.points
+        } else {
+            None
+        }
     }
 
     /// The start of the object that the declaration with this node made last; of none where that lives no longer.
     pub fn start_of(&self, node: u32) -> Pointer
         ensures { result ≡ start_of self.now node }
     {
-        let number = number_or_none(self.variable(node).number);
+        let number = self.number(node);
         Pointer {
             object: Object::Declared { node, number },
             offset: 0,
+        }
+    }
+
+    fn number(&self, node: u32) -> u64
+        ensures { result ≡ state.number_of (slot self.now node).life }
+    {
+        match self.local_list.as_slice().get(node as usize) {
+            Some(local) => {
+                if local.run == self.run {
+                    local.number
+                } else {
+                    0
+                }
+            }
+            None => 0,
         }
     }
 }

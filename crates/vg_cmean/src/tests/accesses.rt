@@ -2,8 +2,43 @@
 
 use super::*;
 
+const TWO: &str = "struct two { uint8_t a[6]; uint8_t b[6]; }; ";
+
 // `@` stands before the lvalue, or before the index where the index alone is too far.
-const OUTSIDE: [(&str, &str); 25] = [
+const OUTSIDE: [(&str, &str); 43] = [
+    (TWO, "struct two v; @v.a[6] = 1; return 0;"),
+    (TWO, "struct two v; v.b[0] = 1; return @v.a[6];"),
+    (TWO, "struct two v; v.a[5] = 1; return @v.b[-1];"),
+    (
+        TWO,
+        "struct two v; struct two *q = &v; @q->a[6] = 1; return 0;",
+    ),
+    (TWO, "struct two v[2]; v[1].a[0] = 1; return @v[0].b[6];"),
+    (TWO, "struct two v[2]; v[1].a[0] = 1; return @v[0].a[12];"),
+    (TWO, "struct two v[2]; v[0].b[0] = 1; return @(v[1].a)[-6];"),
+    (TWO, "struct two v; uint8_t *q = &@v.a[6]; return 0;"),
+    (TWO, "struct two v; uint8_t *q = &(@v.a[6]); return 0;"),
+    (TWO, "struct two v; uint8_t *q = &@v.b[-1]; return 0;"),
+    (TWO, "struct two v; v.b[0] = 1; return *&@v.a[6];"),
+    (TWO, "struct two v; uint8_t *q = &v.b[6]; return @*q;"),
+    (TWO, "struct two v[2]; uint8_t *q = &@v[0].b[6]; return 0;"),
+    (TWO, "struct two v[2]; uint8_t *q = &@v[2].a[0]; return 0;"),
+    (
+        TWO,
+        "struct two v[2]; struct two *q = &v[2]; return @q->a[0];",
+    ),
+    (
+        TWO,
+        "struct two *e = packet_borrow(13); uint8_t *q = &@e->b[6]; return 0;",
+    ),
+    (
+        TWO,
+        "struct two *e = packet_borrow(12); packet_return(e); uint8_t *q = &@e->b[6]; return 0;",
+    ),
+    (
+        TWO,
+        "struct two *e = packet_borrow(6); uint8_t *q = &e->b[1]; return @*q;",
+    ),
     ("", "int a[2]; a[0] = 1; return @a[2];"),
     ("", "int a[2]; return @a[-1];"),
     ("", "int a[2]; @a[2] = 5; return 0;"),
@@ -45,7 +80,7 @@ const OUTSIDE: [(&str, &str); 25] = [
         BIG,
         "uint8_t x; struct big *q = (struct big *)&x; for (int i = 0; i < 66; i++) q = &q[@-262144]; return 1;",
     ),
-    ("", "int a[2]; int *q = &a[-1]; return @*q;"),
+    ("", "int a[2]; int *q = &@a[-1]; return *q;"),
     ("", "uint8_t a[65536]; return @a[65536];"),
     (
         "",

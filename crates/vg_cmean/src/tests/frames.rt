@@ -437,13 +437,66 @@ fn sum_of_ones(alloc: Global, count: u32) -> Result<String, Fail> {
     Ok(text)
 }
 
+// A text with so many declarations, each from the one before.
+fn declarations(alloc: Global, count: u32) -> Result<String, Fail> {
+    let mut text = String::new(alloc);
+    text.push_str("int nf_process(uint16_t port, uint64_t now) { int x0 = 7; ")?;
+    for n in 1..count {
+        let before = n - 1;
+        text.push_str(&format!(in alloc; "int x{n} = x{before}; ")?)?;
+    }
+    let last = count.max(1) - 1;
+    text.push_str(&format!(in alloc; "return x{last}; }}")?)?;
+    Ok(text)
+}
+
+// An expression in so many parentheses.
+fn in_parens(alloc: Global, count: u32, inner: &str) -> Result<String, Fail> {
+    let mut text = String::new(alloc);
+    for _paren in 0..count {
+        text.push('(')?;
+    }
+    text.push_str(inner)?;
+    for _paren in 0..count {
+        text.push(')')?;
+    }
+    Ok(text)
+}
+
+// A function `f0`, 71 more that each return a call of the one before in 11 parentheses, and `nf_process` with one in so many.
+fn calls_in_parens(alloc: Global, parens: u32) -> Result<String, Fail> {
+    let mut text = String::new(alloc);
+    text.push_str("int f0(int x) { return x; } ")?;
+    for n in 1..72u32 {
+        let before = n - 1;
+        let called = in_parens(alloc, 11, format!(in alloc; "f{before}(x)")?.as_str())?;
+        text.push_str(format!(in alloc; "int f{n}(int x) {{ return {called}; }} ")?.as_str())?;
+    }
+    let called = in_parens(alloc, parens, "f71(5)")?;
+    text.push_str(format!(in alloc; "{HEAD}return {called}; }}")?.as_str())?;
+    Ok(text)
+}
+
+#[test]
+fn chains_nest_nothing(rt: HostRuntime) -> Result<(), Fail> {
+    let alloc = rt.alloc();
+    let mut frame = FRAME;
+    let sum = run(alloc, &sum_of_ones(alloc, 2000)?, &mut frame)?;
+    assert_eq!(rt; sum.as_str(), "ret 2000 steps 1 left 0");
+    let declared = run(alloc, &declarations(alloc, 334)?, &mut frame)?;
+    assert_eq!(rt; declared.as_str(), "ret 7 steps 1 left 0");
+    Ok(())
+}
+
+// The block of `f0`, its statement and the expression there are 3 constructs; each other function has 14, with its parentheses; and `nf_process` has 3:
+// together 1,000, and one more with one pair of parentheses more.
 #[test]
 fn texts_that_nest_too_deep_get_no_machine(rt: HostRuntime) -> Result<(), Fail> {
     let alloc = rt.alloc();
     let mut frame = FRAME;
-    let deep = run(alloc, &sum_of_ones(alloc, 990)?, &mut frame)?;
-    assert_eq!(rt; deep.as_str(), "ret 990 steps 1 left 0");
-    let text = sum_of_ones(alloc, 2000)?;
+    let deep = run(alloc, &calls_in_parens(alloc, 0)?, &mut frame)?;
+    assert_eq!(rt; deep.as_str(), "ret 5 steps 145 left 0");
+    let text = calls_in_parens(alloc, 1)?;
     let Ok(unit) = unit_of(alloc, text.as_str())? else {
         return Err(Fail::from("not typed"));
     };

@@ -2,7 +2,52 @@
 
 use super::*;
 
-const VARIABLES: [(&str, &str, i32, u32); 33] = [
+const TWO: &str = "struct two { uint8_t a[6]; uint8_t b[6]; }; ";
+
+const VARIABLES: [(&str, &str, i32, u32); 41] = [
+    (
+        TWO,
+        "struct two v; v.b[0] = 3; uint8_t *q = v.a; return q[6];",
+        3,
+        2,
+    ),
+    (
+        TWO,
+        "struct two v[2]; v[1].a[5] = 3; return v[1].a[5];",
+        3,
+        2,
+    ),
+    (
+        TWO,
+        "struct two v; v.b[5] = 3; uint8_t *q = &v.b[6]; return q[-1];",
+        3,
+        2,
+    ),
+    (
+        TWO,
+        "struct two v[2]; v[1].b[5] = 3; uint8_t *q = &v[1].b[6]; return q[-1];",
+        3,
+        2,
+    ),
+    (
+        TWO,
+        "struct two v; v.b[0] = 3; uint8_t *q = v.a; q = &q[6]; return *q;",
+        3,
+        3,
+    ),
+    (TWO, "struct two v; v.b[1] = 3; return *&v.b[1];", 3, 2),
+    (
+        TWO,
+        "struct two *e = packet_borrow(12); uint8_t *q = &e->b[6]; int x = q[-12]; packet_return(e); return x;",
+        1,
+        4,
+    ),
+    (
+        TWO,
+        "struct two *e = packet_borrow(4); uint8_t *q = &e->a[5]; packet_return(e); return 7;",
+        7,
+        4,
+    ),
     (
         "",
         "int a[3]; a[2] = 7; int *q = a; return q[2] + *(&a[2]);",
@@ -28,8 +73,8 @@ const VARIABLES: [(&str, &str, i32, u32); 33] = [
         6,
         2,
     ),
-    ("", "int a[2]; int *q = &a[262144]; return 1;", 1, 1),
-    ("", "int a[2]; int *q = &a[-262144]; return 1;", 1, 1),
+    ("", "int a[2]; int *q = a; q = &q[262144]; return 1;", 1, 2),
+    ("", "int a[2]; int *q = a; q = &q[-262144]; return 1;", 1, 2),
     (
         "",
         "int x = 3; int *q = &x; int *r = &*q; *r = 4; return x;",
@@ -114,9 +159,9 @@ const VARIABLES: [(&str, &str, i32, u32); 33] = [
     ),
     (
         "",
-        "int a[2]; a[0] = 8; int *q = &a[-1]; return q[1];",
+        "int a[2]; a[0] = 8; int *q = a; q = &q[-1]; return q[1];",
         8,
-        2,
+        3,
     ),
     ("", "uint8_t a[65536]; a[65535] = 3; return a[65535];", 3, 2),
     (

@@ -1,6 +1,49 @@
-use Rattle.std.proofs.Common.{arith}
+use Rattle.std.proofs.Common.{◌≤◌, ◌+◌, rules, arith, sym, ◌∙◌}
+use Rattle.vg_cmean.proofs.Links.{chain_short, climbs_wrong, begins_chain, begins, step_chain, step_within, step_gives, step_wrong, branch_next}
 use Rattle.vg_cmean.proofs.Turns.{turns_done}
 use Rattle.vg_cmean.proofs.run.+machine.Goals as goal
 
 pub turns-returns-clause-value : goal.turns-returns-clause-value
 turns-returns-clause-value t c = turns_done _ _ _ _ _ _ _ _ _ (omega arith) c.loop-turn.invariant.1
+
+-- ---- a chain from its innermost part on
+
+pub expression-alone-requires : goal.expression-alone-requires
+expression-alone-requires t c =
+    let short : c.foot_of-node.result.links + c.foot_of-node.result.node ≤ c.args.n = chain_short _ _ _ _ _ c.foot_of-node.ensures in
+    let within : c.foot_of-node.result.node ≤ c.args.n = omega arith in search rules
+
+pub expression-returns-in_err-datum-clause-value : goal.expression-returns-in_err-datum-clause-value
+expression-returns-in_err-datum-clause-value t c =
+    let wrong = climbs_wrong _ _ _ _ _ _ _ _ _ c.foot_of-node.ensures c.in_err-datum.ensures.value in search rules
+
+pub expression-loop-link-init : goal.expression-loop-link-init
+expression-loop-link-init t c =
+    (c.in_ok-datum.ensures.sizes, begins_chain _ _ _ _ _ c.foot_of-node.ensures, begins _ _ _ _ _ _ _ _ c.foot_of-node.ensures c.in_ok-datum.ensures.value)
+
+pub expression-link-requires : goal.expression-link-requires
+expression-link-requires t c =
+    let within : c.above-at.result ≤ c.args.n = step_within _ _ _ _ _ _ _ c.loop-link.invariant.1 c.loop-link-test.true c.above-at.ensures in search rules
+
+pub expression-returns-in_err-datum-2-clause-value : goal.expression-returns-in_err-datum-2-clause-value
+expression-returns-in_err-datum-2-clause-value t c =
+    let wrong = step_wrong _ _ _ _ _ _ _ _ _ _ _ _ c.loop-link-test.true c.above-at.ensures c.loop-link.invariant.2 c.in_err-datum-2.ensures.value in search rules
+
+pub expression-loop-link-preserved : goal.expression-loop-link-preserved
+expression-loop-link-preserved t c = (
+  c.in_ok-datum-2.ensures.sizes ∙ c.loop-link.invariant.0,
+  step_chain _ _ _ _ _ _ _ c.loop-link.invariant.1 c.loop-link-test.true c.above-at.ensures,
+  step_gives _ _ _ _ _ _ _ _ _ _ _ c.loop-link-test.true c.above-at.ensures c.loop-link.invariant.2 c.in_ok-datum-2.ensures.value,
+)
+
+-- ---- an `if` that is an `else`
+
+pub branch-loop-branch-preserved : goal.branch-loop-branch-preserved
+branch-loop-branch-preserved t c =
+    let before = c.in-Some.ensures.before in
+    let within = c.loop-branch.invariant.1 in (
+      c.tick-in-loop-branch.ensures.sizes ∙ c.in_ok-condition.ensures.sizes ∙ c.tick.ensures.sizes ∙ c.loop-branch.invariant.0,
+      omega arith,
+      branch_next _ _ _ _ _ _ _ _ _ _ c.in-Some.ensures (sym c.is_true.ensures ∙ c.if-is_true.false) c.tick.ensures.value c.in_ok-condition.ensures.value c.tick-in-loop-branch.ensures.value
+          ∙ c.loop-branch.invariant.2,
+    )

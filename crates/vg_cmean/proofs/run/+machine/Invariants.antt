@@ -1,12 +1,22 @@
-use Rattle.std.proofs.Common.{◌≡◌, ◌+◌, ◌-◌, ◌*◌, ◌^◌, length, drop}
+use Rattle.std.proofs.Common.{◌≡◌, ◌≤◌, ◌+◌, ◌-◌, ◌*◌, ◌^◌, length, drop}
 use Rattle.vg_cmean.specs.Outcomes.{full}
 use Rattle.vg_cmemory.specs.State.{sizes}
 use Rattle.vg_cmean.specs.Meaning as meaning
 use Rattle.vg_cmean.specs.Meaning.{meaning_below}
+use Rattle.vg_cmean.specs.Chains.{IsChain, gives_above, branched_at}
 use Rattle.vg_cmean.proofs.run.+machine.Given as goal
 
 abbrev pub decreases-expression : goal.decreases-expression
-decreases-expression l = 2 ^ 33 * (3 * l.n + 2)
+decreases-expression l = 2 ^ 33 * (3 * l.n + 2) + 1
+
+abbrev pub decreases-alone : goal.decreases-alone
+decreases-alone l = 2 ^ 33 * (3 * l.n + 2)
+
+abbrev pub decreases-linked : goal.decreases-linked
+decreases-linked l = 2 ^ 33 * (3 * l.n + 1) + 7
+
+abbrev pub decreases-link : goal.decreases-link
+decreases-link l = 2 ^ 33 * (3 * l.n + 1) + 6
 
 abbrev pub decreases-statement : goal.decreases-statement
 decreases-statement l = 2 ^ 33 * (3 * l.n + 2)
@@ -33,7 +43,13 @@ abbrev pub decreases-assign : goal.decreases-assign
 decreases-assign l = 2 ^ 33 * (3 * l.n + 1) + 5
 
 abbrev pub decreases-branch : goal.decreases-branch
-decreases-branch l = 2 ^ 33 * (3 * l.n + 1) + 5
+decreases-branch l = 2 ^ 33 * (3 * l.first.node + 1) + 5
+
+abbrev pub decreases-otherwise : goal.decreases-otherwise
+decreases-otherwise l = 2 ^ 33 * (3 * l.n + 1)
+
+abbrev pub decreases-branch-loop-branch : goal.decreases-branch-loop-branch
+decreases-branch-loop-branch l = l.branch.node
 
 abbrev pub decreases-run_all : goal.decreases-run_all
 decreases-run_all l = 2 ^ 33 * (3 * l.n + 1) + 5
@@ -64,9 +80,21 @@ decreases-part_value l = 2 ^ 33 * (3 * l.n) + 1
 
 abbrev pub invariant-run_all-loop-p : goal.invariant-run_all-loop-p
 invariant-run_all-loop-p l =
-    (sizes l.memory ≡ sizes l.initial.memory) × (meaning.run_all (meaning_below l.unit l.n) (drop l.p-index l.list) (full l.memory l.frame) ≡ meaning.run_all (meaning_below l.unit l.n) l.list (full l.initial.memory l.initial.frame))
+    (sizes l.memory ≡ sizes l.initial.memory) × (meaning.run_all (meaning_below l.env.unit.now l.n) (drop l.p-index l.list) (full l.memory l.frame) ≡ meaning.run_all (meaning_below l.env.unit.now l.n) l.list (full l.initial.memory l.initial.frame))
 
 abbrev pub invariant-turns-loop-turn : goal.invariant-turns-loop-turn
 invariant-turns-loop-turn l =
-    (sizes l.memory ≡ sizes l.initial.memory) × (meaning.turns l.unit (4096 - l._turn) l.n (meaning_below l.unit l.n l.body) l.counter l.bound l.step (full l.memory l.frame)
-    ≡ meaning.turns l.unit 4096 l.n (meaning_below l.unit l.n l.body) l.fn.first l.bound l.step (full l.initial.memory l.initial.frame))
+    (sizes l.memory ≡ sizes l.initial.memory) × (meaning.turns l.env.unit.now (4096 - l._turn) l.n (meaning_below l.env.unit.now l.n l.body) l.counter l.bound l.step (full l.memory l.frame)
+    ≡ meaning.turns l.env.unit.now 4096 l.n (meaning_below l.env.unit.now l.n l.body) l.fn.first l.bound l.step (full l.initial.memory l.initial.frame))
+
+abbrev pub invariant-expression-loop-link : goal.invariant-expression-loop-link
+invariant-expression-loop-link l =
+    (sizes l.memory ≡ sizes l.fn.memory)
+    × IsChain l.env.unit.now l.env.above.now l.n (l.links - l._link) l.at
+    × (gives_above l.env.unit.now l.env.above.now (l.links - l._link) l.at l.datum (full l.memory l.frame) ≡ (meaning.meaning l.env.unit.now l.n).gives (full l.fn.memory l.fn.frame))
+
+abbrev pub invariant-branch-loop-branch : goal.invariant-branch-loop-branch
+invariant-branch-loop-branch l =
+    (sizes l.memory ≡ sizes l.fn.memory)
+    × (l.branch.node ≤ l.fn.first.node)
+    × (branched_at l.env.unit.now l.branch (full l.memory l.frame) ≡ branched_at l.env.unit.now l.fn.first (full l.fn.memory l.fn.frame))

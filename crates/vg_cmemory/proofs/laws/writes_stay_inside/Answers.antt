@@ -1,9 +1,13 @@
-use Rattle.vg_cmemory.specs.Access.{set_to, itself}
-use Rattle.vg_cmemory.proofs.Outside.{written_outside}
+use Rattle.vg_cmemory.proofs.Gone.{writes_stay_inside}
+use Rattle.vg_cmemory.proofs.Outside.{frame_writes}
+use Rattle.vg_cmemory.proofs.Seen.{writes_are_seen}
 use Rattle.vg_cmemory.proofs.laws.writes_stay_inside.Goals as goal
 
-pub returns-clause-variables : goal.returns-clause-variables
-returns-clause-variables c = written_outside set_to
+pub returns-clause-objects : goal.returns-clause-objects
+returns-clause-objects c = writes_stay_inside
 
 pub returns-clause-frame : goal.returns-clause-frame
-returns-clause-frame c = written_outside itself
+returns-clause-frame c = frame_writes
+
+pub returns-clause-seen : goal.returns-clause-seen
+returns-clause-seen c = writes_are_seen

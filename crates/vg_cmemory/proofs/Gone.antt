@@ -1,0 +1,91 @@
+-- Laws of slots that change, and of tests.
+use Rattle.std.proofs.Common.{◌≡◌, ◌≢◌, ℕ, zero, suc, ◌<◌, nat_eq, false, true, Bool, List, [], ◌∷◌, slice_set, slice_index_or, Option, Some, None, IfOk, refl, ap, subst, ◌∙◌, arith}
+use Rattle.std.proofs.lemmas.Grind.{common_steps}
+use Rattle.vg_core.specs.declared.reason.Reason.{Reason}
+use Rattle.vg_cmemory.specs.declared.object.Object.{Object}
+use Rattle.vg_cmemory.specs.declared.object.Object.TheVariants as objects
+use Rattle.vg_cmemory.specs.declared.object.Room.{Room}
+use Rattle.vg_cmemory.specs.State.{Own, State, Slot, no_slot, made, ended, slot, declare}
+use Rattle.vg_cmemory.specs.Access.{Gone, content, content_of_life, bytes_of_word, in_own, in_frame, store_at, written_in, put_in_slot}
+use Rattle.vg_cmemory.specs.Tests.{Test, test, first_against, unless}
+use Rattle.vg_cmemory.specs.Laws.{AllHold, NothingAgainst, KeepsOthers, WritesStayInside, StaysGone, EndsLife}
+
+-- ---- tests
+
+first_holds : (b : Bool) (r : Reason) (ts : List Test) → first_against (test r b ∷ ts) ≡ None → (b ≡ true) × (first_against ts ≡ None)
+first_holds true r ts e = (refl, e)
+first_holds false r ts e = cc
+
+all_hold : (tests : List Test) → first_against tests ≡ None → AllHold tests
+all_hold [] e = tt
+all_hold (t ∷ ts) e = let h = first_holds t.holds t.reason ts e in (h.0, all_hold ts h.1)
+
+none_against : (tests : List Test) → AllHold tests → first_against tests ≡ None
+none_against [] h = refl
+none_against (t ∷ ts) h = rw (h.0) (none_against ts h.1)
+
+pub nothing_against : NothingAgainst
+nothing_against tests = (all_hold tests, none_against tests)
+
+-- ---- slots
+
+slot_other : (slots : List Slot) (i k : ℕ) (to : Slot) → i ≢ k → slice_index_or (slice_set slots i to) k no_slot ≡ slice_index_or slots k no_slot
+slot_other [] i k to ne = refl
+slot_other (s ∷ ss) zero zero to ne = absurd (ne refl)
+slot_other (s ∷ ss) zero (suc k) to ne = refl
+slot_other (s ∷ ss) (suc i) zero to ne = refl
+slot_other (s ∷ ss) (suc i) (suc k) to ne = slot_other ss i k to (λ e. ne (ap suc e))
+
+-- a slot that is changed, or the end of the list
+slot_changed : (slots : List Slot) (i : ℕ) (P : Slot → Type 0) (to : Slot) → P to → P no_slot → P (slice_index_or (slice_set slots i to) i no_slot)
+slot_changed [] i P to h none = none
+slot_changed (s ∷ ss) zero P to h none = h
+slot_changed (s ∷ ss) (suc i) P to h none = slot_changed ss i P to h none
+
+pub ends_life : EndsLife
+ends_life own node number = slot_changed own.slots node (λ s. content_of_life s.life number ≡ Gone) (ended (slot own node)) refl refl
+
+later : (born number : ℕ) → number < born → nat_eq born number ≡ false
+later born number h = grind (arith, common_steps)
+
+made_gone : (own : Own) (number : ℕ) (s : Slot) → number < own.born → content_of_life (made own.born s).life number ≡ Gone
+made_gone own number s h = rw (later own.born number h) refl
+
+by_place : (own : Own) (node k number : ℕ) (same : Bool) → nat_eq node k ≡ same → number < own.born → content own (objects.Declared k number) ≡ Gone → content (declare node own) (objects.Declared k number) ≡ Gone
+by_place own node k number true e h gone =
+    let at : node ≡ k = grind (arith, common_steps) in
+    subst (λ (j : ℕ). content_of_life (slice_index_or (slice_set own.slots node (made own.born (slot own node))) j no_slot).life number ≡ Gone) at
+    (slot_changed own.slots node (λ s. content_of_life s.life number ≡ Gone) (made own.born (slot own node)) (made_gone own number (slot own node) h) refl)
+by_place own node k number false e h gone =
+    let ne : node ≢ k = grind (arith, common_steps) in
+    ap (λ (s : Slot). content_of_life s.life number) (slot_other own.slots node k (made own.born (slot own node)) ne) ∙ gone
+
+pub stays_gone : StaysGone
+stays_gone own node (objects.Declared k number) h gone = by_place own node k number (nat_eq node k) refl h gone
+stays_gone own node (objects.Chunk number) h gone = gone
+
+-- ---- writes
+
+keeps : (s : State) (node number at : ℕ) (new : List ℕ) (other : Object) →
+    KeepsOthers s (objects.Declared node number) other (record s { own = written_in node at new s.own })
+keeps s node number at new (objects.Declared k m) ne =
+    ap (λ (x : Slot). content_of_life x.life m) (slot_other s.own.slots node k (put_in_slot at new (slot s.own node)) (λ e. ne (ap Some e)))
+keeps s node number at new (objects.Chunk m) ne = refl
+
+checked_own : (s : State) (r : Option Reason) (node number at : ℕ) (new : List ℕ) (other : Object) →
+    IfOk (in_own s (unless r (written_in node at new s.own))) (λ t. KeepsOthers s (objects.Declared node number) other t)
+checked_own s None node number at new other = keeps s node number at new other
+checked_own s (Some r) node number at new other = tt
+
+checked_frame : (s : State) (r : Option Reason) (number : ℕ) (frame : List ℕ) (other : Object) →
+    IfOk (in_frame s (unless r frame)) (λ t. KeepsOthers s (objects.Chunk number) other t)
+checked_frame s None number frame other = λ ne. refl
+checked_frame s (Some r) number frame other = tt
+
+stored_at : (s : State) (object other : Object) (room : Option Room) (at size align word : ℕ) →
+    IfOk (store_at s object room at size align word) (λ t. KeepsOthers s object other t)
+stored_at s (objects.Declared node number) other room at size align word = checked_own s _ node number at (bytes_of_word size word) other
+stored_at s (objects.Chunk number) other room at size align word = checked_frame s _ number _ other
+
+pub writes_stay_inside : WritesStayInside
+writes_stay_inside s p room size align word other = stored_at s p.object other room p.offset size align word

@@ -1,4 +1,0 @@
-use Rattle.vg_cmemory.proofs.bytes.+set_bytes.Given as goal
-
-abbrev pub decreases-set_bytes : goal.decreases-set_bytes
-decreases-set_bytes l = l.size
