@@ -1,0 +1,12 @@
+pub mod Tables
+pub mod State
+pub mod Answers
+pub mod Effects
+pub mod Rows
+pub mod Fields
+pub mod Expressions
+pub mod Shape
+pub mod Lawful
+pub mod Opening
+pub mod Agreement
+pub mod Library

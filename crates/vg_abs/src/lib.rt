@@ -1,0 +1,16 @@
+//! The library as tables: what its states are, what each call means, and the trait that every library meets.
+#![tactic(auto)]
+
+mod bytes;
+mod keyed;
+mod library;
+mod numbered;
+mod object;
+mod state;
+
+pub use bytes::Bytes;
+pub use keyed::Keyed;
+pub use library::Lib;
+pub use numbered::Numbered;
+pub use object::{LinkTable, Object, PrefixTable, VectorTable};
+pub use state::LibState;
