@@ -1,6 +1,6 @@
 -- What rules and premises say. Every value is a whole number below 2 ^ 64, and all operands are evaluated. Frame, port, time, cells by
 -- their index and `has` stand in no rule and no premise; they count 0 here.
-use Rattle.std.specs.Prelude.{ℕ, ◌+◌, ◌-◌, ◌*◌, ◌/◌, ◌%◌, ◌^◌, ◌≢◌, ◌==◌, nat_lt, nat_le, not, ◌&&◌, ◌||◌, Bool, List, [], ◌∷◌, ◌++◌, map, fold, slice_get, unwrap_or, bit_and, bit_or, bit_xor, Option, Some, None, if◌then◌else◌}
+use Rattle.std.specs.Prelude.{ℕ, ◌+◌, ◌-◌, ◌*◌, ◌/◌, ◌%◌, ◌^◌, ◌≢◌, ◌==◌, nat_lt, nat_le, not, ◌&&◌, ◌||◌, Bool, zero, suc, List, [], map, fold, slice_get, unwrap_or, bit_and, bit_or, bit_xor, Option, Some, None, if◌then◌else◌}
 use Rattle.vg_stree.specs.declared.code.Operator.{Operator}
 use Rattle.vg_stree.specs.declared.code.Operator.TheVariants as operators
 use Rattle.vg_stree.specs.declared.code.SExpr.{SExpr}
@@ -51,41 +51,38 @@ pub record Scope : Type 0 where
 abbrev pub value_at : List ℕ → ℕ → ℕ
 value_at values number = unwrap_or (slice_get values number) 0
 
--- a meaning of an expression: its value in each scope
-abbrev pub Meaning : Type 0
-Meaning = Scope → ℕ
+-- the values of expressions by their numbers, in each scope
+abbrev pub Values : Type 0
+Values = ℕ → Scope → ℕ
 
--- the meaning of an earlier expression; one that doesn't stand before is 0
-abbrev pub meant : Option Meaning → Meaning
-meant None scope = 0
-meant (Some meaning) scope = meaning scope
+-- the value of an expression, by those of the expressions before it
+abbrev pub value_by : Syntax → Values → SExpr → Scope → ℕ
+value_by code known (expressions.Number value) scope = value
+value_by code known (expressions.Config number) scope = value_at scope.numbers number
+value_by code known (expressions.Local number) scope = value_at scope.names number
+value_by code known (expressions.CellField field) scope = value_at scope.cell field
+value_by code known (expressions.Parens inner) scope = known inner scope
+value_by code known (expressions.Not operand) scope = truth (not (is_true (known operand scope)))
+value_by code known (expressions.Chain first rest) scope =
+    fold (λ left operation. operate operation.operator left (known operation.operand scope)) (known first scope) (listed code.operations rest)
+value_by code known (expressions.Choose condition chosen otherwise) scope = if is_true (known condition scope) then known chosen scope else known otherwise scope
+value_by code known (expressions.Call body arguments) scope = known body (record scope { names = map (λ argument. known argument scope) (listed code.items arguments) })
+value_by code known _ scope = 0
 
-abbrev pub part : List Meaning → ℕ → Meaning
-part known number = meant (slice_get known number)
+-- the value of an expression that may be there, and 0 where there is none
+abbrev pub value_in : Syntax → Values → Option SExpr → Scope → ℕ
+value_in code known None scope = 0
+value_in code known (Some expression) scope = value_by code known expression scope
 
--- the meaning of an expression, where those of the expressions before it are known
-abbrev pub meaning_of : Syntax → List Meaning → SExpr → Meaning
-meaning_of code known (expressions.Number value) scope = value
-meaning_of code known (expressions.Config number) scope = value_at scope.numbers number
-meaning_of code known (expressions.Local number) scope = value_at scope.names number
-meaning_of code known (expressions.CellField field) scope = value_at scope.cell field
-meaning_of code known (expressions.Parens inner) scope = part known inner scope
-meaning_of code known (expressions.Not operand) scope = truth (not (is_true (part known operand scope)))
-meaning_of code known (expressions.Chain first rest) scope =
-    fold (λ left operation. operate operation.operator left (part known operation.operand scope)) (part known first scope) (listed code.operations rest)
-meaning_of code known (expressions.Choose condition chosen otherwise) scope = if is_true (part known condition scope) then part known chosen scope else part known otherwise scope
-meaning_of code known (expressions.Call body arguments) scope =
-    part known body (record scope { names = map (λ argument. part known argument scope) (listed code.items arguments) })
-meaning_of code known _ scope = 0
+-- the values of the expressions before a number; the others count 0
+unfoldable pub values_before : Syntax → ℕ → Values
+values_before code zero number scope = 0
+values_before code (suc count) number scope =
+    if number == count then value_in code (values_before code count) (slice_get code.expressions count) scope else values_before code count number scope
 
--- the meanings that are known, and those of the expressions behind
-abbrev pub meanings_from : Syntax → List Meaning → List SExpr → List Meaning
-meanings_from code known [] = known
-meanings_from code known (one ∷ more) = meanings_from code (known ++ meaning_of code known one ∷ []) more
-
--- the value of an expression
-abbrev pub value_of : Syntax → ℕ → Scope → ℕ
-value_of code number scope = part (meanings_from code [] code.expressions) number scope
+-- the value of an expression, by those of the expressions before it
+unfoldable pub value_of : Syntax → ℕ → Scope → ℕ
+value_of code number scope = values_before code (suc number) number scope
 
 -- a premise holds where it isn't 0
 abbrev pub PremiseHolds : Syntax → List ℕ → ℕ → Type 0

@@ -34,8 +34,6 @@ abbrev pub values_in : List Field → List ℕ → List ℕ
 values_in [] bytes = []
 values_in (field ∷ fields) bytes = value_in field.of (take (field_bytes field.of) bytes) ∷ values_in fields (drop (field_bytes field.of) bytes)
 
--- a struct's bytes with a number in one of its fields
-abbrev pub with_value : List Field → ℕ → ℕ → List ℕ → List ℕ
-with_value [] number value bytes = bytes
-with_value (field ∷ fields) zero value bytes = bytes_in field.of value ++ drop (field_bytes field.of) bytes
-with_value (field ∷ fields) (suc number) value bytes = take (field_bytes field.of) bytes ++ with_value fields number value (drop (field_bytes field.of) bytes)
+-- a struct's bytes with a number in the field at a place
+abbrev pub with_field : ℕ → FieldType → ℕ → List ℕ → List ℕ
+with_field place of number bytes = take place bytes ++ (bytes_in of number ++ drop (field_bytes of) (drop place bytes))

@@ -5,6 +5,7 @@ pub mod Effects
 pub mod Rows
 pub mod Fields
 pub mod Expressions
+pub mod Scopes
 pub mod Shape
 pub mod Lawful
 pub mod Opening

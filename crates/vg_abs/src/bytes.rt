@@ -1,5 +1,5 @@
 //! Bytes as a value.
-ghost use Rattle.std.specs.Prelude.{◌≡◌, IfOk};
+ghost use Rattle.std.specs.Prelude.{◌≡◌, IfOk, replicate};
 
 use std::alloc::Global;
 use std::marker::Model;
@@ -25,6 +25,15 @@ impl Bytes {
         ensures { IfOk result (λ made. made ≡ bytes.now) }
     {
         let list = Vec::from_slice(alloc, bytes)?;
+        Ok(Bytes { list })
+    }
+
+    /// So many bytes, all 0.
+    pub fn zeros(alloc: Global, count: u64) -> Result<Bytes, Memory>
+        ensures { IfOk result (λ made. made ≡ replicate count 0) }
+    {
+        let mut list = Vec::new(alloc);
+        list.resize(count as usize, 0)?;
         Ok(Bytes { list })
     }
 

@@ -2,15 +2,21 @@
 #![tactic(auto)]
 
 mod bytes;
+mod evaluation;
 mod keyed;
 mod library;
 mod numbered;
 mod object;
+mod start;
 mod state;
+#[cfg(test)]
+mod tests;
 
 pub use bytes::Bytes;
+pub use evaluation::{Scope, operate, value};
 pub use keyed::Keyed;
 pub use library::Lib;
 pub use numbered::Numbered;
 pub use object::{LinkTable, Object, PrefixTable, VectorTable};
+pub use start::opening;
 pub use state::LibState;

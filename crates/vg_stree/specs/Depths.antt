@@ -1,7 +1,8 @@
 -- How deep a specification nests: constructs in one another, and the body of a define at its call. A construct is what stands in
 -- parentheses, brackets or braces, an argument, what stands after a `!`, and the second and third operand of `?:`. The operators of a
 -- chain and the statements of a block add nothing, however many there are.
-use Rattle.std.specs.Prelude.{ℕ, ◌+◌, ◌≤◌, max, List, [], ◌∷◌, ◌++◌, fold, All, slice_get, unwrap_or}
+use Rattle.std.specs.Prelude.{ℕ, ◌≡◌, ◌+◌, ◌≤◌, max, List, [], ◌∷◌, ◌++◌, fold, All, slice_get, unwrap_or, Bool, true, nat_le}
+use Rattle.std.specs.List.{list_all}
 use Rattle.vg_stree.specs.declared.code.Parts.{Parts}
 use Rattle.vg_stree.specs.declared.code.SExpr.{SExpr}
 use Rattle.vg_stree.specs.declared.code.SExpr.TheVariants as expressions
@@ -83,8 +84,22 @@ statement_depths_from code exprs known (one ∷ more) = statement_depths_from co
 abbrev pub statement_depths : Syntax → List ℕ
 statement_depths code = statement_depths_from code (expression_depths code) [] code.statements
 
--- nothing nests too deep: no expression, no statement, and not the block of the step
+-- how many arguments a call of a define may have, so that they find their place on the stack
+abbrev pub most_arguments : ℕ
+most_arguments = 64
+
+-- how many arguments a call has; any other expression has none
+abbrev pub argument_count : SExpr → ℕ
+argument_count (expressions.Call body arguments) = arguments.count
+argument_count _ = 0
+
+-- whether an expression has no more
+abbrev pub has_few_arguments : SExpr → Bool
+has_few_arguments expression = nat_le (argument_count expression) most_arguments
+
+-- nothing nests too deep (no expression, no statement, and not the block of the step), and no call has too many arguments
 pub record NestsLittle (code : Syntax) (step : Parts) : Type 0 where
   pub each_expression : All (λ depth. depth ≤ deepest_nesting) (expression_depths code)
   pub each_statement : All (λ depth. depth ≤ deepest_nesting) (statement_depths code)
   pub whole : block_depth code (statement_depths code) step ≤ deepest_nesting
+  pub arguments : list_all has_few_arguments code.expressions ≡ true

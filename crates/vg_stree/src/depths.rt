@@ -1,7 +1,8 @@
 //! How deep a specification nests.
 ghost use Rattle.std.specs.Prelude.{◌≡◌, ◌≤◌, ◌++◌, ◌∷◌, [], All, IfOk, OnOk};
+ghost use Rattle.std.specs.List.{list_all};
 ghost use Rattle.vg_stree.specs.Depths as depths;
-ghost use Rattle.vg_stree.specs.Depths.{deepest_nesting, NestsLittle};
+ghost use Rattle.vg_stree.specs.Depths.{deepest_nesting, NestsLittle, has_few_arguments};
 
 use crate::code::{Code, Operation, Parts, SExpr, SStmt};
 use std::alloc::Global;
@@ -9,6 +10,9 @@ use vg_parts::Memory;
 
 /// How deep a specification may nest.
 pub const DEEPEST: u32 = 1000;
+
+/// How many arguments a call may have.
+pub const MOST_ARGUMENTS: u32 = 64;
 
 // How deep an earlier one nests.
 fn depth_at(known: &[u16], number: u32) -> u16
@@ -185,10 +189,32 @@ fn of_statements(alloc: Global, code: &Code, expressions: &[u16]) -> Result<Vec<
     Ok(known)
 }
 
-/// Tells that no expression and no statement nests too deep, nor the block of the step.
+// How many arguments a call has.
+fn argument_count(expression: SExpr) -> u32
+    ensures { result ≡ depths.argument_count expression }
+{
+    match expression {
+        SExpr::Call { arguments, .. } => arguments.count,
+        _ => 0,
+    }
+}
+
+// Whether no call has more arguments than it may.
+fn have_few_arguments(expressions: &[SExpr]) -> bool
+    ensures { result ≡ list_all has_few_arguments expressions.now }
+{
+    expressions
+        .iter()
+        .all(|expression| argument_count(*expression) <= MOST_ARGUMENTS)
+}
+
+/// Tells that no expression and no statement nests too deep, nor the block of the step, and that no call has too many arguments.
 pub fn check_nesting(alloc: Global, code: &Code, step: Parts) -> Result<(), Memory>
     ensures { OnOk result (NestsLittle code.now step) }
 {
+    if !have_few_arguments(code.expressions()) {
+        return Err(Memory);
+    }
     let expressions = of_expressions(alloc, code)?;
     let statements = of_statements(alloc, code, &expressions)?;
     if block(code, &statements, step) > DEEPEST {

@@ -2,6 +2,7 @@
 ghost use Rattle.std.specs.Prelude.{◌≡◌, IfOk};
 ghost use Rattle.vg_stree.specs.Specification.{name_of_object};
 ghost use Rattle.vg_stree.specs.Names.{spelled_at};
+ghost use Rattle.vg_stree.specs.Depths.{NestsLittle};
 
 use crate::code::{Code, Parts};
 use crate::depths::check_nesting;
@@ -12,7 +13,7 @@ use std::marker::Model;
 use vg_parts::Memory;
 
 /// A specification: the names that it declares, what they are, its expressions and statements, and the block of its step. It nests at
-/// most 1,000 deep.
+/// most 1,000 deep, and no call has more than 64 arguments.
 #[derive(Drop)]
 pub struct Spec {
     names: Names,
@@ -33,7 +34,7 @@ impl Model for Spec {
 }
 
 impl Spec {
-    /// A specification of these parts. Where it nests more than 1,000 deep, memory is wanted.
+    /// A specification of these parts. Where it nests more than 1,000 deep, or a call has more than 64 arguments, memory is wanted.
     pub fn new(
         alloc: Global,
         names: Names,
@@ -61,7 +62,8 @@ impl Spec {
 
     /// Its expressions and statements.
     pub fn code(&self) -> &Code
-        ensures { result.now ≡ self.now.code }
+        ensures code { result.now ≡ self.now.code }
+        ensures nested { NestsLittle result.now self.now.step }
     {
         &self.written
     }
