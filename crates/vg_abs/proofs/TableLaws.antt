@@ -8,6 +8,7 @@ use Rattle.std.specs.Cmp.Lexicographic.{slice_cmp, nat_list_cmp_total}
 use Rattle.std.specs.FinMap.{IsAntisymmetric, get, insert, from_entries, find, put, same_map, get-from_entries, get-insert, nat_cmp-IsAntisymmetric, slice_cmp-IsAntisymmetric}
 use Rattle.std.specs.FinMap.Entries.{find-put, by_order}
 use Rattle.std.specs.Map.{lookup}
+use Rattle.std.specs.List.{AllZip}
 use Rattle.std.specs.BTreeMap.{is_at, insert_entry}
 
 -- to put an entry into a list is to put it into the map of the list
@@ -17,7 +18,7 @@ insert-put {R = R} total same es k v =
     ∙ sym (get-insert total (from_entries es) k v q ∙ ap (cond (eq_by_cmp R q k) (Some v)) (get-from_entries total es q)))
 
 -- entries whose keys are seen by a function
-abbrev seen : {K L X : Type 0} → (K → L) → K × X → L × X
+abbrev pub seen : {K L X : Type 0} → (K → L) → K × X → L × X
 seen see entry = (see entry.0, entry.1)
 
 put_seen : {K L X : Type 0} (see : K → L) (R : L → L → Ordering) (es : List (K × X)) (k : K) (v : X) → map (seen see) (insert_entry (λ x y. R (see x) (see y)) es k v) ≡ put R (see k) v (map (seen see) es)
@@ -64,3 +65,20 @@ pub key-insert : {K X : Type 0} (see : K → List ℕ) (es new : List (K × X)) 
 key-insert see es new k v is =
     ap (λ xs. from_entries {R = slice_cmp nat_cmp} (map (seen see) xs)) is ∙ ap (λ xs. from_entries {R = slice_cmp nat_cmp} xs) (put_seen see (slice_cmp nat_cmp) es k v)
     ∙ insert-put nat_list_cmp_total (slice_cmp-IsAntisymmetric nat_cmp-IsAntisymmetric) (map (seen see) es) (see k) v
+
+-- entries whose clones are seen as the same are seen as the same
+pub copies-seen : {K L X : Type 0} (see : K → L) (C : K → K → Type 0) (D : X → X → Type 0) (es ns : List (K × X)) → ((x y : K) → C x y → see y ≡ see x) → ((v w : X) → D v w → w ≡ v) →
+    AllZip (λ p q. C p.0 q.0 × D p.1 q.1) es ns → map (seen see) ns ≡ map (seen see) es
+copies-seen see C D [] [] same_key same_value zip = refl
+copies-seen see C D [] (n ∷ ns) same_key same_value zip = absurd zip
+copies-seen see C D (e ∷ es) [] same_key same_value zip = absurd zip
+copies-seen {L = L} {X = X} see C D (e ∷ es) (n ∷ ns) same_key same_value zip =
+    let head : ◌≡◌ {A = L × X} (see n.0, n.1) (see e.0, e.1) = ap (λ (k : L). (k, n.1)) (same_key e.0 n.0 zip.0.0) ∙ ap (λ (x : X). (see e.0, x)) (same_value e.1 n.1 zip.0.1) in
+    ap (λ (x : L × X). x ∷ map (seen see) ns) head ∙ ap (λ xs. seen see e ∷ xs) (copies-seen see C D es ns same_key same_value zip.1)
+
+-- numbers that are equal place by place
+pub zip_same : (xs ys : List ℕ) → AllZip (λ x y. y ≡ x) xs ys → ys ≡ xs
+zip_same [] [] zip = refl
+zip_same [] (y ∷ ys) zip = absurd zip
+zip_same (x ∷ xs) [] zip = absurd zip
+zip_same (x ∷ xs) (y ∷ ys) zip = ap (λ (n : ℕ). n ∷ ys) zip.0 ∙ ap (λ ns. x ∷ ns) (zip_same xs ys zip.1)

@@ -1,7 +1,7 @@
 //! Bytes as a value.
 ghost use Rattle.std.specs.Prelude.{◌≡◌, IfOk, replicate};
 
-use std::alloc::Global;
+use std::alloc::{AllocError, Global};
 use std::marker::Model;
 use vg_parts::Memory;
 
@@ -42,5 +42,14 @@ impl Bytes {
         ensures { result.now ≡ self.now }
     {
         &self.list
+    }
+}
+
+impl Clone for Bytes {
+    ghost is_clone = { λ x y. y ≡ x };
+
+    fn clone(&self) -> Result<Bytes, AllocError> {
+        let list = Vec::from_slice(*self.list.allocator(), &self.list)?;
+        Ok(Bytes { list })
     }
 }

@@ -1,5 +1,5 @@
 //! A table from keys.
-ghost use Rattle.std.specs.Prelude.{◌≡◌, OnOk, OnErr};
+ghost use Rattle.std.specs.Prelude.{◌≡◌, IfOk, OnOk, OnErr};
 ghost use Rattle.std.specs.FinMap as map;
 
 use std::alloc::Global;
@@ -51,5 +51,14 @@ impl Keyed {
         let key = Vec::from_slice(alloc, key)?;
         self.entries.insert(key, answer)?;
         Ok(())
+    }
+
+    /// The same table once more.
+    pub fn copy(&self) -> Result<Keyed, Memory>
+        ensures { IfOk result (λ copied. copied ≡ self.now) }
+    {
+        Ok(Keyed {
+            entries: self.entries.clone()?,
+        })
     }
 }

@@ -1,5 +1,5 @@
 //! A table from numbers.
-ghost use Rattle.std.specs.Prelude.{◌≡◌, OnOk, OnErr, option_copied};
+ghost use Rattle.std.specs.Prelude.{◌≡◌, IfOk, OnOk, OnErr, option_copied};
 ghost use Rattle.std.specs.FinMap as map;
 ghost use Rattle.std.specs.Ordering.{nat_cmp};
 
@@ -50,5 +50,16 @@ impl<V: Drop> Numbered<V> {
     {
         self.entries.insert(number, value)?;
         Ok(())
+    }
+}
+
+impl<V: Drop + Clone> Numbered<V> {
+    /// The same table once more, where clones of its values are equal to them.
+    pub fn copy(&self) -> Result<Numbered<V>, Memory>
+        ensures { IfOk result (λ copied. ((x y : V) → V.is_clone x y → y ≡ x) → copied ≡ self.now) }
+    {
+        Ok(Numbered {
+            entries: self.entries.clone()?,
+        })
     }
 }

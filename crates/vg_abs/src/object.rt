@@ -1,8 +1,12 @@
 //! The tables of the library's objects.
+ghost use Rattle.std.specs.Prelude.{◌≡◌, IfOk};
+
 use crate::bytes::Bytes;
 use crate::keyed::Keyed;
 use crate::numbered::Numbered;
+use std::alloc::Global;
 use std::marker::Model;
+use vg_parts::Memory;
 use vg_stree::Route;
 
 /// The table of a link.
@@ -81,4 +85,62 @@ pub enum Object {
     Keys,
     Cells(VectorTable),
     Prefixes(PrefixTable),
+}
+
+impl LinkTable {
+    /// The same table once more.
+    pub fn copy(&self) -> Result<LinkTable, Memory>
+        ensures { IfOk result (λ copied. copied ≡ self.now) }
+    {
+        Ok(LinkTable {
+            capacity: self.capacity,
+            key_length: self.key_length,
+            keys: self.keys.copy()?,
+            times: self.times.copy()?,
+            cells: self.cells.copy()?,
+            size: self.size,
+            count: self.count,
+            highest: self.highest,
+            bounds: self.bounds.copy()?,
+        })
+    }
+}
+
+impl VectorTable {
+    /// The same table once more.
+    pub fn copy(&self) -> Result<VectorTable, Memory>
+        ensures { IfOk result (λ copied. copied ≡ self.now) }
+    {
+        Ok(VectorTable {
+            cell_count: self.cell_count,
+            cells: self.cells.copy()?,
+        })
+    }
+}
+
+impl PrefixTable {
+    /// The same table once more.
+    pub fn copy(&self, alloc: Global) -> Result<PrefixTable, Memory>
+        ensures { IfOk result (λ copied. copied ≡ self.now) }
+    {
+        Ok(PrefixTable {
+            routes: Vec::from_slice(alloc, &self.routes)?,
+            addresses: self.addresses.copy()?,
+        })
+    }
+}
+
+impl Object {
+    /// The same object once more.
+    pub fn copy(&self, alloc: Global) -> Result<Object, Memory>
+        ensures { IfOk result (λ copied. copied ≡ self.now) }
+    {
+        match self {
+            Object::Map(link) => Ok(Object::Map(link.copy()?)),
+            Object::Chain => Ok(Object::Chain),
+            Object::Keys => Ok(Object::Keys),
+            Object::Cells(vector) => Ok(Object::Cells(vector.copy()?)),
+            Object::Prefixes(prefixes) => Ok(Object::Prefixes(prefixes.copy(alloc)?)),
+        }
+    }
 }
