@@ -6,10 +6,10 @@ use Rattle.std.proofs.lemmas.Bool.{eq-eqb, ne_eqb, cond-true, cond-false, cases_
 use Rattle.vg_stree.specs.Syntax.{Syntax}
 use Rattle.vg_stree.specs.declared.code.SExpr.{SExpr}
 use Rattle.vg_stree.specs.Depths.{has_few_arguments}
-use Rattle.vg_abs.specs.Expressions.{Scope, value_in, value_by, values_before, value_of}
+use Rattle.vg_abs.specs.Expressions.{Scope, value_found, value_by, values_before, value_of}
 
 -- the value of an expression is by those before it
-pub value_is : (code : Syntax) (number : ℕ) (scope : Scope) → value_of code number scope ≡ value_in code (values_before code number) (slice_get code.expressions number) scope
+pub value_is : (code : Syntax) (number : ℕ) (scope : Scope) → value_of code number scope ≡ value_found code (values_before code number) (slice_get code.expressions number) scope
 unfolding value_of values_before
 value_is code number scope = cond-true _ _ _ (eq-eqb number number refl)
 
@@ -52,7 +52,7 @@ all_at (x ∷ es) zero e all is =
 all_at (x ∷ es) (suc number) e all is = all_at es number e (and_second (has_few_arguments x) (list_all has_few_arguments es) all) is
 
 pub value_some : (code : Syntax) (number : ℕ) (scope : Scope) (e : SExpr) (value : ℕ) → slice_get code.expressions number ≡ Some e → value ≡ value_by code (values_before code number) e scope → value ≡ value_of code number scope
-value_some code number scope e value found is = is ∙ sym (value_is code number scope ∙ ap (λ o. value_in code (values_before code number) o scope) found)
+value_some code number scope e value found is = is ∙ sym (value_is code number scope ∙ ap (λ o. value_found code (values_before code number) o scope) found)
 
 pub value_none : (code : Syntax) (number : ℕ) (scope : Scope) → slice_get code.expressions number ≡ None → 0 ≡ value_of code number scope
-value_none code number scope none = sym (value_is code number scope ∙ ap (λ o. value_in code (values_before code number) o scope) none)
+value_none code number scope none = sym (value_is code number scope ∙ ap (λ o. value_found code (values_before code number) o scope) none)

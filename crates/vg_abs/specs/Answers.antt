@@ -13,9 +13,9 @@ listed_or_none full None = if full then Some None else None
 abbrev pub index_of : Bool → Link → List ℕ → Option (Option ℕ)
 index_of full link key = listed_or_none full (get link.keys key)
 
--- the last time of an index, or that it is free
+-- the last time of an index, or that it is free, as is each from the capacity on
 abbrev pub time_of : Bool → Link → ℕ → Option (Option ℕ)
-time_of full link index = listed_or_none full (get link.times index)
+time_of full link index = if nat_lt index link.capacity then listed_or_none full (get link.times index) else Some None
 
 -- whether a time is told and is earlier than a bound
 abbrev pub is_before : ℕ → Option (Option ℕ) → Bool

@@ -2,13 +2,14 @@
 -- the state before.
 use Rattle.std.specs.Prelude.{ℕ, ◌+◌, ◌-◌, ◌&&◌, not, List, map, Bool, true, false, nat_eq, Option, Some, None, slice_get, slice_set, if◌then◌else◌}
 use Rattle.std.specs.Str.{bytes_eq}
+use Rattle.std.specs.List.{list_any}
 use Rattle.std.specs.FinMap.{FinMap, get, insert, empty, entries, retain_keys, from_sorted}
 use Rattle.std.specs.declared.cmp.Ordering.{Ordering}
 use Rattle.vg_abs.specs.declared.object.Object.{Object}
 use Rattle.vg_abs.specs.declared.object.Object.TheVariants.{Map, Cells, Keys}
 use Rattle.vg_abs.specs.Tables.{Link}
 use Rattle.vg_abs.specs.State.{State, link_of_keys}
-use Rattle.vg_abs.specs.Answers.{index_of, time_of, is_before}
+use Rattle.vg_abs.specs.Answers.{time_of, is_before}
 
 -- what passes a test is absent, or free: a full state doesn't list it any more, and a partial one that lists it tells so
 abbrev pub without : {K X : Type 0} {R : K → K → Ordering} → Bool → (K → Bool) → FinMap R (Option X) → FinMap R (Option X)
@@ -39,25 +40,22 @@ without_index full link index = record link { times = without full (nat_eq index
 abbrev pub expires : Bool → Link → ℕ → ℕ → Bool
 expires full link bound index = is_before bound (time_of full link index)
 
--- whether a key is that in the cell of an index that expires
+-- whether a cell that may be told holds a key
 abbrev pub is_key_of : Option (List ℕ) → List ℕ → Bool
 is_key_of None key = false
 is_key_of (Some cell) key = bytes_eq cell key
 
-abbrev pub index_expires : Bool → Link → ℕ → List ℕ → Option (Option ℕ) → Bool
-index_expires full link bound key (Some (Some index)) = expires full link bound index && is_key_of (get link.cells index) key
-index_expires full link bound key _ = false
-
-abbrev pub key_expires : Bool → Link → ℕ → List ℕ → Bool
-key_expires full link bound key = index_expires full link bound key (index_of full link key)
+-- whether a key is that in the cell of an index that expires
+abbrev pub key_expires : Link → ℕ → List ℕ → Bool
+key_expires link bound key = list_any (λ entry. is_before bound (Some entry.1) && is_key_of (get link.cells entry.0) key) (entries link.times)
 
 -- exactly the indices with a time before a bound are free, and the keys of their cells absent; the cells stay
 abbrev pub expired : Bool → Link → ℕ → ℕ → Link
-expired full link bound count = record link {
-  keys = without full (key_expires full link bound) link.keys;
+expired full link bound freed = record link {
+  keys = without full (key_expires link bound) link.keys;
   times = without full (expires full link bound) link.times;
-  size = link.size - count;
-  count = link.count - count;
+  size = link.size - freed;
+  count = link.count - freed;
   bounds = empty;
 }
 
@@ -69,7 +67,7 @@ with_cell link index bytes = record link { cells = insert link.cells index bytes
 abbrev pub with_link : State → ℕ → Link → State
 with_link s map link = record s { objects = slice_set s.objects map (Map link) }
 
--- a cell of a vector holds these bytes, where it is told what the vector is
+-- a cell of a vector holds these bytes, given its object
 abbrev pub with_bytes_in : State → ℕ → ℕ → List ℕ → Option Object → State
 with_bytes_in s vector index bytes (Some (Cells cells)) = record s { objects = slice_set s.objects vector (Cells (record cells { cells = insert cells.cells index bytes })) }
 with_bytes_in s vector index bytes (Some Keys) = with_link s (vector - 2) (with_cell (link_of_keys s vector) index bytes)

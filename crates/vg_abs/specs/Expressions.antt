@@ -1,4 +1,4 @@
--- What rules and premises say. Every value is a whole number below 2 ^ 64, and all operands are evaluated. Frame, port, time, cells by
+-- What rules and premises say. Every value is a whole number below 2 ^ 64, and all operands are evaluated. Frame, length, port, time, cells by
 -- their index and `has` stand in no rule and no premise; they count 0 here.
 use Rattle.std.specs.Prelude.{ℕ, ◌+◌, ◌-◌, ◌*◌, ◌/◌, ◌%◌, ◌^◌, ◌≢◌, ◌==◌, nat_lt, nat_le, not, ◌&&◌, ◌||◌, Bool, zero, suc, List, [], map, fold, slice_get, unwrap_or, bit_and, bit_or, bit_xor, Option, Some, None, if◌then◌else◌}
 use Rattle.vg_stree.specs.declared.code.Operator.{Operator}
@@ -70,17 +70,17 @@ value_by code known (expressions.Call body arguments) scope = known body (record
 value_by code known _ scope = 0
 
 -- the value of an expression that may be there, and 0 where there is none
-abbrev pub value_in : Syntax → Values → Option SExpr → Scope → ℕ
-value_in code known None scope = 0
-value_in code known (Some expression) scope = value_by code known expression scope
+abbrev pub value_found : Syntax → Values → Option SExpr → Scope → ℕ
+value_found code known None scope = 0
+value_found code known (Some expression) scope = value_by code known expression scope
 
 -- the values of the expressions before a number; the others count 0
 unfoldable pub values_before : Syntax → ℕ → Values
 values_before code zero number scope = 0
 values_before code (suc count) number scope =
-    if number == count then value_in code (values_before code count) (slice_get code.expressions count) scope else values_before code count number scope
+    if number == count then value_found code (values_before code count) (slice_get code.expressions count) scope else values_before code count number scope
 
--- the value of an expression, by those of the expressions before it
+-- the value of an expression in a scope
 unfoldable pub value_of : Syntax → ℕ → Scope → ℕ
 value_of code number scope = values_before code (suc number) number scope
 

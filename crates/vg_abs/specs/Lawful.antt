@@ -1,5 +1,5 @@
 -- When a state is lawful at a time, for a specification and the configuration's numbers.
-use Rattle.std.specs.Prelude.{ℕ, ◌≡◌, ◌+◌, ◌-◌, ◌<◌, ◌≤◌, List, count_by, All, Bool, true, false, not, ◌&&◌, is_none, is_some, slice_get, Option, Some, IsSome}
+use Rattle.std.specs.Prelude.{ℕ, ◌≡◌, ◌+◌, ◌-◌, ◌<◌, ◌≤◌, List, [], count_by, All, Bool, true, false, not, ◌&&◌, is_none, is_some, slice_get, Option, Some, IsSome}
 use Rattle.std.specs.FinMap.{get, len, entries}
 use Rattle.vg_stree.specs.declared.shape.Rule.{Rule}
 use Rattle.vg_stree.specs.declared.shape.ObjectKind.{ObjectKind}
@@ -81,17 +81,23 @@ pub record IsLawfulVector (full : Bool) (vector : Vector) : Type 0 where
   pub inside : (index : ℕ) (bytes : List ℕ) → get vector.cells index ≡ Some bytes → index < vector.cell_count
   pub all_cells : full ≡ true → (index : ℕ) → index < vector.cell_count → IsSome (get vector.cells index)
 
--- the values of a prefix table lie in its range
-pub record IsLawfulTable (low high : ℕ) (prefixes : Routing) : Type 0 where
+-- the values of a full state's routes lie in the table's range, and it tells no address by itself
+pub record HasLawfulRoutes (low high : ℕ) (prefixes : Routing) : Type 0 where
   pub routes : All (λ route. (low ≤ route.value) × (route.value ≤ high) × (route.len ≤ 32)) prefixes.routes
+  pub no_addresses : len prefixes.addresses ≡ 0
+
+-- a partial state has no routes, and what it tells of addresses lies in the table's range
+pub record HasLawfulAddresses (low high : ℕ) (prefixes : Routing) : Type 0 where
   pub addresses : (address value : ℕ) → get prefixes.addresses address ≡ Some (Some value) → (low ≤ value) × (value ≤ high)
+  pub no_routes : prefixes.routes ≡ []
 
 -- an object, as declared
 abbrev pub IsLawfulObject : ℕ → Bool → ObjectKind → Object → Type 0
 IsLawfulObject now true kind (Map link) = IsLawfulLink now link
 IsLawfulObject now false kind (Map link) = IsLawfulPart now link
 IsLawfulObject now full kind (Cells vector) = IsLawfulVector full vector
-IsLawfulObject now full (kinds.Table low high) (Prefixes prefixes) = IsLawfulTable low high prefixes
+IsLawfulObject now true (kinds.Table low high) (Prefixes prefixes) = HasLawfulRoutes low high prefixes
+IsLawfulObject now false (kinds.Table low high) (Prefixes prefixes) = HasLawfulAddresses low high prefixes
 IsLawfulObject now full kind object = Unit {0}
 
 -- a rule speaks of every allocated index's cell of a vector of keys, and of every cell of another vector
@@ -109,4 +115,4 @@ pub record IsLawful (spec : Specification) (numbers : List ℕ) (now : ℕ) (s :
   pub shaped : IsShaped spec.shape numbers s
   pub each : (number : ℕ) (declared : objects.Object) (object : Object) → slice_get spec.shape.objects number ≡ Some declared → slice_get s.objects number ≡ Some object →
       IsLawfulObject now s.full declared.kind object
-  pub rules : (number : ℕ) (rule : Rule) → slice_get spec.shape.rules number ≡ Some rule → Holds spec numbers s rule
+  pub rules : All (Holds spec numbers s) spec.shape.rules

@@ -1,5 +1,7 @@
 pub mod Tables
+pub mod TableCodes
 pub mod State
+pub mod StateCodes
 pub mod Answers
 pub mod Effects
 pub mod Rows

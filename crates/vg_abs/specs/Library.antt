@@ -1,13 +1,12 @@
 -- What is seen of a library, and what each of its calls does to it.
-use Rattle.std.specs.Prelude.{ℕ, ◌≡◌, ◌≢◌, ◌+◌, ◌-◌, ◌<◌, ◌≤◌, ◌&&◌, List, [], ◌∷◌, length, take, drop, ◌++◌, Bool, true, false, Option, Some, None, slice_get, is_some, is_none, not, nat_lt, IsSomeAnd, All}
+use Rattle.std.specs.Prelude.{ℕ, ◌≡◌, ◌≢◌, ◌+◌, ◌-◌, ◌<◌, ◌≤◌, List, [], ◌∷◌, length, take, drop, ◌++◌, Bool, true, false, Option, Some, None, slice_get, is_some, is_none, not, unwrap_or, IsSomeAnd, All}
 use Rattle.std.specs.FinMap.{get}
 use Rattle.vg_abs.specs.declared.object.Object.{Object}
 use Rattle.vg_abs.specs.declared.object.Object.TheVariants.{Map, Chain, Keys, Cells, Prefixes}
-use Rattle.vg_abs.specs.Tables.{Link}
 use Rattle.vg_abs.specs.State.{State, link_of_map, link_of_chain, vector_of, prefixes_of}
 use Rattle.vg_abs.specs.Answers.{index_of, time_of, match_in, count_before}
 use Rattle.vg_abs.specs.Effects.{with_bytes}
-use Rattle.vg_abs.specs.Rows.{Call, ChainAllocate, ExpireItems, is_used_up, needs, is_met, fresh, effect}
+use Rattle.vg_abs.specs.Rows.{Call, ChainAllocate, ExpireItems, is_used_up, may_hand_out, needs, is_met, fresh, effect}
 use Rattle.vg_abs.specs.Agreement.{AgreeAt}
 
 -- what is seen of a library: its state; which cells of which vectors are lent; whether something was asked that the state doesn't tell; and,
@@ -58,11 +57,18 @@ pub record Becomes (s t : Library) (state : State) : Type 0 where
   pub same_choices : t.choices ≡ s.choices
   pub same_missed : t.missed ≡ s.missed
 
--- something is asked: where the state tells the answer, this holds of it, and where it doesn't, that is missed. What was missed stays missed,
--- and then nothing more is said.
+-- something was missed, now or before: nothing else has changed
+pub record Misses (s t : Library) : Type 0 where
+  pub missed : t.missed ≡ true
+  pub state_stays : t.state ≡ s.state
+  pub lent_stays : (vector index : ℕ) → t.lent vector index ≡ s.lent vector index
+  pub choices_stay : t.choices ≡ s.choices
+
+-- something is asked: where the state tells the answer, this holds of it, and where it doesn't, that is missed. What was missed stays missed;
+-- then nothing else changes, and nothing is said of answers.
 pub record Asks {A : Type 0} (s t : Library) (question : Option A) (Fact : A → Type 0) : Type 0 where
-  pub stays : s.missed ≡ true → t.missed ≡ true
-  pub untold : question ≡ None → t.missed ≡ true
+  pub stays : s.missed ≡ true → Misses s t
+  pub untold : question ≡ None → Misses s t
   pub told : s.missed ≡ false → (answer : A) → question ≡ Some answer → Fact answer
 
 -- the index of a key, or none where it is absent
@@ -79,11 +85,11 @@ LooksUp s t table address result = Asks s t (match_in s.state.full (prefixes_of 
 
 -- what a call needs of the state is told and met. What it needs of a frame's calls so far is no condition of the library.
 abbrev pub Meets : Library → Call → Type 0
-Meets s call = s.missed ≡ false → All (λ need. is_met s.state fresh need ≡ Some true) (needs s.state call)
+Meets s call = s.missed ≡ false → All (λ need. is_met s.state fresh need ≡ Some true) (needs call)
 
 -- an effect of a call that answers nothing and asks nothing
 pub record Does (s t : Library) (call : Call) : Type 0 where
-  pub stays : s.missed ≡ true → t.missed ≡ true
+  pub stays : s.missed ≡ true → Misses s t
   pub done : s.missed ≡ false → Becomes s t (effect s.state call 0)
 
 -- indices are told, and this is the next
@@ -99,33 +105,27 @@ after_choice (Some choices) = Some (drop 1 choices)
 
 -- a free index is allocated with this time, which is the next choice where choices are told
 pub record HandsOut (s t : Library) (chain now index : ℕ) : Type 0 where
-  pub inside : index < (link_of_chain s.state chain).capacity
-  pub free : time_of s.state.full (link_of_chain s.state chain) index ≡ Some None
+  pub free : may_hand_out s.state chain index ≡ Some true
   pub next : s.choices ≢ None → next_choice s.choices ≡ Some index
   pub state_is : t.state ≡ effect s.state (ChainAllocate chain now) index
   pub same_lent : (vector cell : ℕ) → t.lent vector cell ≡ s.lent vector cell
   pub choices_left : t.choices ≡ after_choice s.choices
   pub same_missed : t.missed ≡ s.missed
 
--- whether an index is told as free
-abbrev pub is_free : Option (Option ℕ) → Bool
-is_free (Some None) = true
-is_free _ = false
-
--- whether an index is to be handed out that can't be: choices are told, and none is left, or the next isn't told as free
-abbrev pub lacks : Bool → Link → Option (List ℕ) → Bool
-lacks full link None = false
-lacks full link (Some []) = true
-lacks full link (Some (choice ∷ choices)) = not (is_free (time_of full link choice) && nat_lt choice link.capacity)
+-- whether a choice is lacking: choices are told, and none is left, or the next isn't told as one that can be handed out
+abbrev pub is_lacking : State → ℕ → Option (List ℕ) → Bool
+is_lacking s chain None = false
+is_lacking s chain (Some []) = true
+is_lacking s chain (Some (choice ∷ choices)) = not (unwrap_or (may_hand_out s chain choice) false)
 
 abbrev pub lacks_choice : Library → ℕ → Bool
-lacks_choice s chain = lacks s.state.full (link_of_chain s.state chain) s.choices
+lacks_choice s chain = is_lacking s.state chain s.choices
 
 -- an index is handed out, unless all are
 pub record Allocates (s t : Library) (chain now : ℕ) (result : Option ℕ) : Type 0 where
-  pub stays : s.missed ≡ true → t.missed ≡ true
+  pub stays : s.missed ≡ true → Misses s t
   pub used_up : s.missed ≡ false → is_used_up s.state chain ≡ true → (result ≡ None) × Becomes s t s.state
-  pub untold : s.missed ≡ false → is_used_up s.state chain ≡ false → lacks_choice s chain ≡ true → t.missed ≡ true
+  pub untold : s.missed ≡ false → is_used_up s.state chain ≡ false → lacks_choice s chain ≡ true → Misses s t
   pub handed : s.missed ≡ false → is_used_up s.state chain ≡ false → lacks_choice s chain ≡ false → IsSomeAnd result (HandsOut s t chain now)
 
 -- what an expiry needs: no cell of the link's vector is lent, and the cell of each index that is told as allocated is a key mapped to that index
@@ -139,7 +139,7 @@ abbrev pub Expires : Library → Library → ℕ → ℕ → ℕ → Type 0
 Expires s t map before result =
     Asks s t (count_before s.state.full (link_of_map s.state map) before) (λ count. (result ≡ count) × Becomes s t (effect s.state (ExpireItems map (map + 1) (map + 2) before) 0))
 
--- the cells that are lent, and one more or one less
+-- whether one cell is lent is this now, and nothing else has changed but, maybe, what was missed
 pub record ChangesLoan (s t : Library) (vector index : ℕ) (is_lent : Bool) : Type 0 where
   pub this : t.lent vector index ≡ is_lent
   pub other_cells : (other : ℕ) → other ≢ index → t.lent vector other ≡ s.lent vector other
@@ -156,9 +156,9 @@ pub record Lends (s t : Library) (vector index : ℕ) : Type 0 where
 abbrev pub TakesBack : Library → Library → ℕ → ℕ → Type 0
 TakesBack s t vector index = ChangesLoan s t vector index false × (t.missed ≡ s.missed)
 
--- these bytes of a cell are others now
+-- bytes are stored into a cell, from a place on
 abbrev pub Stores : Library → Library → ℕ → ℕ → ℕ → List ℕ → Type 0
-Stores s t vector index from bytes = ((cell : List ℕ) → get (vector_of s.state vector).cells index ≡ Some cell →
+Stores s t vector index from bytes = Asks s t (get (vector_of s.state vector).cells index) (λ cell.
     Becomes s t (with_bytes s.state vector index (take from cell ++ bytes ++ drop (from + length bytes) cell)))
 
 -- so many bytes of a cell are there, where it is told

@@ -46,7 +46,7 @@ with_fill shape cell vector cells fill =
 abbrev pub opening_cells : Declarations → List Fill → ℕ → ℕ → ℕ → CellTable
 opening_cells shape fills vector cell count = fold (with_fill shape cell vector) (zero_cells count (struct_bytes shape cell)) fills
 
--- the first `len` bits of a route's address and how many they are, as one number, so that routes have one prefix where this is equal
+-- the first `len` bits of a route's address, and `len`, which is below 256, as one number: two routes have one prefix where it is equal
 abbrev pub prefix_of : Route → ℕ
 prefix_of route = route.address / 2 ^ (32 - route.len) * 256 + route.len
 

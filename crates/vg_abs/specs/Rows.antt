@@ -42,13 +42,13 @@ row_of (PrefixLookup table address) = 15
 
 -- what a run has done in this frame so far: the indices that it was handed, with their chains, in order; the cells that are lent to it,
 -- with their vectors; and the links, by their maps, that it has changed or expired
-pub record Visit : Type 0 where
+pub record FrameSoFar : Type 0 where
   pub handed : List (ℕ × ℕ)
   pub lent : List (ℕ × ℕ)
   pub changed : List ℕ
 
 -- nothing was done yet
-abbrev pub fresh : Visit
+abbrev pub fresh : FrameSoFar
 fresh = record { handed = []; lent = []; changed = [] }
 
 -- at most so many indices are handed out in a frame, and so many cells are lent at a time
@@ -62,8 +62,12 @@ most_lent = 16
 pub data Need : Type 0 where
   -- the map has fewer keys than its capacity
   HasRoom : (map : ℕ) → Need
-  -- an index is below a bound
-  IsBelow : (index bound : ℕ) → Need
+  -- an index is below the capacity of a map's link
+  IsInMap : (map index : ℕ) → Need
+  -- an index is below the capacity of a chain's link
+  IsInChain : (chain index : ℕ) → Need
+  -- an index is below the length of a vector
+  IsInVector : (vector index : ℕ) → Need
   -- the key is absent
   IsAbsent : (map : ℕ) (key : List ℕ) → Need
   -- the key is present
@@ -88,60 +92,68 @@ pub data Need : Type 0 where
   IsLent : (vector index : ℕ) → Need
 
 -- what a call needs, in the order in which it is asked
-abbrev pub needs : State → Call → List Need
-needs s (MapGet map key) = []
-needs s (MapPut map key index) = HasRoom map ∷ IsBelow index (link_of_map s map).capacity ∷ IsAbsent map key ∷ []
-needs s (MapErase map key) = IsPresent map key ∷ []
-needs s (MapSize map) = []
-needs s (ChainAllocate chain time) = IsNoEarlier chain time ∷ MayBeHanded ∷ []
-needs s (ChainIsAllocated chain index) = IsBelow index (link_of_chain s chain).capacity ∷ []
-needs s (ChainRejuvenate chain index time) = IsBelow index (link_of_chain s chain).capacity ∷ IsAllocated chain index ∷ IsNoEarlier chain time ∷ []
-needs s (ChainFree chain index) = IsBelow index (link_of_chain s chain).capacity ∷ IsAllocated chain index ∷ []
-needs s (ExpireItems map chain vector before) = AreOneLink map chain vector ∷ IsUnchanged map ∷ NoneIsLent vector ∷ []
-needs s (VectorBorrow vector index) = IsBelow index (vector_of s vector).cell_count ∷ IsNotLent vector index ∷ MayBeLent ∷ []
-needs s (VectorReturn vector index) = IsLent vector index ∷ []
-needs s (PrefixLookup table address) = []
+abbrev pub needs : Call → List Need
+needs (MapGet map key) = []
+needs (MapPut map key index) = HasRoom map ∷ IsInMap map index ∷ IsAbsent map key ∷ []
+needs (MapErase map key) = IsPresent map key ∷ []
+needs (MapSize map) = []
+needs (ChainAllocate chain time) = IsNoEarlier chain time ∷ MayBeHanded ∷ []
+needs (ChainIsAllocated chain index) = IsInChain chain index ∷ []
+needs (ChainRejuvenate chain index time) = IsInChain chain index ∷ IsAllocated chain index ∷ IsNoEarlier chain time ∷ []
+needs (ChainFree chain index) = IsInChain chain index ∷ IsAllocated chain index ∷ []
+needs (ExpireItems map chain vector before) = AreOneLink map chain vector ∷ IsUnchanged map ∷ NoneIsLent vector ∷ []
+needs (VectorBorrow vector index) = IsInVector vector index ∷ IsNotLent vector index ∷ MayBeLent ∷ []
+needs (VectorReturn vector index) = IsLent vector index ∷ []
+needs (PrefixLookup table address) = []
 
 -- whether a need is asked only once the key's bytes are read: numbers are compared before
-abbrev pub needs_key : Need → Bool
-needs_key (IsAbsent map key) = true
-needs_key (IsPresent map key) = true
-needs_key _ = false
+abbrev pub is_of_key : Need → Bool
+is_of_key (IsAbsent map key) = true
+is_of_key (IsPresent map key) = true
+is_of_key _ = false
 
 -- a cell is among those that are lent
-abbrev pub is_lent : Visit → ℕ → ℕ → Bool
-is_lent visit vector index = list_any (λ cell. (cell.0 == vector) && (cell.1 == index)) visit.lent
+abbrev pub is_lent : FrameSoFar → ℕ → ℕ → Bool
+is_lent so_far vector index = list_any (λ cell. (cell.0 == vector) && (cell.1 == index)) so_far.lent
 
 -- whether a need is met, or nothing where a partial state doesn't tell
-abbrev pub is_met : State → Visit → Need → Option Bool
-is_met s visit (HasRoom map) = Some (nat_lt (link_of_map s map).size (link_of_map s map).capacity)
-is_met s visit (IsBelow index bound) = Some (nat_lt index bound)
-is_met s visit (IsAbsent map key) = option_map (λ answer. is_none answer) (index_of s.full (link_of_map s map) key)
-is_met s visit (IsPresent map key) = option_map (λ answer. is_some answer) (index_of s.full (link_of_map s map) key)
-is_met s visit (IsAllocated chain index) = option_map (λ answer. is_some answer) (time_of s.full (link_of_chain s chain) index)
-is_met s visit (IsNoEarlier chain time) = Some (nat_le (link_of_chain s chain).highest time)
-is_met s visit MayBeHanded = Some (nat_lt (length visit.handed) most_handed)
-is_met s visit (AreOneLink map chain vector) = Some ((chain == map + 1) && (vector == map + 2))
-is_met s visit (IsUnchanged map) = Some (not (list_any (λ changed. changed == map) visit.changed))
-is_met s visit (NoneIsLent vector) = Some (not (list_any (λ cell. cell.0 == vector) visit.lent))
-is_met s visit (IsNotLent vector index) = Some (not (is_lent visit vector index))
-is_met s visit MayBeLent = Some (nat_lt (length visit.lent) most_lent)
-is_met s visit (IsLent vector index) = Some (is_lent visit vector index)
+abbrev pub is_met : State → FrameSoFar → Need → Option Bool
+is_met s so_far (HasRoom map) = Some (nat_lt (link_of_map s map).size (link_of_map s map).capacity)
+is_met s so_far (IsInMap map index) = Some (nat_lt index (link_of_map s map).capacity)
+is_met s so_far (IsInChain chain index) = Some (nat_lt index (link_of_chain s chain).capacity)
+is_met s so_far (IsInVector vector index) = Some (nat_lt index (vector_of s vector).cell_count)
+is_met s so_far (IsAbsent map key) = option_map (λ answer. is_none answer) (index_of s.full (link_of_map s map) key)
+is_met s so_far (IsPresent map key) = option_map (λ answer. is_some answer) (index_of s.full (link_of_map s map) key)
+is_met s so_far (IsAllocated chain index) = option_map (λ answer. is_some answer) (time_of s.full (link_of_chain s chain) index)
+is_met s so_far (IsNoEarlier chain time) = Some (nat_le (link_of_chain s chain).highest time)
+is_met s so_far MayBeHanded = Some (nat_lt (length so_far.handed) most_handed)
+is_met s so_far (AreOneLink map chain vector) = Some ((chain == map + 1) && (vector == map + 2))
+is_met s so_far (IsUnchanged map) = Some (not (list_any (λ changed. changed == map) so_far.changed))
+is_met s so_far (NoneIsLent vector) = Some (not (list_any (λ cell. cell.0 == vector) so_far.lent))
+is_met s so_far (IsNotLent vector index) = Some (not (is_lent so_far vector index))
+is_met s so_far MayBeLent = Some (nat_lt (length so_far.lent) most_lent)
+is_met s so_far (IsLent vector index) = Some (is_lent so_far vector index)
 
 -- whether no index of a chain is free
 abbrev pub is_used_up : State → ℕ → Bool
 is_used_up s chain = (link_of_chain s chain).count == (link_of_chain s chain).capacity
 
--- which of two cases a call with two is, or nothing where a partial state doesn't tell: 0 where there is something to answer, and for
--- `chain_allocate` where no index is free
-abbrev pub something : Option (Option ℕ) → Option ℕ
-something question = option_map (λ answer. if is_some answer then 0 else 1) question
+-- the case of a question: 0 where it has something for an answer, and 1 where it has none
+abbrev pub case_by : Option (Option ℕ) → Option ℕ
+case_by question = option_map (λ answer. if is_some answer then 0 else 1) question
 
+-- whether an index can be handed out: it is below the chain's capacity and free; nothing where a partial state doesn't tell
+abbrev pub may_hand_out : State → ℕ → ℕ → Option Bool
+may_hand_out s chain index =
+    if nat_lt index (link_of_chain s chain).capacity then option_map (λ answer. is_none answer) (time_of s.full (link_of_chain s chain) index) else Some false
+
+-- which case of its row a call is, or nothing where a partial state doesn't tell. For `chain_allocate` it is 0 where no index is free. In the
+-- case 1 the index that is allocated must be one that can be handed out.
 abbrev pub case_of : State → Call → Option ℕ
-case_of s (MapGet map key) = something (index_of s.full (link_of_map s map) key)
+case_of s (MapGet map key) = case_by (index_of s.full (link_of_map s map) key)
 case_of s (ChainAllocate chain time) = Some (if is_used_up s chain then 0 else 1)
-case_of s (ChainIsAllocated chain index) = something (time_of s.full (link_of_chain s chain) index)
-case_of s (PrefixLookup table address) = something (match_in s.full (prefixes_of s table) address)
+case_of s (ChainIsAllocated chain index) = case_by (time_of s.full (link_of_chain s chain) index)
+case_of s (PrefixLookup table address) = case_by (match_in s.full (prefixes_of s table) address)
 case_of s (ExpireItems map chain vector before) = option_map (λ count. 0) (count_before s.full (link_of_map s map) before)
 case_of s (VectorBorrow vector index) = option_map (λ bytes. 0) (get (vector_of s vector).cells index)
 case_of s _ = Some 0
@@ -188,23 +200,24 @@ effect s _ choice = s
 abbrev pub not_this : ℕ → ℕ → (ℕ × ℕ) → Bool
 not_this vector index cell = not ((cell.0 == vector) && (cell.1 == index))
 
--- what a run has done in this frame, after a call; `choice` is the index that was allocated, if one was. A call that allocates nothing changes no link.
-abbrev pub after : State → Visit → Call → ℕ → Visit
-after s visit (MapPut map key index) choice = record visit { changed = map ∷ visit.changed }
-after s visit (MapErase map key) choice = record visit { changed = map ∷ visit.changed }
-after s visit (ChainAllocate chain time) choice =
-    if is_used_up s chain then visit else record visit { handed = visit.handed ++ (chain, choice) ∷ []; changed = (chain - 1) ∷ visit.changed }
-after s visit (ChainRejuvenate chain index time) choice = record visit { changed = (chain - 1) ∷ visit.changed }
-after s visit (ChainFree chain index) choice = record visit { changed = (chain - 1) ∷ visit.changed }
-after s visit (ExpireItems map chain vector before) choice = record visit { changed = map ∷ visit.changed }
-after s visit (VectorBorrow vector index) choice = record visit { lent = (vector, index) ∷ visit.lent }
-after s visit (VectorReturn vector index) choice = record visit { lent = filter (not_this vector index) visit.lent }
-after s visit _ choice = visit
+-- what a run has done in this frame, after a call; `choice` is the index that was allocated, if one was. Where no index is free, `chain_allocate`
+-- changes no link.
+abbrev pub after : State → FrameSoFar → Call → ℕ → FrameSoFar
+after s so_far (MapPut map key index) choice = record so_far { changed = map ∷ so_far.changed }
+after s so_far (MapErase map key) choice = record so_far { changed = map ∷ so_far.changed }
+after s so_far (ChainAllocate chain time) choice =
+    if is_used_up s chain then so_far else record so_far { handed = so_far.handed ++ (chain, choice) ∷ []; changed = (chain - 1) ∷ so_far.changed }
+after s so_far (ChainRejuvenate chain index time) choice = record so_far { changed = (chain - 1) ∷ so_far.changed }
+after s so_far (ChainFree chain index) choice = record so_far { changed = (chain - 1) ∷ so_far.changed }
+after s so_far (ExpireItems map chain vector before) choice = record so_far { changed = map ∷ so_far.changed }
+after s so_far (VectorBorrow vector index) choice = record so_far { lent = (vector, index) ∷ so_far.lent }
+after s so_far (VectorReturn vector index) choice = record so_far { lent = filter (not_this vector index) so_far.lent }
+after s so_far _ choice = so_far
 
 -- a store into a cell of a vector of keys changes its link, also where it leaves the same bytes
-abbrev pub after_store_in : Visit → ℕ → Option Object → Visit
-after_store_in visit vector (Some Keys) = record visit { changed = (vector - 2) ∷ visit.changed }
-after_store_in visit vector _ = visit
+abbrev pub after_store_in : FrameSoFar → ℕ → Option Object → FrameSoFar
+after_store_in so_far vector (Some Keys) = record so_far { changed = (vector - 2) ∷ so_far.changed }
+after_store_in so_far vector _ = so_far
 
-abbrev pub after_store : State → Visit → ℕ → Visit
-after_store s visit vector = after_store_in visit vector (slice_get s.objects vector)
+abbrev pub after_store : State → FrameSoFar → ℕ → FrameSoFar
+after_store s so_far vector = after_store_in so_far vector (slice_get s.objects vector)

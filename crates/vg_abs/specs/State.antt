@@ -1,49 +1,16 @@
 -- What the library holds: for each declared object, in order of declaration, its table. A link stands as its map; the two objects behind are its
 -- chain and the vector of its keys.
-use Rattle.std.specs.Prelude.{ℕ, ◌≡◌, ◌-◌, List, [], Bool, true, false, ◌⊎◌, refl, Option, Some, slice_get}
-use Rattle.std.proofs.Common.{inl, inr}
+use Rattle.std.specs.Prelude.{ℕ, ◌-◌, List, [], Bool, Option, Some, slice_get}
 use Rattle.std.specs.FinMap.{empty}
 use Rattle.vg_abs.specs.declared.object.Object.{Object}
-use Rattle.vg_abs.specs.declared.object.Object.TheVariants.{Map, Chain, Keys, Cells, Prefixes}
-use Rattle.std.specs.Coded.{Coded, code_by, coded×, coded⊎, coded_list, coded_bool}
-use Rattle.vg_abs.specs.Tables.{Link, Vector, Routing, link_code, vector_code, routing_code}
+use Rattle.vg_abs.specs.declared.object.Object.TheVariants.{Map, Keys, Cells, Prefixes}
+use Rattle.vg_abs.specs.Tables.{Link, Vector, Routing}
 
 -- A state is full or partial. What a full state doesn't list is absent, or free; what a partial one doesn't list, it doesn't tell. A full
 -- state lists no absent key and no free index.
 pub record State : Type 0 where
   pub full : Bool
   pub objects : List Object
-
--- an object is stored as one of its payloads, or as which of the two others it is
-abbrev pub Stored : Type 0
-Stored = Link ⊎ (Vector ⊎ (Routing ⊎ Bool))
-
-abbrev pub stored : Object → Stored
-stored (Map link) = inl link
-stored (Cells vector) = inr (inl vector)
-stored (Prefixes prefixes) = inr (inr (inl prefixes))
-stored Chain = inr (inr (inr true))
-stored Keys = inr (inr (inr false))
-
-abbrev pub restored : Stored → Object
-restored (inl link) = Map link
-restored (inr (inl vector)) = Cells vector
-restored (inr (inr (inl prefixes))) = Prefixes prefixes
-restored (inr (inr (inr true))) = Chain
-restored (inr (inr (inr false))) = Keys
-
-pub restored-stored : (object : Object) → restored (stored object) ≡ object
-restored-stored (Map link) = refl
-restored-stored (Cells vector) = refl
-restored-stored (Prefixes prefixes) = refl
-restored-stored Chain = refl
-restored-stored Keys = refl
-
-abbrev pub object_code : Coded Object
-object_code = code_by Stored (coded⊎ link_code (coded⊎ vector_code (coded⊎ routing_code coded_bool))) stored restored restored-stored
-
-abbrev pub state_code : Coded State
-state_code = code_by (Bool × List Object) (coded× coded_bool (coded_list object_code)) (λ s. (s.full, s.objects)) (λ p. record { full = p.0; objects = p.1 }) (λ _. refl)
 
 -- the link whose map is an object, and a link of nothing where it is none
 abbrev pub no_link : Link

@@ -16,9 +16,11 @@ pub trait Lib {
     /// What is seen of it.
     ghost library: { Self → Library };
 
-    /// Whether something was asked that the state doesn't tell. From then on nothing is promised of answers.
+    /// Whether something was asked that the state doesn't tell; a full state tells all. From then on nothing is promised of answers, and nothing
+    /// changes but that loans are taken back.
     fn missed(&self) -> bool
-        ensures { result ≡ (library self.now).missed };
+        ensures missed { result ≡ (library self.now).missed }
+        ensures full { (library self.now).state.full ≡ true → result ≡ false };
 
     /// The index of a key, or none where the key is absent.
     fn map_get(&mut self, map: u16, key: &[u8]) -> Option<u32>
@@ -79,7 +81,7 @@ pub trait Lib {
         requires needs { Meets (library self.old) (ChainFree chain index) }
         ensures { Does (library self.old) (library self.new) (ChainFree chain index) };
 
-    /// Frees exactly the indices with a time before a bound, erases the keys in their cells, and answers how many they are. A link is told by its map.
+    /// Frees exactly the indices with a time before a bound, erases the keys in their cells, and answers how many they are. A link is named by its map.
     fn expire(&mut self, link: u16, before: u64) -> u32
         requires map { IsMap (library self.old) link }
         requires ready { MayExpire (library self.old) link }

@@ -24,7 +24,8 @@ pub struct LinkTable {
 }
 
 impl Model for LinkTable {
-    ghost use Rattle.vg_abs.specs.Tables.{Link, link_code};
+    ghost use Rattle.vg_abs.specs.Tables.{Link};
+    ghost use Rattle.vg_abs.specs.TableCodes.{link_code};
 
     ghost Value = { Link };
 
@@ -51,7 +52,8 @@ pub struct VectorTable {
 }
 
 impl Model for VectorTable {
-    ghost use Rattle.vg_abs.specs.Tables.{Vector, vector_code};
+    ghost use Rattle.vg_abs.specs.Tables.{Vector};
+    ghost use Rattle.vg_abs.specs.TableCodes.{vector_code};
 
     ghost Value = { Vector };
 
@@ -68,7 +70,8 @@ pub struct PrefixTable {
 }
 
 impl Model for PrefixTable {
-    ghost use Rattle.vg_abs.specs.Tables.{Routing, routing_code};
+    ghost use Rattle.vg_abs.specs.Tables.{Routing};
+    ghost use Rattle.vg_abs.specs.TableCodes.{routing_code};
 
     ghost Value = { Routing };
 

@@ -14,7 +14,8 @@ pub struct LibState {
 }
 
 impl Model for LibState {
-    ghost use Rattle.vg_abs.specs.State.{State, state_code};
+    ghost use Rattle.vg_abs.specs.State.{State};
+    ghost use Rattle.vg_abs.specs.StateCodes.{state_code};
 
     ghost Value = { State };
 

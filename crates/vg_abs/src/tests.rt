@@ -2,7 +2,12 @@ use super::*;
 use std::alloc::Global;
 use std::test::Fail;
 use vg_parts::Memory;
-use vg_stree::{Code, Operation, Operator, Parts, SExpr};
+use vg_stree::{
+    Code, Config, Field, FieldType, Fill, Names, ObjectKind, Operation, Operator, Parts, Route,
+    SExpr, Shape, Size, Spec, Struct, Width,
+};
+
+const EMPTY: Parts = Parts { from: 0, count: 0 };
 
 // What C11 6.5.5 to 6.5.14 gives for `uint64_t`, but for the difference that stops at 0, shifts by 64 or more, and divisors of 0.
 const ROWS: [(Operator, u64, u64, u64); 14] = [
@@ -52,13 +57,8 @@ fn chain(code: &mut Code, first: u32, operator: Operator, operand: u32) -> Resul
 #[test]
 fn a_premise_with_a_define(rt: HostRuntime) -> Result<(), Fail> {
     let (code, call) = made(rt.alloc())?;
-    let spec = vg_stree::Spec::new(
-        rt.alloc(),
-        vg_stree::Names::new(rt.alloc()),
-        vg_stree::Shape::new(rt.alloc(), 1),
-        code,
-        Parts { from: 0, count: 0 },
-    )?;
+    let shape = Shape::new(rt.alloc(), 1);
+    let spec = Spec::new(rt.alloc(), Names::new(rt.alloc()), shape, code, EMPTY)?;
     for (first, expected) in [(64512, 1), (64513, 0)] {
         let numbers = [first];
         let scope = Scope {
@@ -67,6 +67,110 @@ fn a_premise_with_a_define(rt: HostRuntime) -> Result<(), Fail> {
             names: &[],
         };
         assert_eq!(rt; value(spec.code(), &scope, call), expected);
+    }
+    Ok(())
+}
+
+// A struct of a `u16` and a `b2`; a link of it with 2 keys, a vector of it with 3 cells, and a prefix table.
+fn made_shape(alloc: Global) -> Result<Shape, Memory> {
+    let mut shape = Shape::new(alloc, 1);
+    for of in [FieldType::Number(Width::Bits16), FieldType::Bytes(2)] {
+        shape.add_field(Field { at: 0, of })?;
+    }
+    let fields = Parts { from: 0, count: 2 };
+    shape.add_struct(Struct { at: 0, fields })?;
+    let capacity = Size::Number(0);
+    let length = Size::Count(3);
+    let kinds = [
+        ObjectKind::Map { key: 0, capacity },
+        ObjectKind::Chain,
+        ObjectKind::Keys,
+        ObjectKind::Vector { cell: 0, length },
+        ObjectKind::Table { low: 0, high: 9 },
+    ];
+    for kind in kinds {
+        shape.add_object(vg_stree::Object { at: 0, kind })?;
+    }
+    Ok(shape)
+}
+
+// Three routes, the second of which replaces the first; and three fills of a cell, the last of which replaces the first.
+fn made_config(alloc: Global) -> Result<Config, Memory> {
+    let mut numbers = Vec::new(alloc);
+    numbers.push(2)?;
+    let mut routes = Vec::new(alloc);
+    for (address, len, value) in [
+        (0x0A00_0000, 8, 1),
+        (0x0A00_0001, 8, 2),
+        (0x0A01_0000, 16, 3),
+    ] {
+        routes.push(Route {
+            table: 4,
+            address,
+            len,
+            value,
+        })?;
+    }
+    let mut fills = Vec::new(alloc);
+    for (field, value) in [(0, 0x0102), (1, 0x0304), (0, 0x0506)] {
+        fills.push(Fill {
+            vector: 3,
+            index: 1,
+            field,
+            value,
+        })?;
+    }
+    Ok(Config::new(numbers, routes, fills))
+}
+
+fn opened(alloc: Global) -> Result<LibState, Memory> {
+    let code = Code::new(alloc);
+    let spec = Spec::new(alloc, Names::new(alloc), made_shape(alloc)?, code, EMPTY)?;
+    let config = made_config(alloc)?;
+    opening(alloc, &spec, &config)?.copy(alloc)
+}
+
+#[test]
+fn an_opening_state(rt: HostRuntime) -> Result<(), Fail> {
+    let state = opened(rt.alloc())?;
+    assert!(rt; state.full);
+    assert_eq!(rt; state.objects.len(), 5);
+    if let Object::Map(link) = &state.objects[0] {
+        assert_eq!(rt; (link.capacity, link.key_length, link.size), (2, 4, 0));
+        assert!(rt; link.keys.get(&[0, 0, 0, 0]).is_none() && link.times.get(0).is_none());
+        assert_eq!(rt;
+            link.cells.get(1).map(|cell| cell.as_slice().len()),
+            Some(4)
+        );
+    } else {
+        assert!(rt; false);
+    }
+    if let Object::Cells(vector) = &state.objects[3] {
+        assert_eq!(rt; vector.cell_count, 3);
+        assert!(rt;
+            vector
+                .cells
+                .get(1)
+                .is_some_and(|cell| cell.as_slice() == [6, 5, 3, 4].as_slice())
+        );
+        assert!(rt;
+            vector
+                .cells
+                .get(2)
+                .is_some_and(|cell| cell.as_slice() == [0, 0, 0, 0].as_slice())
+        );
+        assert!(rt; vector.cells.get(3).is_none());
+    } else {
+        assert!(rt; false);
+    }
+    if let Object::Prefixes(prefixes) = &state.objects[4] {
+        assert_eq!(rt; prefixes.routes.len(), 2);
+        assert_eq!(rt;
+            (prefixes.routes[0].value, prefixes.routes[1].value),
+            (2, 3)
+        );
+    } else {
+        assert!(rt; false);
     }
     Ok(())
 }

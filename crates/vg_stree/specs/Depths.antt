@@ -1,6 +1,6 @@
 -- How deep a specification nests: constructs in one another, and the body of a define at its call. A construct is what stands in
 -- parentheses, brackets or braces, an argument, what stands after a `!`, and the second and third operand of `?:`. The operators of a
--- chain and the statements of a block add nothing, however many there are.
+-- chain and the statements of a block add nothing, however many there are. And how many arguments a call has.
 use Rattle.std.specs.Prelude.{ℕ, ◌≡◌, ◌+◌, ◌≤◌, max, List, [], ◌∷◌, ◌++◌, fold, All, slice_get, unwrap_or, Bool, true, nat_le}
 use Rattle.std.specs.List.{list_all}
 use Rattle.vg_stree.specs.declared.code.Parts.{Parts}
@@ -10,7 +10,7 @@ use Rattle.vg_stree.specs.declared.code.SStmt.{SStmt}
 use Rattle.vg_stree.specs.declared.code.SStmt.TheVariants as statements
 use Rattle.vg_stree.specs.Syntax.{Syntax, listed}
 
--- how deep a specification may nest, so that to evaluate it takes little of the stack
+-- how deep a specification may nest
 abbrev pub deepest_nesting : ℕ
 deepest_nesting = 1000
 
@@ -84,11 +84,11 @@ statement_depths_from code exprs known (one ∷ more) = statement_depths_from co
 abbrev pub statement_depths : Syntax → List ℕ
 statement_depths code = statement_depths_from code (expression_depths code) [] code.statements
 
--- how many arguments a call of a define may have, so that they find their place on the stack
+-- how many arguments a call of a define may have
 abbrev pub most_arguments : ℕ
 most_arguments = 64
 
--- how many arguments a call has; any other expression has none
+-- how many arguments a call names; any other expression has none
 abbrev pub argument_count : SExpr → ℕ
 argument_count (expressions.Call body arguments) = arguments.count
 argument_count _ = 0
