@@ -6,7 +6,7 @@ use Rattle.std.proofs.lemmas.Bool.{cases_eq, eq-eqb, ne_eqb, cond-true, cond-fal
 use Rattle.std.proofs.lemmas.List.{drop_all, drop_more, get_or_append_left, get_or-append-add}
 use Rattle.std.proofs.lemmas.List.Elements.{All-nil, All-cons}
 use Rattle.vg_stree.specs.declared.config.Route.{Route}
-use Rattle.vg_lpm.specs.Routes.{Matches, IsLongestMatch}
+use Rattle.vg_stree.specs.Routes.{Matches, IsLongestMatch}
 use Rattle.vg_lpm.specs.Table.{leaf}
 use Rattle.vg_lpm.specs.Building.{taken, passed, passes}
 

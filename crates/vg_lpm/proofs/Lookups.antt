@@ -1,7 +1,7 @@
 -- What a look-up reads, and what it comes to.
 use Rattle.std.proofs.Common.{◌≡◌, ℕ, ◌+◌, ◌-◌, ◌*◌, ◌/◌, ◌%◌, ◌^◌, ◌<◌, List, get_or, Option, Some, None, refl, sym, ◌∙◌, ap, subst, arith}
 use Rattle.vg_stree.specs.declared.config.Route.{Route}
-use Rattle.vg_lpm.specs.Routes.{IsLongestMatch}
+use Rattle.vg_stree.specs.Routes.{IsLongestMatch}
 use Rattle.vg_lpm.specs.Table.{leaf, follow, walk, IsTableOf}
 use Rattle.vg_lpm.proofs.Links.{follow-leaf, follow-link}
 

@@ -4,7 +4,7 @@ use Rattle.std.proofs.lemmas.Bool.{cases_lt, cases_eq, eq-eqb, ne_eqb, cond-true
 use Rattle.std.proofs.lemmas.Nat.{shr-shr}
 use Rattle.vg_stree.specs.declared.config.Route.{Route}
 use Rattle.vg_lpm.specs.Table.{follow, walk, AreLinks}
-use Rattle.vg_lpm.specs.Routes.{Matches}
+use Rattle.vg_stree.specs.Routes.{Matches}
 use Rattle.vg_lpm.specs.Building.{taken, Fills, Opens}
 use Rattle.vg_lpm.proofs.Runs.{same_block, in_block, one_block, from_block}
 use Rattle.vg_lpm.proofs.Links.{follow-leaf, follow-link}

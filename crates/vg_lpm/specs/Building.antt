@@ -1,12 +1,9 @@
 -- How the table comes about: one pass over the routes for each length, the shortest first. A route takes over each address that it
 -- matches, so a longer one wins over a shorter, and of equally long ones the later.
-use Rattle.std.specs.Prelude.{ℕ, zero, suc, ◌≡◌, ◌+◌, ◌-◌, ◌/◌, ◌^◌, ◌<◌, ◌≤◌, ◌≢◌, List, [], ◌∷◌, length, slice_index, Some, Bool, nat_eq, if◌then◌else◌}
+use Rattle.std.specs.Prelude.{ℕ, zero, suc, ◌≡◌, ◌+◌, ◌/◌, ◌^◌, ◌<◌, ◌≤◌, ◌≢◌, List, [], ◌∷◌, length, slice_index, Some, nat_eq, if◌then◌else◌}
 use Rattle.vg_stree.specs.declared.config.Route.{Route}
+use Rattle.vg_stree.specs.Routes.{matches}
 use Rattle.vg_lpm.specs.Table.{leaf, link, follow, AreLinks}
-
--- `Matches` as a test
-abbrev pub matches : Route → ℕ → Bool
-matches route address = nat_eq (address / 2 ^ (32 - route.len)) (route.address / 2 ^ (32 - route.len))
 
 -- the word at an address after a route took over what it matches
 abbrev pub taken : Route → ℕ → ℕ → ℕ

@@ -4,7 +4,7 @@ use Rattle.std.specs.Prelude.{ℕ, ◌≡◌, ◌+◌, ◌*◌, ◌-◌, ◌/◌
 use Rattle.vg_stree.specs.declared.config.Route.{Route}
 use Rattle.vg_lpm.specs.declared.entry.Entry.{Entry}
 use Rattle.vg_lpm.specs.declared.entry.Entry.TheVariants.{Leaf, Link}
-use Rattle.vg_lpm.specs.Routes.{IsLongestMatch}
+use Rattle.vg_stree.specs.Routes.{IsLongestMatch}
 
 -- the least word that is a link: 0 is the leaf without a value, and the 2 ^ 16 words after it are those with one
 abbrev pub link : ℕ

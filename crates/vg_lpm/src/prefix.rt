@@ -1,6 +1,6 @@
 //! A prefix table and its look-up.
 ghost use Rattle.std.specs.Prelude.{◌≡◌, ◌+◌, ◌*◌, ◌%◌, ◌^◌, ◌<◌, ◌≤◌, All, IfOk, length};
-ghost use Rattle.vg_lpm.specs.Routes.{IsLongestMatch};
+ghost use Rattle.vg_stree.specs.Routes.{IsLongestMatch};
 
 use crate::building::built;
 use crate::entry::{Entry, entry_of};

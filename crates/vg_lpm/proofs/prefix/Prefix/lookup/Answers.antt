@@ -1,6 +1,6 @@
 use Rattle.std.proofs.Common.{List, subst}
 use Rattle.vg_stree.specs.declared.config.Route.{Route}
-use Rattle.vg_lpm.specs.Routes.{IsLongestMatch}
+use Rattle.vg_stree.specs.Routes.{IsLongestMatch}
 use Rattle.vg_lpm.proofs.Lookups.{ends_first, ends_second, ends_third}
 use Rattle.vg_lpm.proofs.prefix.Prefix.lookup.Goals as goal
 

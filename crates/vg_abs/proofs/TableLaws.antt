@@ -1,0 +1,84 @@
+-- Ordered entries as finite maps.
+use Rattle.std.proofs.Common.{◌≡◌, ℕ, List, [], ◌∷◌, map, Some, refl, sym, ◌∙◌, ap, cond}
+use Rattle.std.specs.declared.cmp.Ordering.{Ordering}
+use Rattle.std.specs.declared.cmp.Ordering.TheVariants.{Less, Equal, Greater}
+use Rattle.std.specs.Ordering.{nat_cmp, eq_by_cmp, match_ordering}
+use Rattle.std.specs.Cmp.{IsTotalOrder, nat_cmp_total}
+use Rattle.std.specs.Cmp.Lexicographic.{slice_cmp, nat_list_cmp_total}
+use Rattle.std.specs.FinMap.{IsAntisymmetric, get, insert, from_entries, find, put, same_map, get-from_entries, get-insert, nat_cmp-IsAntisymmetric, slice_cmp-IsAntisymmetric}
+use Rattle.std.specs.FinMap.Entries.{find-put, by_order}
+use Rattle.std.specs.Map.{lookup}
+use Rattle.std.specs.List.{AllZip}
+use Rattle.std.specs.BTreeMap.{is_at, insert_entry}
+
+-- to put an entry into a list is to put it into the map of the list
+insert-put : {K X : Type 0} {R : K → K → Ordering} → IsTotalOrder R → IsAntisymmetric R → (es : List (K × X)) (k : K) (v : X) → from_entries {R = R} (put R k v es) ≡ insert (from_entries es) k v
+insert-put {R = R} total same es k v =
+    same_map total same _ _ (λ q. get-from_entries total (put R k v es) q ∙ find-put R total q k v es
+    ∙ sym (get-insert total (from_entries es) k v q ∙ ap (cond (eq_by_cmp R q k) (Some v)) (get-from_entries total es q)))
+
+-- entries whose keys are seen by a function
+abbrev pub seen : {K L X : Type 0} → (K → L) → K × X → L × X
+seen see entry = (see entry.0, entry.1)
+
+put_seen : {K L X : Type 0} (see : K → L) (R : L → L → Ordering) (es : List (K × X)) (k : K) (v : X) → map (seen see) (insert_entry (λ x y. R (see x) (see y)) es k v) ≡ put R (see k) v (map (seen see) es)
+put_seen see R [] k v = refl
+put_seen see R (e ∷ es) k v =
+    elim (R (see k) (see e.0)) as (λ (o : Ordering). map (seen see) (match_ordering o ((k, v) ∷ e ∷ es) ((e.0, v) ∷ es) (e ∷ insert_entry (λ x y. R (see x) (see y)) es k v))
+    ≡ by_order o ((see k, v) ∷ seen see e ∷ map (seen see) es) ((see e.0, v) ∷ map (seen see) es) (seen see e ∷ put R (see k) v (map (seen see) es))) [
+      | Less ↦ refl
+      | Equal ↦ refl
+      | Greater ↦ ap (λ xs. seen see e ∷ xs) (put_seen see R es k v)
+    ]
+
+find_seen : {K L X : Type 0} (see : K → L) (R : L → L → Ordering) (q : L) (es : List (K × X)) → lookup (is_at (λ k. R q (see k))) es ≡ find R q (map (seen see) es)
+find_seen see R q [] = refl
+find_seen see R q (e ∷ es) = ap (cond (eq_by_cmp R q (see e.0)) (Some e.1)) (find_seen see R q es)
+
+-- numbers
+find_number : {X : Type 0} (q : ℕ) (es : List (ℕ × X)) → lookup (is_at (nat_cmp q)) es ≡ find nat_cmp q es
+find_number q [] = refl
+find_number q (e ∷ es) = ap (cond (eq_by_cmp nat_cmp q e.0) (Some e.1)) (find_number q es)
+
+put_number : {X : Type 0} (es : List (ℕ × X)) (k : ℕ) (v : X) → insert_entry nat_cmp es k v ≡ put nat_cmp k v es
+put_number [] k v = refl
+put_number (e ∷ es) k v =
+    elim (nat_cmp k e.0) as (λ (o : Ordering). match_ordering o ((k, v) ∷ e ∷ es) ((e.0, v) ∷ es) (e ∷ insert_entry nat_cmp es k v)
+    ≡ by_order o ((k, v) ∷ e ∷ es) ((e.0, v) ∷ es) (e ∷ put nat_cmp k v es)) [
+      | Less ↦ refl
+      | Equal ↦ refl
+      | Greater ↦ ap (λ xs. e ∷ xs) (put_number es k v)
+    ]
+
+pub number-get : {X : Type 0} (es : List (ℕ × X)) (q : ℕ) → lookup (is_at (nat_cmp q)) es ≡ get (from_entries {R = nat_cmp} es) q
+number-get es q = find_number q es ∙ sym (get-from_entries nat_cmp_total es q)
+
+pub number-insert : {X : Type 0} (es new : List (ℕ × X)) (k : ℕ) (v : X) → new ≡ insert_entry nat_cmp es k v → from_entries {R = nat_cmp} new ≡ insert (from_entries es) k v
+number-insert es new k v is = ap (λ xs. from_entries {R = nat_cmp} xs) (is ∙ put_number es k v) ∙ insert-put nat_cmp_total nat_cmp-IsAntisymmetric es k v
+
+-- keys that are seen as bytes
+pub key-get : {K X : Type 0} (see : K → List ℕ) (es : List (K × X)) (q : List ℕ) → lookup (is_at (λ k. slice_cmp nat_cmp q (see k))) es ≡ get (from_entries {R = slice_cmp nat_cmp} (map (λ e. (see e.0, e.1)) es)) q
+key-get see es q = find_seen see (slice_cmp nat_cmp) q es ∙ sym (get-from_entries nat_list_cmp_total (map (seen see) es) q)
+
+pub key-insert : {K X : Type 0} (see : K → List ℕ) (es new : List (K × X)) (k : K) (v : X) → new ≡ insert_entry (λ x y. slice_cmp nat_cmp (see x) (see y)) es k v →
+    from_entries {R = slice_cmp nat_cmp} (map (λ e. (see e.0, e.1)) new) ≡ insert (from_entries (map (λ e. (see e.0, e.1)) es)) (see k) v
+key-insert see es new k v is =
+    ap (λ xs. from_entries {R = slice_cmp nat_cmp} (map (seen see) xs)) is ∙ ap (λ xs. from_entries {R = slice_cmp nat_cmp} xs) (put_seen see (slice_cmp nat_cmp) es k v)
+    ∙ insert-put nat_list_cmp_total (slice_cmp-IsAntisymmetric nat_cmp-IsAntisymmetric) (map (seen see) es) (see k) v
+
+-- entries whose clones are seen as the same are seen as the same
+pub copies-seen : {K L X : Type 0} (see : K → L) (C : K → K → Type 0) (D : X → X → Type 0) (es ns : List (K × X)) → ((x y : K) → C x y → see y ≡ see x) → ((v w : X) → D v w → w ≡ v) →
+    AllZip (λ p q. C p.0 q.0 × D p.1 q.1) es ns → map (seen see) ns ≡ map (seen see) es
+copies-seen see C D [] [] same_key same_value zip = refl
+copies-seen see C D [] (n ∷ ns) same_key same_value zip = absurd zip
+copies-seen see C D (e ∷ es) [] same_key same_value zip = absurd zip
+copies-seen {L = L} {X = X} see C D (e ∷ es) (n ∷ ns) same_key same_value zip =
+    let head : ◌≡◌ {A = L × X} (see n.0, n.1) (see e.0, e.1) = ap (λ (k : L). (k, n.1)) (same_key e.0 n.0 zip.0.0) ∙ ap (λ (x : X). (see e.0, x)) (same_value e.1 n.1 zip.0.1) in
+    ap (λ (x : L × X). x ∷ map (seen see) ns) head ∙ ap (λ xs. seen see e ∷ xs) (copies-seen see C D es ns same_key same_value zip.1)
+
+-- numbers that are equal place by place
+pub zip_same : (xs ys : List ℕ) → AllZip (λ x y. y ≡ x) xs ys → ys ≡ xs
+zip_same [] [] zip = refl
+zip_same [] (y ∷ ys) zip = absurd zip
+zip_same (x ∷ xs) [] zip = absurd zip
+zip_same (x ∷ xs) (y ∷ ys) zip = ap (λ (n : ℕ). n ∷ ys) zip.0 ∙ ap (λ ns. x ∷ ns) (zip_same xs ys zip.1)

@@ -1,0 +1,15 @@
+pub mod Tables
+pub mod TableCodes
+pub mod State
+pub mod StateCodes
+pub mod Answers
+pub mod Effects
+pub mod Rows
+pub mod Fields
+pub mod Expressions
+pub mod Scopes
+pub mod Shape
+pub mod Lawful
+pub mod Opening
+pub mod Agreement
+pub mod Library

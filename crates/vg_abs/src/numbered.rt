@@ -1,0 +1,65 @@
+//! A table from numbers.
+ghost use Rattle.std.specs.Prelude.{◌≡◌, IfOk, OnOk, OnErr, option_copied};
+ghost use Rattle.std.specs.FinMap as map;
+ghost use Rattle.std.specs.Ordering.{nat_cmp};
+
+use std::alloc::Global;
+use std::collections::BTreeMap;
+use std::marker::Model;
+use vg_parts::Memory;
+
+/// A table from numbers to values.
+#[derive(Drop)]
+pub struct Numbered<V> {
+    entries: BTreeMap<u64, V>,
+}
+
+impl<V> Model for Numbered<V> {
+    ghost use Rattle.std.specs.FinMap as map;
+    ghost use Rattle.std.specs.Ordering.{nat_cmp};
+    ghost use Rattle.std.specs.Coded.{coded_ℕ};
+
+    ghost Value = { map.FinMap nat_cmp V };
+
+    ghost coded = { map.code coded_ℕ V.code };
+
+    ghost view = { λ a. map.from_entries a.entries.entries };
+}
+
+impl<V: Drop> Numbered<V> {
+    /// A table without entries.
+    pub fn new(alloc: Global) -> Numbered<V>
+        ensures { result ≡ map.empty }
+    {
+        Numbered {
+            entries: BTreeMap::new(alloc),
+        }
+    }
+
+    /// The value at a number.
+    pub fn get(&self, number: u64) -> Option<&V>
+        ensures { option_copied result ≡ map.get self.now number }
+    {
+        self.entries.get(&number)
+    }
+
+    /// Puts a value at a number, in place of the one that was there.
+    pub fn insert(&mut self, number: u64, value: V) -> Result<(), Memory>
+        ensures inserted { OnOk result (self.new ≡ map.insert self.old number value) }
+        ensures kept { OnErr result (self.new ≡ self.old) }
+    {
+        self.entries.insert(number, value)?;
+        Ok(())
+    }
+}
+
+impl<V: Drop + Clone> Numbered<V> {
+    /// The same table once more, where clones of its values are equal to them.
+    pub fn copy(&self) -> Result<Numbered<V>, Memory>
+        ensures { IfOk result (λ copied. ((x y : V) → V.is_clone x y → y ≡ x) → copied ≡ self.now) }
+    {
+        Ok(Numbered {
+            entries: self.entries.clone()?,
+        })
+    }
+}
