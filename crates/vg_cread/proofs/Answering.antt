@@ -1,11 +1,12 @@
 -- What the answer of a reading says of whole texts.
-use Rattle.std.proofs.Common.{◌≡◌, ◌∙◌, ◌≤◌, ◌+◌, inl, inr, ℕ, List, ◌++◌, take, drop, length, slice_get, Option, Some, None, Result, Ok, Err, refl, sym, ap, subst, arith}
-use Rattle.std.proofs.lemmas.Option.{slice_get_within}
-use Rattle.std.proofs.lemmas.List.{take-append-drop, length-take-le}
+use Rattle.std.proofs.Common.{◌≡◌, ◌∙◌, ◌<◌, ◌≤◌, ◌+◌, inl, inr, ℕ, List, ◌++◌, take, drop, length, slice_get, Option, Some, None, Result, Ok, Err, refl, sym, ap, subst, arith}
+use Rattle.std.proofs.lemmas.Bool.{cases_lt}
+use Rattle.std.proofs.lemmas.Option.{slice_get_within, slice_get_cases, slice_get_past}
+use Rattle.std.proofs.lemmas.List.{take-append-drop, length-take-le, append_assoc, take-take}
 use Rattle.vg_core.specs.Syntax.{Syntax}
 use Rattle.vg_ctok.specs.declared.kinds.Token.{Token}
 use Rattle.vg_cread.specs.Grammar.{unit}
-use Rattle.vg_cread.specs.Places.{State, place_at}
+use Rattle.vg_cread.specs.Places.{State, place_at, place_or, end_of}
 use Rattle.vg_cread.specs.Spelling.{start, Spells}
 use Rattle.vg_cread.specs.Guided.{Guides}
 use Rattle.vg_cread.specs.Refusals.{RulesOut, Begins, Refuses}
@@ -15,11 +16,12 @@ use Rattle.vg_cread.specs.declared.reader.Stop.TheVariants as stops
 use Rattle.vg_cread.specs.declared.reading.ReadFault.{ReadFault}
 use Rattle.vg_cread.specs.declared.reading.ReadFault.TheVariants as faults
 use Rattle.vg_cread.proofs.Onward.{same_state}
-use Rattle.vg_cread.proofs.Telling.{guided_of}
-use Rattle.vg_cread.proofs.Units.{unit_read, unit_tidy, spells_roomier}
-use Rattle.vg_cread.proofs.Stopping.{unit_lacks, unit_opens, unit_lacked, unit_opened}
+use Rattle.vg_cread.proofs.Telling.{guided_of, spelled_of}
+use Rattle.vg_cread.proofs.Reaching.{opens_so, opened_so}
+use Rattle.vg_cread.proofs.Units.{unit_read, unit_spelled, unit_tidy, spells_roomier}
+use Rattle.vg_cread.proofs.Stopping.{unit_lacks, unit_opens, unit_opened}
 use Rattle.vg_cread.proofs.Bounds.{Within, within, within_inner}
-use Rattle.vg_cread.proofs.Completing.{begins_tree}
+use Rattle.vg_cread.proofs.Completing.{begins_tree, begins_opened}
 use Rattle.vg_cread.proofs.Roomier.{still_wrong}
 use Rattle.vg_cread.proofs.Prefixes.{all_cut, AtEnd, Past}
 
@@ -76,14 +78,14 @@ module _ (toks : List Token) where
   wrong_begins : (i : ℕ) → read toks 64 unit start ≡ Err (Wrong i) → Begins (take i toks)
   wrong_begins i e = begins_tree toks 64 i (stops_within (read toks 64 unit start) i (within toks (read_inner toks 64) (within_inner toks 64) unit start (omega arith)) e) (unit_lacks toks 64 i e)
 
-  pub wrong_fault : (i : ℕ) → read toks 64 unit start ≡ Err (Wrong i) → Refuses toks (faults.Syntax (place_at toks i))
-  wrong_fault i e = (i, refl, unit_lacks toks 64 i e, wrong_begins i e, ruled_out 64 i (slice_get toks i) refl e)
+  wrong_within : (i : ℕ) → read toks 64 unit start ≡ Err (Wrong i) → i ≤ length toks
+  wrong_within i e = stops_within (read toks 64 unit start) i (within toks (read_inner toks 64) (within_inner toks 64) unit start (omega arith)) e
 
-  pub deep_fault : (i : ℕ) → read toks 64 unit start ≡ Err (Deep i) → Refuses toks (faults.Deep (place_at toks i))
-  deep_fault i e = (i, refl, unit_opens toks 64 i e)
+  deep_stops : (r : Result (ℕ × State) Refusal) (i : ℕ) → Within toks 0 r → r ≡ Err (Deep i) → i ≤ length toks
+  deep_stops r i h e = let inside = (subst (λ r. Within toks 0 r) e h).1 in omega (arith, inside)
 
-  wrong_is : {i j : ℕ} → Wrong i ≡ Wrong j → i ≡ j
-  wrong_is e = cc
+  deep_within : (i : ℕ) → read toks 64 unit start ≡ Err (Deep i) → i ≤ length toks
+  deep_within i e = deep_stops (read toks 64 unit start) i (within toks (read_inner toks 64) (within_inner toks 64) unit start (omega arith)) e
 
   deep_is : {i j : ℕ} → Deep i ≡ Deep j → i ≡ j
   deep_is e = cc
@@ -91,23 +93,65 @@ module _ (toks : List Token) where
   not_both : {i j : ℕ} → Wrong i ≡ Deep j → ⊥
   not_both e = cc
 
+  pub wrong_fault : (i : ℕ) → read toks 64 unit start ≡ Err (Wrong i) → Refuses toks (faults.Syntax (place_at toks i))
+  wrong_fault i e =
+      (i, refl, wrong_begins i e, ruled_out 64 i (slice_get toks i) refl e, λ j le opens. not_both (same_err (read toks 64 unit start) (Wrong i) (Deep j) e (unit_opened toks 64 j (opens_so toks j 64 opens))))
+
+  pub deep_fault : (i : ℕ) → read toks 64 unit start ≡ Err (Deep i) → Refuses toks (faults.Deep (place_at toks i))
+  deep_fault i e = (i, refl, opened_so toks i 64 (unit_opens toks 64 i e))
+
+  -- where a token is ruled out, no tree begins with it
+  ruled : (i j : ℕ) (t : Token) → j < i → RulesOut toks j (Some t) → Begins (take i toks) → ⊥
+  ruled i j t less out (room, more, tree, is) =
+      let parts : take i toks ≡ take (j + 1) toks ++ drop (j + 1) (take i toks) = sym (take-append-drop (j + 1) (take i toks)) ∙ ap (λ (l : List Token). l ++ drop (j + 1) (take i toks)) (take-take (j + 1) i toks (omega (arith, less))) in
+      let whole : take i toks ++ more ≡ take (j + 1) toks ++ (drop (j + 1) (take i toks) ++ more) = ap (λ (l : List Token). l ++ more) parts ∙ append_assoc (take (j + 1) toks) (drop (j + 1) (take i toks)) more in
+      out room (drop (j + 1) (take i toks) ++ more) tree (subst (λ (l : List Token). Spells room l tree) whole is)
+
+  begun_before : (i j : ℕ) → j < i → i ≤ length toks → RulesOut toks j (slice_get toks j) → Begins (take i toks) → ⊥
+  begun_before i j less le out begun = elim (slice_get_cases toks j).1 [
+    | inl found ↦ ruled i j found.0 less (subst (λ o. RulesOut toks j o) found.2 out) begun
+    | inr past ↦ absurd (omega (arith, past.0, less, le))
+  ]
+
+  -- behind the last token all places are its end
+  past_end : (i j : ℕ) → slice_get toks i ≡ None → slice_get toks j ≡ None → place_at toks i ≡ place_at toks j
+  past_end i j one two = ap (λ o. place_or o (end_of toks)) one ∙ sym (ap (λ o. place_or o (end_of toks)) two)
+
+  same_place : (i j : ℕ) → i < j → RulesOut toks i (slice_get toks i) → Begins (take j toks) → place_at toks i ≡ place_at toks j
+  same_place i j less out begun = elim (slice_get_cases toks i).1 [
+    | inl found ↦ absurd (ruled j i found.0 less (subst (λ o. RulesOut toks i o) found.2 out) begun)
+    | inr past ↦ past_end i j past.1 (slice_get_past toks j (omega (arith, past.0, less)))
+  ]
+
   pub wrong_only : (i : ℕ) (f : ReadFault) → read toks 64 unit start ≡ Err (Wrong i) → Refuses toks f → faults.Syntax (place_at toks i) ≡ f
-  wrong_only i (faults.Syntax at) e (j, place, lacks, begun, out) =
-      let same : i ≡ j = wrong_is (same_err (read toks 64 unit start) (Wrong i) (Wrong j) e (unit_lacked toks 64 j lacks)) in
-      ap (λ (k : ℕ). faults.Syntax (place_at toks k)) same ∙ ap faults.Syntax (sym place)
-  wrong_only i (faults.Deep at) e (j, place, opens) = absurd (not_both (same_err (read toks 64 unit start) (Wrong i) (Deep j) e (unit_opened toks 64 j opens)))
+  wrong_only i (faults.Syntax at) e (j, place, begun, out, none) = elim (cases_lt i j) [
+    | inl less ↦ ap faults.Syntax (same_place i j less (ruled_out 64 i (slice_get toks i) refl e) begun ∙ sym place)
+    | inr rest ↦ elim (cases_lt j i) [
+      | inl more ↦ absurd (begun_before i j more (wrong_within i e) out (wrong_begins i e))
+      | inr other ↦ let same : i ≡ j = omega arith in ap (λ (k : ℕ). faults.Syntax (place_at toks k)) same ∙ ap faults.Syntax (sym place)
+    ]
+  ]
+  wrong_only i (faults.Deep at) e (j, place, opens) = absurd (not_both (same_err (read toks 64 unit start) (Wrong i) (Deep j) e (unit_opened toks 64 j (opens_so toks j 64 opens))))
   wrong_only i faults.Memory e none = absurd none
 
   pub deep_only : (i : ℕ) (f : ReadFault) → read toks 64 unit start ≡ Err (Deep i) → Refuses toks f → faults.Deep (place_at toks i) ≡ f
-  deep_only i (faults.Syntax at) e (j, place, lacks, begun, out) = absurd (not_both (same_err (read toks 64 unit start) (Wrong j) (Deep i) (unit_lacked toks 64 j lacks) e))
+  deep_only i (faults.Syntax at) e (j, place, begun, out, none) = elim (cases_lt j i) [
+    | inl less ↦ absurd (begun_before i j less (deep_within i e) out (begins_opened toks 64 i (deep_within i e) (unit_opens toks 64 i e)))
+    | inr le ↦ absurd (none i (omega arith) (opened_so toks i 64 (unit_opens toks 64 i e)))
+  ]
   deep_only i (faults.Deep at) e (j, place, opens) =
-      let same : i ≡ j = deep_is (same_err (read toks 64 unit start) (Deep i) (Deep j) e (unit_opened toks 64 j opens)) in
+      let same : i ≡ j = deep_is (same_err (read toks 64 unit start) (Deep i) (Deep j) e (unit_opened toks 64 j (opens_so toks j 64 opens))) in
       ap (λ (k : ℕ). faults.Deep (place_at toks k)) same ∙ ap faults.Deep (sym place)
   deep_only i faults.Memory e none = absurd none
 
+  -- a text that is read is ruled out nowhere
+  never_ruled : (tree : Syntax) (j : ℕ) (o : Option Token) → Spells 64 toks tree → RulesOut toks j o → ⊥
+  never_ruled tree j None is out = out 64 tree is
+  never_ruled tree j (Some t) is out = out 64 (drop (j + 1) toks) tree (subst (λ (l : List Token). Spells 64 l tree) (sym (take-append-drop (j + 1) toks)) is)
+
   pub no_fault : (root : ℕ) (t : State) (f : ReadFault) → read toks 64 unit start ≡ Ok (root, t) → Refuses toks f → ⊥
-  no_fault root t (faults.Syntax at) e (j, place, lacks, begun, out) = never_both (read toks 64 unit start) (root, t) (Wrong j) e (unit_lacked toks 64 j lacks)
-  no_fault root t (faults.Deep at) e (j, place, opens) = never_both (read toks 64 unit start) (root, t) (Deep j) e (unit_opened toks 64 j opens)
+  no_fault root t (faults.Syntax at) e (j, place, begun, out, none) = never_ruled t.tree j (slice_get toks j) (spelled_of toks 64 t.tree (unit_spelled toks 64 root t e)) out
+  no_fault root t (faults.Deep at) e (j, place, opens) = never_both (read toks 64 unit start) (root, t) (Deep j) e (unit_opened toks 64 j (opens_so toks j 64 opens))
   no_fault root t faults.Memory e none = none
 
   -- what a call gives where it stops

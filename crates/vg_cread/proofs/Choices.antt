@@ -67,11 +67,11 @@ tells (Inner n) behind t = implies behind (follows n t)
 tells (Made f) behind t = tells f behind t
 
 -- truth
-or_left : (a b : Bool) → a ≡ true → (a || b) ≡ true
+pub or_left : (a b : Bool) → a ≡ true → (a || b) ≡ true
 or_left true b is = refl
 or_left false b is = absurd (cc)
 
-or_right : (a b : Bool) → b ≡ true → (a || b) ≡ true
+pub or_right : (a b : Bool) → b ≡ true → (a || b) ≡ true
 or_right true b is = refl
 or_right false b is = is
 
@@ -88,7 +88,7 @@ and_second : (a b : Bool) → b ≡ false → (a && b) ≡ false
 and_second true b is = is
 and_second false b is = refl
 
-not_of : (a : Bool) → a ≡ false → not a ≡ true
+pub not_of : (a : Bool) → a ≡ false → not a ≡ true
 not_of a is = rw is refl
 
 pub implied : (a b : Bool) → implies a b ≡ true → a ≡ true → b ≡ true
@@ -103,7 +103,7 @@ abbrev pub After : (Token → Bool) → Option Token → Type 0
 After these None = Unit {0}
 After these (Some t) = these t ≡ true
 
-after_at : (these : Token → Bool) (o : Option Token) (t : Token) → o ≡ Some t → these t ≡ true → After these o
+pub after_at : (these : Token → Bool) (o : Option Token) (t : Token) → o ≡ Some t → these t ≡ true → After these o
 after_at these o t found is = subst (λ p. After these p) (sym found) is
 
 after_more : (these those : Token → Bool) → ((t : Token) → these t ≡ true → those t ≡ true) → (o : Option Token) → After these o → After those o
@@ -113,7 +113,7 @@ after_more these those h (Some t) is = h t is
 pub some_passes : (test : Token → Bool) (o : Option Token) (t : Token) → o ≡ Some t → test t ≡ true → passes test o ≡ true
 some_passes test o t found is = ap (passes test) found ∙ is
 
-some_fails : (test : Token → Bool) (o : Option Token) (t : Token) → o ≡ Some t → not (test t) ≡ true → passes test o ≡ false
+pub some_fails : (test : Token → Bool) (o : Option Token) (t : Token) → o ≡ Some t → not (test t) ≡ true → passes test o ≡ false
 some_fails test o t found is = ap (passes test) found ∙ not-true (test t) is
 
 none_pass : (test these : Token → Bool) → ((t : Token) → these t ≡ true → not (test t) ≡ true) → (o : Option Token) → After these o → passes test o ≡ false
@@ -121,10 +121,10 @@ none_pass test these h None is = refl
 none_pass test these h (Some t) is = not-true (test t) (h t is)
 
 -- what the tests tell of a choice and of a chain
-abbrev any : Token
+abbrev pub any : Token
 any = record { kind = kinds.Name; from = 0; to = 0 }
 
-either_tells : {A : Type 0} (test : Token → Bool) (x y : Form A) (behind : Bool) (t : Token) → tells (Either test x y) behind t ≡ true
+pub either_tells : {A : Type 0} (test : Token → Bool) (x y : Form A) (behind : Bool) (t : Token) → tells (Either test x y) behind t ≡ true
     → (tells x behind t ≡ true) × (tells y behind t ≡ true) × (eats x ≡ true) × (implies (first x t) (test t) ≡ true) × (implies (led y behind t) (not (test t)) ≡ true)
 either_tells test x y behind t h =
     let halves = and_parts (tells x behind t && tells y behind t) (eats x && (implies (first x t) (test t) && implies (led y behind t) (not (test t)))) h in
@@ -133,14 +133,14 @@ either_tells test x y behind t h =
     let tests = and_parts (implies (first x t) (test t)) (implies (led y behind t) (not (test t))) rest.1 in
     (parts.0, parts.1, rest.0, tests.0, tests.1)
 
-led_first : {A : Type 0} (y : Form A) (behind : Bool) (t : Token) → first y t ≡ true → led y behind t ≡ true
+pub led_first : {A : Type 0} (y : Form A) (behind : Bool) (t : Token) → first y t ≡ true → led y behind t ≡ true
 led_first y behind t is = or_left (first y t) (not (eats y) && (behind && not (bars y t))) is
 
 led_behind : {A : Type 0} (y : Form A) (behind : Bool) (t : Token) → eats y ≡ false → behind ≡ true → bars y t ≡ false → led y behind t ≡ true
 led_behind y behind t none is bar =
     or_right (first y t) (not (eats y) && (behind && not (bars y t))) (and_both (not (eats y)) (behind && not (bars y t)) (not_of (eats y) none) (and_both behind (not (bars y t)) is (not_of (bars y t) bar)))
 
-chain_tells : {A : Type 0} (test : Token → Bool) (x : Form A) (more : Form (ℕ → A → Growth A)) (behind : Bool) (t : Token) → tells (Chain test x more) behind t ≡ true
+pub chain_tells : {A : Type 0} (test : Token → Bool) (x : Form A) (more : Form (ℕ → A → Growth A)) (behind : Bool) (t : Token) → tells (Chain test x more) behind t ≡ true
     → (tells x (first more t || behind) t ≡ true) × (tells more (first more t || behind) t ≡ true) × (eats more ≡ true) × (implies (first more t) (test t) ≡ true) × (implies behind (not (test t)) ≡ true)
 chain_tells test x more behind t h =
     let halves = and_parts (tells x (first more t || behind) t && tells more (first more t || behind) t) (eats more && (implies (first more t) (test t) && implies behind (not (test t)))) h in

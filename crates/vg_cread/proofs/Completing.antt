@@ -10,7 +10,8 @@ use Rattle.vg_cread.specs.Grammar.{begins, form, unit}
 use Rattle.vg_cread.specs.Places.{State, place_at, passes, tested}
 use Rattle.vg_cread.specs.Spelling.{Spelled, start}
 use Rattle.vg_cread.specs.Guided.{GuidedTurns, guided_with, guided_inner, guided}
-use Rattle.vg_cread.specs.Refusals.{TurnsTo, comes_with, lacks_inner, Lacks, Begins}
+use Rattle.vg_cread.specs.Refusals.{Begins}
+use Rattle.vg_cread.specs.Guided.{GuidedTurnsTo, comes_guided, lacks_guided, LacksGuided, opens_guided, OpensGuided}
 use Rattle.vg_cread.proofs.Onward.{eats, further, further-least}
 use Rattle.vg_cread.proofs.Rooms.{form_eats}
 use Rattle.vg_cread.proofs.Prefixes.{get_front}
@@ -139,13 +140,13 @@ module _ (toks : List Token) (i : ℕ) where
 
   -- where the grammar needs a token is not before the start
   turns_within : {A : Type 0} (n : ℕ) (test : Token → Bool) (says : Spelled (ℕ → A → Growth A)) (stops : State → Type 0) → ((s : State) (g : ℕ → A → Growth A) (t : State) → says s g t → s.at ≤ t.at) → ((s : State) → stops s → s.at ≤ i)
-      → (at : ℕ) (a : A) (s : State) → TurnsTo toks n test says stops at a s → s.at ≤ i
+      → (at : ℕ) (a : A) (s : State) → GuidedTurnsTo toks n test says stops at a s → s.at ≤ i
   turns_within zero test says stops h k at a s (so, is) = k s is
   turns_within (suc n) test says stops h k at a s (so, g, u, one, rest) =
       omega (arith, h s g u one, turns_within n test says stops h k at (g at a u.tree).0 (record u { tree = (g at a u.tree).1 }) rest)
 
   module _ (says : Nested → Spelled ℕ) (lacks : Nested → State → Type 0) (gain : Gaining toks says) (near : (n : Nested) (s : State) → lacks n s → s.at ≤ i) where
-    comes_within : {A : Type 0} (f : Form A) (s : State) → comes_with toks says (λ u. u.at ≡ i) lacks f s → s.at ≤ i
+    comes_within : {A : Type 0} (f : Form A) (s : State) → comes_guided toks says (λ u. u.at ≡ i) lacks f s → s.at ≤ i
     comes_within (Plain a) s is = absurd is
     comes_within Place s is = absurd is
     comes_within (One test) s (here, none) = omega (arith, here)
@@ -159,7 +160,7 @@ module _ (toks : List Token) (i : ℕ) where
         omega (
           arith,
           further-least (eats x) s.at u.at (spelled_gains toks says gain x s a u one),
-          turns_within n test (guided_with toks says more) (comes_with toks says (λ u. u.at ≡ i) lacks more) (λ v p w is. further-least (eats more) v.at w.at (spelled_gains toks says gain more v p w is)) (λ v is. comes_within more v is)
+          turns_within n test (guided_with toks says more) (comes_guided toks says (λ u. u.at ≡ i) lacks more) (λ v p w is. further-least (eats more) v.at w.at (spelled_gains toks says gain more v p w is)) (λ v is. comes_within more v is)
               (place_at toks s.at) a u later,
         )
     comes_within (Inner n) s is = near n s is
@@ -181,8 +182,8 @@ module _ (toks : List Token) (i : ℕ) where
       turning_end : {A : Type 0} (test : Token → Bool) (rest : Form (ℕ → A → Growth A)) (s : State) → s.at ≡ i → Turning test rest s
       turning_end test rest s end = ([], (λ here. refl), λ all agrees stand ended tested. (0, (ap (λ n. passes test (slice_get all n)) (omega (arith, end)) ∙ tested, omega (arith, end))))
 
-      turns_complete : {A : Type 0} (n : ℕ) (test : Token → Bool) (rest : Form (ℕ → A → Growth A)) → fits rest ≡ true → ((s : State) → comes_with toks says (λ u. u.at ≡ i) lacks rest s → s.at < i → Completed rest s)
-          → (at : ℕ) (a : A) (s : State) → TurnsTo toks n test (guided_with toks says rest) (comes_with toks says (λ u. u.at ≡ i) lacks rest) at a s → s.at ≤ i → Turning test rest s
+      turns_complete : {A : Type 0} (n : ℕ) (test : Token → Bool) (rest : Form (ℕ → A → Growth A)) → fits rest ≡ true → ((s : State) → comes_guided toks says (λ u. u.at ≡ i) lacks rest s → s.at < i → Completed rest s)
+          → (at : ℕ) (a : A) (s : State) → GuidedTurnsTo toks n test (guided_with toks says rest) (comes_guided toks says (λ u. u.at ≡ i) lacks rest) at a s → s.at ≤ i → Turning test rest s
       turns_complete zero test rest fit h at a s (so, is) le = elim (below_or s.at i le) [
         | inr end ↦ turning_end test rest s end
         | inl less ↦
@@ -196,7 +197,7 @@ module _ (toks : List Token) (i : ℕ) where
         | inr end ↦ turning_end test rest s end
         | inl less ↦
             let there : u.at ≤ i =
-            turns_within n test (guided_with toks says rest) (comes_with toks says (λ u. u.at ≡ i) lacks rest) (λ v p w is. further-least (eats rest) v.at w.at (spelled_gains toks says gain rest v p w is)) (λ v is. comes_within rest v is)
+            turns_within n test (guided_with toks says rest) (comes_guided toks says (λ u. u.at ≡ i) lacks rest) (λ v p w is. further-least (eats rest) v.at w.at (spelled_gains toks says gain rest v p w is)) (λ v is. comes_within rest v is)
             at (g at a u.tree).0 (record u { tree = (g at a u.tree).1 }) later in
             let c = turns_complete n test rest fit h at (g at a u.tree).0 (record u { tree = (g at a u.tree).1 }) later there in (
               c.0,
@@ -214,7 +215,7 @@ module _ (toks : List Token) (i : ℕ) where
             )
       ]
 
-      pub complete : {A : Type 0} (f : Form A) → fits f ≡ true → ((n : Nested) (s : State) → lacks n s → s.at < i → Completed (Inner n) s) → (s : State) → comes_with toks says (λ u. u.at ≡ i) lacks f s → s.at < i → Completed f s
+      pub complete : {A : Type 0} (f : Form A) → fits f ≡ true → ((n : Nested) (s : State) → lacks n s → s.at < i → Completed (Inner n) s) → (s : State) → comes_guided toks says (λ u. u.at ≡ i) lacks f s → s.at < i → Completed f s
       complete (Plain a) fit inner s is less = absurd is
       complete Place fit inner s is less = absurd is
       complete (One test) fit inner s (here, none) less = absurd (omega (arith, here, less))
@@ -270,7 +271,7 @@ module _ (toks : List Token) (i : ℕ) where
       complete (Chain test x more) fit inner s (inr (a, u, n, one, later)) less =
           let parts = fits_chain test x more fit in
           let there : u.at ≤ i =
-          turns_within n test (guided_with toks says more) (comes_with toks says (λ u. u.at ≡ i) lacks more) (λ v p w is. further-least (eats more) v.at w.at (spelled_gains toks says gain more v p w is)) (λ v is. comes_within more v is)
+          turns_within n test (guided_with toks says more) (comes_guided toks says (λ u. u.at ≡ i) lacks more) (λ v p w is. further-least (eats more) v.at w.at (spelled_gains toks says gain more v p w is)) (λ v is. comes_within more v is)
           (place_at toks s.at) a u later in
           let c = turns_complete n test more parts.1 (λ v is inside. complete more parts.1 inner v is inside) (place_at toks s.at) a u later there in (
             c.0,
@@ -287,35 +288,88 @@ module _ (toks : List Token) (i : ℕ) where
           (c.0, λ all agrees stand ended. goes_made all (far all) f s.at (i + length c.0) (c.1 all agrees stand ended))
 
   -- constructs that are counted
-  inner_within : (room : ℕ) (n : Nested) (s : State) → lacks_inner toks i room n s → s.at ≤ i
+  inner_within : (room : ℕ) (n : Nested) (s : State) → lacks_guided toks i room n s → s.at ≤ i
   inner_within zero n s (here, unless) = omega (arith, here)
   inner_within (suc room) n s (inl (here, unless)) = omega (arith, here)
-  inner_within (suc room) n s (inr (so, is)) = comes_within (guided_inner toks room) (lacks_inner toks i room) (inner_gaining room) (inner_within room) (form n) s is
+  inner_within (suc room) n s (inr (so, is)) = comes_within (guided_inner toks room) (lacks_guided toks i room) (inner_gaining room) (inner_within room) (form n) s is
 
   abbrev roomy : ℕ → List Token → Nested → Spelled ℕ
   roomy room all = guided_inner all (suc (suc room))
 
-  inner_complete : (room : ℕ) (n : Nested) (s : State) → lacks_inner toks i room n s → s.at < i
-      → Completed (guided_inner toks room) (lacks_inner toks i room) (inner_gaining room) (inner_within room) (roomy room) (λ all agrees. inner_sure all agrees room) (λ all. room_begins all room) (Inner n) s
+  inner_complete : (room : ℕ) (n : Nested) (s : State) → lacks_guided toks i room n s → s.at < i
+      → Completed (guided_inner toks room) (lacks_guided toks i room) (inner_gaining room) (inner_within room) (roomy room) (λ all agrees. inner_sure all agrees room) (λ all. room_begins all room) (Inner n) s
   inner_complete zero n s (here, unless) less = absurd (omega (arith, here, less))
   inner_complete (suc room) n s (inl (here, unless)) less = absurd (omega (arith, here, less))
   inner_complete (suc room) n s (inr (so, is)) less =
-      let c = complete (guided_inner toks room) (lacks_inner toks i room) (inner_gaining room) (inner_within room) (roomy room) (λ all agrees. inner_sure all agrees room) (λ all. room_begins all room) (form n) (form_fits n) (inner_complete room) s is less in (
+      let c = complete (guided_inner toks room) (lacks_guided toks i room) (inner_gaining room) (inner_within room) (roomy room) (λ all agrees. inner_sure all agrees room) (λ all. room_begins all room) (form n) (form_fits n) (inner_complete room) s is less in (
         c.0,
         λ all agrees stand ended.
             goes_form all (suc (suc room)) n s.at (i + length c.0) (ap (passes (begins n)) (agrees s.at less) ∙ so) (c.1 all agrees stand (halts_form n (slice_get all (i + length c.0)) ended)),
       )
 
-  unit_complete : (room : ℕ) → Lacks room toks i
-      → Completed (guided_inner toks room) (lacks_inner toks i room) (inner_gaining room) (inner_within room) (roomy room) (λ all agrees. inner_sure all agrees room) (λ all. room_begins all room) unit start
+  unit_complete : (room : ℕ) → LacksGuided room toks i
+      → Completed (guided_inner toks room) (lacks_guided toks i room) (inner_gaining room) (inner_within room) (roomy room) (λ all agrees. inner_sure all agrees room) (λ all. room_begins all room) unit start
   unit_complete room is = elim (below_or 0 i (omega arith)) [
-    | inl less ↦ complete (guided_inner toks room) (lacks_inner toks i room) (inner_gaining room) (inner_within room) (roomy room) (λ all agrees. inner_sure all agrees room) (λ all. room_begins all room) unit unit_fits (inner_complete room) start is less
+    | inl less ↦ complete (guided_inner toks room) (lacks_guided toks i room) (inner_gaining room) (inner_within room) (roomy room) (λ all agrees. inner_sure all agrees room) (λ all. room_begins all room) unit unit_fits (inner_complete room) start is less
     | inr same ↦ (
       whole unit,
       λ all agrees stand ended.
           begins_at all (roomy room all) unit i 0 (i + length (whole unit)) (sym same)
-          (short (guided_inner toks room) (lacks_inner toks i room) (inner_gaining room) (inner_within room) (roomy room) (λ all agrees. inner_sure all agrees room) (λ all. room_begins all room) all unit unit_fits i (i + length (whole unit)) refl
+          (short (guided_inner toks room) (lacks_guided toks i room) (inner_gaining room) (inner_within room) (roomy room) (λ all agrees. inner_sure all agrees room) (λ all. room_begins all room) all unit unit_fits i (i + length (whole unit)) refl
           stand ended),
+    )
+  ]
+
+module _ (toks : List Token) (i : ℕ) where
+  -- what comes to a construct without room
+  turns_also : {A : Type 0} (n : ℕ) (test : Token → Bool) (says : Spelled (ℕ → A → Growth A)) (one two : State → Type 0) → ((s : State) → one s → two s) → (at : ℕ) (a : A) (s : State)
+      → GuidedTurnsTo toks n test says one at a s → GuidedTurnsTo toks n test says two at a s
+  turns_also zero test says one two h at a s (so, is) = (so, h s is)
+  turns_also (suc n) test says one two h at a s (so, g, u, first, rest) = (so, g, u, first, turns_also n test says one two h at (g at a u.tree).0 (record u { tree = (g at a u.tree).1 }) rest)
+
+  also : (says : Nested → Spelled ℕ) (opens : Nested → State → Type 0) {A : Type 0} (f : Form A) (s : State) → comes_guided toks says (λ u. ⊥) opens f s → comes_guided toks says (λ u. u.at ≡ i) opens f s
+  also says opens (Plain a) s is = absurd is
+  also says opens Place s is = absurd is
+  also says opens (One test) s (here, none) = absurd here
+  also says opens (Unless test) s (here, so) = absurd here
+  also says opens (Both f x) s (inl first) = inl (also says opens f s first)
+  also says opens (Both f x) s (inr (g, u, one, second)) = inr (g, u, one, also says opens x u second)
+  also says opens (Either test x y) s (inl (so, is)) = inl (so, also says opens x s is)
+  also says opens (Either test x y) s (inr (unless, is)) = inr (unless, also says opens y s is)
+  also says opens (Chain test x more) s (inl first) = inl (also says opens x s first)
+  also says opens (Chain test x more) s (inr (a, u, n, one, later)) =
+      inr (a, u, n, one, turns_also n test (guided_with toks says more) (comes_guided toks says (λ u. ⊥) opens more) (comes_guided toks says (λ u. u.at ≡ i) opens more) (λ v is. also says opens more v is) (place_at toks s.at) a u later)
+  also says opens (Inner n) s is = is
+  also says opens (Made f) s is = also says opens f s is
+
+  opens_within : (room : ℕ) (n : Nested) (s : State) → opens_guided toks i room n s → s.at ≤ i
+  opens_within zero n s (here, so) = omega (arith, here)
+  opens_within (suc room) n s (so, is) =
+      comes_within toks i (guided_inner toks room) (opens_guided toks i room) (inner_gaining toks i room) (opens_within room) (form n) s (also (guided_inner toks room) (opens_guided toks i room) (form n) s is)
+
+  opens_complete : (room : ℕ) (n : Nested) (s : State) → opens_guided toks i room n s → s.at < i
+      → Completed toks i (guided_inner toks room) (opens_guided toks i room) (inner_gaining toks i room) (opens_within room) (roomy toks i room) (λ all agrees. inner_sure toks i all agrees room) (λ all. room_begins all room) (Inner n) s
+  opens_complete zero n s (here, so) less = absurd (omega (arith, here, less))
+  opens_complete (suc room) n s (so, is) less =
+      let c = complete toks i (guided_inner toks room) (opens_guided toks i room) (inner_gaining toks i room) (opens_within room) (roomy toks i room) (λ all agrees. inner_sure toks i all agrees room) (λ all. room_begins all room) (form n) (form_fits n)
+      (opens_complete room) s (also (guided_inner toks room) (opens_guided toks i room) (form n) s is) less in (
+        c.0,
+        λ all agrees stand ended.
+            goes_form all (suc (suc room)) n s.at (i + length c.0) (ap (passes (begins n)) (agrees s.at less) ∙ so) (c.1 all agrees stand (halts_form n (slice_get all (i + length c.0)) ended)),
+      )
+
+  opened_complete : (room : ℕ) → OpensGuided room toks i
+      → Completed toks i (guided_inner toks room) (opens_guided toks i room) (inner_gaining toks i room) (opens_within room) (roomy toks i room) (λ all agrees. inner_sure toks i all agrees room) (λ all. room_begins all room) unit start
+  opened_complete room is = elim (below_or 0 i (omega arith)) [
+    | inl less ↦
+        complete toks i (guided_inner toks room) (opens_guided toks i room) (inner_gaining toks i room) (opens_within room) (roomy toks i room) (λ all agrees. inner_sure toks i all agrees room) (λ all. room_begins all room) unit unit_fits
+        (opens_complete room) start (also (guided_inner toks room) (opens_guided toks i room) unit start is) less
+    | inr same ↦ (
+      whole unit,
+      λ all agrees stand ended.
+          begins_at all (roomy toks i room all) unit i 0 (i + length (whole unit)) (sym same)
+          (short toks i (guided_inner toks room) (opens_guided toks i room) (inner_gaining toks i room) (opens_within room) (roomy toks i room) (λ all agrees. inner_sure toks i all agrees room) (λ all. room_begins all room) all unit unit_fits i
+          (i + length (whole unit)) refl stand ended),
     )
   ]
 
@@ -331,10 +385,10 @@ stands_behind (x ∷ more) front =
     let here : length (front ++ x ∷ []) ≡ length front + 1 = length_push front x in
     (get_behind front x more, subst (λ n. Stands (front ++ x ∷ more) n more) here (subst (λ l. Stands l (length (front ++ x ∷ [])) more) (append_assoc front (x ∷ []) more) rest))
 
--- tokens before a place where the grammar needs another begin a whole tree
-pub begins_tree : (toks : List Token) (room i : ℕ) → i ≤ length toks → Lacks room toks i → Begins (take i toks)
-begins_tree toks room i le is =
-    let c = unit_complete toks i room is in
+-- tokens along which the grammar goes begin a whole tree
+begun_by : (toks : List Token) (room i : ℕ) → i ≤ length toks
+    → (more : List Token) × ((all : List Token) → Agrees toks i all → Stands all i more → halts unit (slice_get all (i + length more)) ≡ true → Goes all (guided_inner all (suc (suc room))) unit 0 (i + length more)) → Begins (take i toks)
+begun_by toks room i le c =
     let front = take i toks in
     let all = front ++ c.0 in
     let size : length front ≡ i = length-take-le i toks le in
@@ -346,3 +400,9 @@ begins_tree toks room i le is =
     let g = c.1 all agrees stand ended start refl in
     let to : g.1 ≡ record { at = length all; tree = g.1.tree } = ap (λ (n : ℕ). record g.1 { at = n }) (g.3 ∙ sym end) in
     (suc (suc room), c.0, g.1.tree, spelled_of all (suc (suc room)) g.1.tree (g.0, subst (λ (u : State). guided all (suc (suc room)) unit start g.0 u) to g.2))
+
+pub begins_tree : (toks : List Token) (room i : ℕ) → i ≤ length toks → LacksGuided room toks i → Begins (take i toks)
+begins_tree toks room i le is = begun_by toks room i le (unit_complete toks i room is)
+
+pub begins_opened : (toks : List Token) (room i : ℕ) → i ≤ length toks → OpensGuided room toks i → Begins (take i toks)
+begins_opened toks room i le is = begun_by toks room i le (opened_complete toks i room is)

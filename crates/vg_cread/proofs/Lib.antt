@@ -6,6 +6,7 @@ pub mod Agreement
 pub mod Units
 pub mod Choices
 pub mod Telling
+pub mod Reaching
 pub mod Waiting
 pub mod Leaving
 pub mod Rules

@@ -8,7 +8,7 @@ use Rattle.vg_cread.specs.Grammar.{begins, form, unit}
 use Rattle.vg_cread.specs.Places.{State, place_at, passes, tested}
 use Rattle.vg_cread.specs.Spelling.{Spelled, start}
 use Rattle.vg_cread.specs.Guided.{guided_with, guided_inner}
-use Rattle.vg_cread.specs.Refusals.{TurnsTo, comes_with, lacks_inner, opens_inner, Lacks, Opens}
+use Rattle.vg_cread.specs.Guided.{GuidedTurnsTo, comes_guided, lacks_guided, opens_guided, LacksGuided, OpensGuided}
 use Rattle.vg_cread.specs.Reading.{Refusal, Wrong, Deep, Reads, ◌>>=◌, taken, grown, turn, turns, read_with, read_inner, read}
 use Rattle.vg_cread.proofs.Onward.{bound, ok_at, same_state, same_value, either_side, Gains, gains, further, eats}
 use Rattle.vg_cread.proofs.Rooms.{inner_gains}
@@ -48,7 +48,7 @@ taken_stops (Some a) s e is = absurd (cc)
 module _ (toks : List Token) where
   turns_stop : {A : Type 0} (left : ℕ) (test : Token → Bool) (more : Reads (ℕ → A → Growth A)) (says : Spelled (ℕ → A → Growth A)) (stops : State → Type 0) (e : Refusal)
       → ((s : State) (g : ℕ → A → Growth A) (t : State) → more s ≡ Ok (g, t) → says s g t) → ((s : State) → more s ≡ Err e → stops s)
-      → (at : ℕ) (a : A) (s : State) → turns toks left test more at a s ≡ Err e → (n : ℕ) × TurnsTo toks n test says stops at a s
+      → (at : ℕ) (a : A) (s : State) → turns toks left test more at a s ≡ Err e → (n : ℕ) × GuidedTurnsTo toks n test says stops at a s
   turns_stop zero test more says stops e h k at a s is = absurd (cc)
   turns_stop (suc left) test more says stops e h k at a s is =
       either_side (passes test (slice_get toks s.at))
@@ -73,7 +73,7 @@ module _ (toks : List Token) where
   stops_with : (inner : Nested → Reads ℕ) (says : Nested → Spelled ℕ) (lacks : State → Type 0) (deeper : Nested → State → Type 0) (e : Refusal) → Gains toks inner
       → ((n : Nested) (s : State) (a : ℕ) (t : State) → inner n s ≡ Ok (a, t) → says n s a t)
       → ((s : State) → e ≡ Wrong s.at → lacks s) → ((n : Nested) (s : State) → inner n s ≡ Err e → deeper n s)
-      → {A : Type 0} (f : Form A) → tidy f ≡ true → (s : State) → read_with toks inner f s ≡ Err e → comes_with toks says lacks deeper f s
+      → {A : Type 0} (f : Form A) → tidy f ≡ true → (s : State) → read_with toks inner f s ≡ Err e → comes_guided toks says lacks deeper f s
   stops_with inner says lacks deeper e gain ok one more (Plain a) neat s is = absurd (cc)
   stops_with inner says lacks deeper e gain ok one more Place neat s is = absurd (cc)
   stops_with inner says lacks deeper e gain ok one more (One test) neat s is = let stop = taken_stops (tested test (slice_get toks s.at)) s e is in (one s stop.0, stop.1)
@@ -98,7 +98,7 @@ module _ (toks : List Token) where
       elim (bound_stops (read_with toks inner x s) (λ p. turns toks (length toks - p.1.at) test (read_with toks inner rest) (place_at toks s.at) p.0 p.1) e is) [
         | inl first ↦ inl (stops_with inner says lacks deeper e gain ok one more x front.0 s first)
         | inr later ↦
-            let turn_at = turns_stop (length toks - later.0.1.at) test (read_with toks inner rest) (guided_with toks says rest) (comes_with toks says lacks deeper rest) e
+            let turn_at = turns_stop (length toks - later.0.1.at) test (read_with toks inner rest) (guided_with toks says rest) (comes_guided toks says lacks deeper rest) e
             (λ v g w h. sound toks inner says gain ok rest all.1 v g w h) (λ v h. stops_with inner says lacks deeper e gain ok one more rest all.1 v h) (place_at toks s.at) later.0.0 later.0.1 later.2 in
             inr (later.0.0, later.0.1, turn_at.0, sound toks inner says gain ok x front.0 s later.0.0 later.0.1 later.1, turn_at.1)
       ]
@@ -114,41 +114,41 @@ module _ (toks : List Token) where
   never_wrong : (i : ℕ) (s : State) → Deep i ≡ Wrong s.at → ⊥
   never_wrong i s e = cc
 
-  inner_lacks : (room i : ℕ) (n : Nested) (s : State) → read_inner toks room n s ≡ Err (Wrong i) → lacks_inner toks i room n s
+  inner_lacks : (room i : ℕ) (n : Nested) (s : State) → read_inner toks room n s ≡ Err (Wrong i) → lacks_guided toks i room n s
   inner_lacks zero i n s is = either_side (passes (begins n) (slice_get toks s.at)) (λ so is. absurd (cc is)) (λ unless is. (cc is, unless)) is
   inner_lacks (suc room) i n s is =
       either_side (passes (begins n) (slice_get toks s.at))
       (λ so is. inr (
         so,
-        stops_with (read_inner toks room) (guided_inner toks room) (λ u. u.at ≡ i) (lacks_inner toks i room) (Wrong i) (inner_gains toks room) (inner_sound toks room) (lacks_at i)
+        stops_with (read_inner toks room) (guided_inner toks room) (λ u. u.at ≡ i) (lacks_guided toks i room) (Wrong i) (inner_gains toks room) (inner_sound toks room) (lacks_at i)
             (λ m u h. inner_lacks room i m u h) (form n) (form_tidy n) s is,
       ))
       (λ unless is. inl (cc is, unless)) is
 
-  inner_opens : (room i : ℕ) (n : Nested) (s : State) → read_inner toks room n s ≡ Err (Deep i) → opens_inner toks i room n s
+  inner_opens : (room i : ℕ) (n : Nested) (s : State) → read_inner toks room n s ≡ Err (Deep i) → opens_guided toks i room n s
   inner_opens zero i n s is = either_side (passes (begins n) (slice_get toks s.at)) (λ so is. (cc is, so)) (λ unless is. absurd (cc is)) is
   inner_opens (suc room) i n s is =
       either_side (passes (begins n) (slice_get toks s.at))
       (λ so is. (
         so,
-        stops_with (read_inner toks room) (guided_inner toks room) (λ u. ⊥) (opens_inner toks i room) (Deep i) (inner_gains toks room) (inner_sound toks room) (never_wrong i)
+        stops_with (read_inner toks room) (guided_inner toks room) (λ u. ⊥) (opens_guided toks i room) (Deep i) (inner_gains toks room) (inner_sound toks room) (never_wrong i)
             (λ m u h. inner_opens room i m u h) (form n) (form_tidy n) s is,
       ))
       (λ unless is. absurd (cc is)) is
 
-  pub unit_lacks : (room i : ℕ) → read toks room unit start ≡ Err (Wrong i) → Lacks room toks i
+  pub unit_lacks : (room i : ℕ) → read toks room unit start ≡ Err (Wrong i) → LacksGuided room toks i
   unit_lacks room i is =
-      stops_with (read_inner toks room) (guided_inner toks room) (λ u. u.at ≡ i) (lacks_inner toks i room) (Wrong i) (inner_gains toks room) (inner_sound toks room) (lacks_at i) (inner_lacks room i) unit unit_tidy start is
+      stops_with (read_inner toks room) (guided_inner toks room) (λ u. u.at ≡ i) (lacks_guided toks i room) (Wrong i) (inner_gains toks room) (inner_sound toks room) (lacks_at i) (inner_lacks room i) unit unit_tidy start is
 
-  pub unit_opens : (room i : ℕ) → read toks room unit start ≡ Err (Deep i) → Opens room toks i
+  pub unit_opens : (room i : ℕ) → read toks room unit start ≡ Err (Deep i) → OpensGuided room toks i
   unit_opens room i is =
-      stops_with (read_inner toks room) (guided_inner toks room) (λ u. ⊥) (opens_inner toks i room) (Deep i) (inner_gains toks room) (inner_sound toks room) (never_wrong i) (inner_opens room i) unit unit_tidy start is
+      stops_with (read_inner toks room) (guided_inner toks room) (λ u. ⊥) (opens_guided toks i room) (Deep i) (inner_gains toks room) (inner_sound toks room) (never_wrong i) (inner_opens room i) unit unit_tidy start is
 
   -- and where the grammar comes to such a place, reading stops there
   turns_back : {A : Type 0} (n left : ℕ) (test : Token → Bool) (more : Reads (ℕ → A → Growth A)) (says : Spelled (ℕ → A → Growth A)) (stops : State → Type 0) (e : Refusal)
       → ((s : State) (g : ℕ → A → Growth A) (t : State) → says s g t → more s ≡ Ok (g, t)) → ((s : State) → stops s → more s ≡ Err e)
       → ((s : State) (g : ℕ → A → Growth A) (t : State) → more s ≡ Ok (g, t) → s.at + 1 ≤ t.at)
-      → (at : ℕ) (a : A) (s : State) → length toks ≤ left + s.at → TurnsTo toks n test says stops at a s → turns toks left test more at a s ≡ Err e
+      → (at : ℕ) (a : A) (s : State) → length toks ≤ left + s.at → GuidedTurnsTo toks n test says stops at a s → turns toks left test more at a s ≡ Err e
   turns_back zero zero test more says stops e h k on at a s enough (so, stop) = absurd (omega (arith, enough, some_next toks test s.at so))
   turns_back zero (suc left) test more says stops e h k on at a s enough (so, stop) = rw (so, k s stop) refl
   turns_back (suc n) zero test more says stops e h k on at a s enough (so, g, u, first, rest) = absurd (omega (arith, enough, some_next toks test s.at so))
@@ -170,7 +170,7 @@ module _ (toks : List Token) where
   comes_back : (inner : Nested → Reads ℕ) (says : Nested → Spelled ℕ) (lacks : State → Type 0) (deeper : Nested → State → Type 0) (e : Refusal) → Gains toks inner
       → ((n : Nested) (s : State) (a : ℕ) (t : State) → says n s a t → inner n s ≡ Ok (a, t))
       → ((s : State) → lacks s → e ≡ Wrong s.at) → ((n : Nested) (s : State) → deeper n s → inner n s ≡ Err e)
-      → {A : Type 0} (f : Form A) → tidy f ≡ true → (s : State) → comes_with toks says lacks deeper f s → read_with toks inner f s ≡ Err e
+      → {A : Type 0} (f : Form A) → tidy f ≡ true → (s : State) → comes_guided toks says lacks deeper f s → read_with toks inner f s ≡ Err e
   comes_back inner says lacks deeper e gain ok one more (Plain a) neat s is = absurd is
   comes_back inner says lacks deeper e gain ok one more Place neat s is = absurd is
   comes_back inner says lacks deeper e gain ok one more (One test) neat s (here, none) = one_back test s e (one s here) none
@@ -189,7 +189,7 @@ module _ (toks : List Token) where
   comes_back inner says lacks deeper e gain ok one more (Chain test x rest) neat s (inr (a, u, n, first, later)) =
       let all = and_parts (tidy x && eats rest) (tidy rest) neat in
       let front = and_parts (tidy x) (eats rest) all.0 in
-      let back = turns_back n (length toks - u.at) test (read_with toks inner rest) (guided_with toks says rest) (comes_with toks says lacks deeper rest) e
+      let back = turns_back n (length toks - u.at) test (read_with toks inner rest) (guided_with toks says rest) (comes_guided toks says lacks deeper rest) e
       (λ v g w h. complete toks inner says gain ok rest all.1 v g w h) (λ v h. comes_back inner says lacks deeper e gain ok one more rest all.1 v h)
       (λ v g w is. subst (λ (c : Bool). further c v.at ≤ w.at) front.1 (gains toks inner gain rest v g w is)) (place_at toks s.at) a u (omega arith) later in
       rw (complete toks inner says gain ok x front.0 s a u first) back
@@ -199,20 +199,20 @@ module _ (toks : List Token) where
   back_at : (i : ℕ) (s : State) → s.at ≡ i → Wrong i ≡ Wrong s.at
   back_at i s e = ap Wrong (sym e)
 
-  lacks_back : (room i : ℕ) (n : Nested) (s : State) → lacks_inner toks i room n s → read_inner toks room n s ≡ Err (Wrong i)
+  lacks_back : (room i : ℕ) (n : Nested) (s : State) → lacks_guided toks i room n s → read_inner toks room n s ≡ Err (Wrong i)
   lacks_back zero i n s (here, unless) = rw unless (ap (λ j. Err (Wrong j)) here)
   lacks_back (suc room) i n s (inl (here, unless)) = rw unless (ap (λ j. Err (Wrong j)) here)
   lacks_back (suc room) i n s (inr (so, is)) =
-      rw so (comes_back (read_inner toks room) (guided_inner toks room) (λ u. u.at ≡ i) (lacks_inner toks i room) (Wrong i) (inner_gains toks room) (inner_complete toks room) (back_at i) (λ m u h. lacks_back room i m u h) (form n) (form_tidy n) s is)
+      rw so (comes_back (read_inner toks room) (guided_inner toks room) (λ u. u.at ≡ i) (lacks_guided toks i room) (Wrong i) (inner_gains toks room) (inner_complete toks room) (back_at i) (λ m u h. lacks_back room i m u h) (form n) (form_tidy n) s is)
 
-  opens_back : (room i : ℕ) (n : Nested) (s : State) → opens_inner toks i room n s → read_inner toks room n s ≡ Err (Deep i)
+  opens_back : (room i : ℕ) (n : Nested) (s : State) → opens_guided toks i room n s → read_inner toks room n s ≡ Err (Deep i)
   opens_back zero i n s (here, so) = rw so (ap (λ j. Err (Deep j)) here)
   opens_back (suc room) i n s (so, is) =
-      rw so (comes_back (read_inner toks room) (guided_inner toks room) (λ u. ⊥) (opens_inner toks i room) (Deep i) (inner_gains toks room) (inner_complete toks room) (λ u none. absurd none) (λ m u h. opens_back room i m u h) (form n) (form_tidy n) s is)
+      rw so (comes_back (read_inner toks room) (guided_inner toks room) (λ u. ⊥) (opens_guided toks i room) (Deep i) (inner_gains toks room) (inner_complete toks room) (λ u none. absurd none) (λ m u h. opens_back room i m u h) (form n) (form_tidy n) s is)
 
-  pub unit_lacked : (room i : ℕ) → Lacks room toks i → read toks room unit start ≡ Err (Wrong i)
-  unit_lacked room i is = comes_back (read_inner toks room) (guided_inner toks room) (λ u. u.at ≡ i) (lacks_inner toks i room) (Wrong i) (inner_gains toks room) (inner_complete toks room) (back_at i) (lacks_back room i) unit unit_tidy start is
+  pub unit_lacked : (room i : ℕ) → LacksGuided room toks i → read toks room unit start ≡ Err (Wrong i)
+  unit_lacked room i is = comes_back (read_inner toks room) (guided_inner toks room) (λ u. u.at ≡ i) (lacks_guided toks i room) (Wrong i) (inner_gains toks room) (inner_complete toks room) (back_at i) (lacks_back room i) unit unit_tidy start is
 
-  pub unit_opened : (room i : ℕ) → Opens room toks i → read toks room unit start ≡ Err (Deep i)
+  pub unit_opened : (room i : ℕ) → OpensGuided room toks i → read toks room unit start ≡ Err (Deep i)
   unit_opened room i is =
-      comes_back (read_inner toks room) (guided_inner toks room) (λ u. ⊥) (opens_inner toks i room) (Deep i) (inner_gains toks room) (inner_complete toks room) (λ u none. absurd none) (opens_back room i) unit unit_tidy start is
+      comes_back (read_inner toks room) (guided_inner toks room) (λ u. ⊥) (opens_guided toks i room) (Deep i) (inner_gains toks room) (inner_complete toks room) (λ u none. absurd none) (opens_back room i) unit unit_tidy start is

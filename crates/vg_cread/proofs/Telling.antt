@@ -114,13 +114,13 @@ body_begins (kinds.Sign signs.Plus) from to = refl
 body_begins (kinds.Keyword words.If) from to = refl
 body_begins _ from to = refl
 
-form_tells : (n : Nested) (t : Token) → tells (form n) (follows n t) t ≡ true
+pub form_tells : (n : Nested) (t : Token) → tells (form n) (follows n t) t ≡ true
 form_tells Expression t = expression_tells t
 form_tells Operand t = operand_tells t.kind t.from t.to
 form_tells Statement t = statement_tells t.kind t.from t.to
 form_tells Body t = body_tells t.kind t.from t.to
 
-form_begins : (n : Nested) (t : Token) → implies (first (form n) t) (begins n t) ≡ true
+pub form_begins : (n : Nested) (t : Token) → implies (first (form n) t) (begins n t) ≡ true
 form_begins Expression t = expression_begins t.kind t.from t.to
 form_begins Operand t = operand_begins t.kind t.from t.to
 form_begins Statement t = statement_begins t.kind t.from t.to
@@ -132,17 +132,17 @@ unit_kinds (kinds.Sign signs.Plus) from to = refl
 unit_kinds (kinds.Keyword words.If) from to = refl
 unit_kinds _ from to = refl
 
-unit_tells : (t : Token) → tells unit false t ≡ true
+pub unit_tells : (t : Token) → tells unit false t ≡ true
 unit_tells t = unit_kinds t.kind t.from t.to
 
 module _ (toks : List Token) where
-  inner_leads : (room : ℕ) → Leading toks (spelled_inner toks room)
+  pub inner_leads : (room : ℕ) → Leading toks (spelled_inner toks room)
   inner_leads zero n s a u is = absurd is
   inner_leads (suc room) n s a u is =
       let next = leads_some toks (form n) s u (form_eats n) (leads toks (spelled_inner toks room) (inner_leads room) (form n) s a u is) in
       (next.0, next.1, implied (first (form n) next.0) (begins n next.0) (form_begins n next.0) next.2)
 
-  inner_guided : (room : ℕ) (n : Nested) (s : State) (a : ℕ) (u : State) → spelled_inner toks room n s a u → After (follows n) (slice_get toks u.at) → guided_inner toks room n s a u
+  pub inner_guided : (room : ℕ) (n : Nested) (s : State) (a : ℕ) (u : State) → spelled_inner toks room n s a u → After (follows n) (slice_get toks u.at) → guided_inner toks room n s a u
   inner_guided zero n s a u is after = absurd is
   inner_guided (suc room) n s a u is after =
       let next = inner_leads (suc room) n s a u is in (
@@ -158,7 +158,7 @@ module _ (toks : List Token) where
         (subst (λ o. After (λ t. false) o) (sym (slice_get_past toks (length toks) (omega arith))) tt),
   )
 
-  inner_plain : (room : ℕ) (n : Nested) (s : State) (a : ℕ) (u : State) → guided_inner toks room n s a u → spelled_inner toks room n s a u
+  pub inner_plain : (room : ℕ) (n : Nested) (s : State) (a : ℕ) (u : State) → guided_inner toks room n s a u → spelled_inner toks room n s a u
   inner_plain zero n s a u is = absurd is
   inner_plain (suc room) n s a u (so, is) = plain toks (guided_inner toks room) (spelled_inner toks room) (inner_plain room) (form n) s a u is
 

@@ -5,8 +5,8 @@ use Rattle.vg_core.specs.declared.tree.Kind.{Kind}
 use Rattle.vg_core.specs.declared.tree.Parts.{Parts}
 use Rattle.vg_ctok.specs.declared.kinds.Token.{Token}
 
--- the constructs that are counted where they stand in one another: an expression, the operand of a sign or a cast, a statement,
--- and the block of a function
+-- the constructs that are counted where they stand in one another: an expression, the operand of a sign or a cast or what a simple
+-- statement begins with, a statement, and the block of a function
 pub data Nested : Type 0 where
   Expression : Nested
   Operand : Nested

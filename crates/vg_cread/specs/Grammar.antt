@@ -1,5 +1,6 @@
 -- The grammar of the C profile, after C11 6.5, 6.7, 6.8 and 6.9: one form a rule, in the order of its tokens. Above each rule stands
--- its text. The tests in choices and chains are for the reader.
+-- its text. The tests in choices and chains are for the reader. Two rules say what may not come next: `otherwise` (an `else` behind an
+-- `if` that goes without) and `no_postfix` (a suffix, `++` or `--` behind what is no postfix, which no other rule would take there).
 use Rattle.std.specs.Prelude.{ℕ, zero, suc, List, [], ◌∷◌, Bool, true, false, Option, Some, None, if◌then◌else◌}
 use Rattle.vg_core.specs.declared.tree.Name.{Name}
 use Rattle.vg_core.specs.declared.tree.Base.{Base}

@@ -1,11 +1,11 @@
--- The grammar with the tests of its forms: of a choice the next token tells the side, and of a chain whether it turns again. So
--- the reader goes, and so it is said where it stops. What tokens spell doesn't ask for these tests, and is the same.
-use Rattle.std.specs.Prelude.{◌≡◌, ℕ, zero, suc, ◌+◌, List, length, slice_get, Bool, true, false, Some, ◌⊎◌}
+-- The grammar with the tests of its forms, as the reader goes: of a choice the next token tells the side, and of a chain whether it
+-- turns again. What tokens spell doesn't ask for these tests, and is the same; no public clause but that law rests on this file.
+use Rattle.std.specs.Prelude.{◌≡◌, ℕ, zero, suc, ◌+◌, List, length, slice_get, Bool, true, false, Some, None, ◌⊎◌}
 use Rattle.vg_core.specs.Syntax.{Syntax}
 use Rattle.vg_ctok.specs.declared.kinds.Token.{Token}
 use Rattle.vg_cread.specs.Forms.{Form, Plain, Place, One, Unless, Both, Either, Chain, Inner, Made, Nested, Growth}
 use Rattle.vg_cread.specs.Grammar.{begins, form, unit}
-use Rattle.vg_cread.specs.Places.{State, place_at, passes}
+use Rattle.vg_cread.specs.Places.{State, place_at, passes, tested}
 use Rattle.vg_cread.specs.Spelling.{Spelled, start}
 
 module _ (toks : List Token) where
@@ -40,3 +40,51 @@ module _ (toks : List Token) where
 -- these tokens, to the last, are gone along to this tree
 abbrev pub Guides : ℕ → List Token → Syntax → Type 0
 Guides room toks tree = (root : ℕ) × guided toks room unit start root (record { at = length toks; tree = tree })
+
+-- where the reader stops
+module _ (toks : List Token) where
+  -- so many turns of a chain are spelled, and in the next one its form stops
+  abbrev pub GuidedTurnsTo : {A : Type 0} → ℕ → (Token → Bool) → Spelled (ℕ → A → Growth A) → (State → Type 0) → ℕ → A → State → Type 0
+  GuidedTurnsTo zero test more stops at a s = (passes test (slice_get toks s.at) ≡ true) × stops s
+  GuidedTurnsTo (suc n) test more stops at a s =
+      (passes test (slice_get toks s.at) ≡ true) × (g : ℕ → _ → Growth _) × (u : State) × more s g u
+      × GuidedTurnsTo n test more stops at (g at a u.tree).0 (record u { tree = (g at a u.tree).1 })
+
+  -- a form from a state on, along its tokens, comes to a place where `lacks` holds and where it needs another token than the next,
+  -- or to a construct that is counted, where `inner` holds
+  abbrev pub comes_guided : {A : Type 0} → (Nested → Spelled ℕ) → (State → Type 0) → (Nested → State → Type 0) → Form A → State → Type 0
+  comes_guided says lacks inner (Plain a) s = ⊥
+  comes_guided says lacks inner Place s = ⊥
+  comes_guided says lacks inner (One test) s = lacks s × (tested test (slice_get toks s.at) ≡ None)
+  comes_guided says lacks inner (Unless test) s = lacks s × (passes test (slice_get toks s.at) ≡ true)
+  comes_guided says lacks inner (Both f x) s =
+      comes_guided says lacks inner f s ⊎ ((g : _ → _) × (u : State) × guided_with toks says f s g u × comes_guided says lacks inner x u)
+  comes_guided says lacks inner (Either test x y) s =
+      ((passes test (slice_get toks s.at) ≡ true) × comes_guided says lacks inner x s) ⊎ ((passes test (slice_get toks s.at) ≡ false) × comes_guided says lacks inner y s)
+  comes_guided says lacks inner (Chain test x more) s =
+      comes_guided says lacks inner x s
+      ⊎ ((a : _) × (u : State) × (n : ℕ) × guided_with toks says x s a u × GuidedTurnsTo n test (guided_with toks says more) (comes_guided says lacks inner more) (place_at toks s.at) a u)
+  comes_guided says lacks inner (Inner n) s = inner n s
+  comes_guided says lacks inner (Made f) s = comes_guided says lacks inner f s
+
+  -- a counted construct comes to a place behind so many tokens where it needs another token than the next
+  abbrev pub lacks_guided : ℕ → ℕ → Nested → State → Type 0
+  lacks_guided i zero n s = (s.at ≡ i) × (passes (begins n) (slice_get toks s.at) ≡ false)
+  lacks_guided i (suc room) n s =
+      ((s.at ≡ i) × (passes (begins n) (slice_get toks s.at) ≡ false))
+      ⊎ ((passes (begins n) (slice_get toks s.at) ≡ true) × comes_guided (guided_inner toks room) (λ u. u.at ≡ i) (lacks_guided i room) (form n) s)
+
+  -- a counted construct comes to one that begins with the token behind so many, and has no room
+  abbrev pub opens_guided : ℕ → ℕ → Nested → State → Type 0
+  opens_guided i zero n s = (s.at ≡ i) × (passes (begins n) (slice_get toks s.at) ≡ true)
+  opens_guided i (suc room) n s =
+      (passes (begins n) (slice_get toks s.at) ≡ true) × comes_guided (guided_inner toks room) (λ u. ⊥) (opens_guided i room) (form n) s
+
+-- along the first so many tokens, with room for so many constructs in one another, the grammar comes to a place where it needs
+-- another token than the next, or where it needs one and none is left
+abbrev pub LacksGuided : ℕ → List Token → ℕ → Type 0
+LacksGuided room toks i = comes_guided toks (guided_inner toks room) (λ s. s.at ≡ i) (lacks_guided toks i room) unit start
+
+-- along the first so many tokens the grammar comes to a place where the next token opens a construct that has no room
+abbrev pub OpensGuided : ℕ → List Token → ℕ → Type 0
+OpensGuided room toks i = comes_guided toks (guided_inner toks room) (λ s. ⊥) (opens_guided toks i room) unit start

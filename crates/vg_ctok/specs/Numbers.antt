@@ -69,7 +69,8 @@ number_of word =
     let count = prefix_len (is_digit_in base) rest in
     typed base (take count rest) (row_of suffixes (drop count rest))
 
--- whether a word ends in an exponent's letter and a sign is next: C reads both as one preprocessing number (C11 6.4.8)
+-- whether a word ends in an exponent's letter and a sign is next: C reads both as one preprocessing number (C11 6.4.8). Of numbers only
+-- a hexadecimal one can end so
 abbrev pub is_exponent : ℕ → Bool
 is_exponent b = b == 101 || b == 69 || b == 112 || b == 80
 
@@ -80,6 +81,6 @@ abbrev pub takes_sign : Option ℕ → Option ℕ → Bool
 takes_sign (Some last) (Some next) = is_exponent last && is_plus_or_minus next
 takes_sign _ _ = false
 
--- the number that a word is before the next byte of its text; with a sign that belongs to it, it is none
+-- the number that a word is before the next byte of its text; where C takes that byte into the number, it is none
 abbrev pub number_before : List ℕ → Option ℕ → Option Number
 number_before word next = if takes_sign (slice_get word (length word - 1)) next then None else number_of word

@@ -178,6 +178,13 @@ fn words_that_are_no_numbers(rt: HostRuntime) -> Result<(), Fail> {
     assert!(rt; refuses(rt.alloc(), "9223372036854775808", TokFault::BadNumber(0))?);
     assert!(rt; refuses(rt.alloc(), "a 0xe+1", TokFault::BadNumber(2))?);
     assert!(rt; refuses(rt.alloc(), "0X1E-1", TokFault::BadNumber(0))?);
+    assert!(rt; refuses(rt.alloc(), "#define A 0xe+1", TokFault::Directive(0))?);
+    let apart = [
+        number(14, NumberType::Int, 0, 3),
+        sign(Sign::Plus, 4, 5),
+        number(1, NumberType::Int, 5, 6),
+    ];
+    assert!(rt; reads(rt.alloc(), "0xe +1", &apart)?);
     Ok(())
 }
 
