@@ -1,3 +1,4 @@
+pub mod Tests
 pub mod Types
 pub mod Values
 pub mod Operators
