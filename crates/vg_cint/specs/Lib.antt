@@ -3,3 +3,4 @@ pub mod Types
 pub mod Values
 pub mod Operators
 pub mod Expressions
+pub mod Formulas

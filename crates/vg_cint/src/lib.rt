@@ -18,7 +18,7 @@ pub use bitwise::{and, complement, or, xor};
 pub use comparing::{equal, less, less_equal};
 pub use expressions::{binary, unary};
 pub use shifts::{shift_left, shift_right};
-pub use theorems::nothing_against;
+pub use theorems::{nothing_against, operators_are_formulas};
 pub use types::{INT, common, integer_of, promoted, type_of_binary, type_of_unary, width};
 pub use value::Value;
 pub use words::{can_hold, converted, reading, truth};
