@@ -6,11 +6,11 @@ use Rattle.std.proofs.lemmas.Int.{fits_signed_mul}
 use Rattle.vg_bits.specs.Words as bits
 use Rattle.vg_core.specs.declared.types.Integer.{Integer}
 use Rattle.vg_cint.specs.Types.{width}
-use Rattle.vg_cint.specs.Values.{low, reading, word_of, overflows, held}
+use Rattle.vg_cint.specs.Values.{low, reading, word_of, fits}
 use Rattle.vg_cint.specs.Operators.{multiply}
 
 pub unsigned_product : (t : Integer) (a b : ℕ) → t.signed ≡ false → multiply t a b ≡ Ok (bits.mul (width t) (low t a) (low t b))
-unfolding reading word_of overflows held
+unfolding reading word_of fits
 unsigned_product t a b e = rw e refl
 
 abs_at_most : (z : ℤ) → FitsSigned w64 z → unsigned_abs z ≤ 2 ^ 63

@@ -1,6 +1,6 @@
 -- What an operator gives is a word of the result's type: below 2 ^ width.
 use Rattle.std.proofs.Common.{ℕ, ◌^◌, ◌<◌, ◌≤◌, Bool, true, false, ℤ, arith, ◌≡◌, sym, ap, subst, ◌∙◌}
-use Rattle.std.specs.Prelude.{if◌then◌else◌, IfOk, Result, Ok, Err, not, ◌&&◌, ◌||◌, int_lt, pos, ◌*ℤ◌, unsigned_abs, int_div}
+use Rattle.std.specs.Prelude.{if◌then◌else◌, IfOk, List, ◌++◌, Option, Some, None, Result, Ok, not, ◌&&◌, ◌||◌, pos, ◌*ℤ◌, int_div, int_rem}
 use Rattle.std.specs.Int.{int_div_euclid}
 use Rattle.std.specs.Int.Bits.{and_lt}
 use Rattle.std.proofs.Math.Pow.{pow_mono}
@@ -9,13 +9,13 @@ use Rattle.vg_bits.specs.Words.{bit}
 use Rattle.vg_bits.proofs.Laws.{not-below}
 use Rattle.vg_core.specs.declared.types.Integer.{Integer}
 use Rattle.vg_core.specs.declared.reason.Reason.{Reason}
-use Rattle.vg_core.specs.declared.reason.Reason.TheVariants as reasons
 use Rattle.vg_core.specs.declared.tree.BinaryOp.{BinaryOp}
 use Rattle.vg_core.specs.declared.tree.BinaryOp.TheVariants as binary
 use Rattle.vg_core.specs.declared.tree.UnaryOp.{UnaryOp}
 use Rattle.vg_core.specs.declared.tree.UnaryOp.TheVariants as unary
 use Rattle.vg_cint.specs.Types.{int, width, promoted, is_test, left_type, type_of_binary, type_of_unary}
-use Rattle.vg_cint.specs.Values.{low, reading, word_of, can_hold, overflows, held, is_zero, truth}
+use Rattle.vg_cint.specs.Tests.{Test, first_against, unless, tested}
+use Rattle.vg_cint.specs.Values.{low, reading, word_of, held, held_tests, truth}
 use Rattle.vg_cint.specs.Operators as operators
 use Rattle.vg_cint.specs.Expressions.{of_words, of_word}
 use Rattle.vg_cint.proofs.Laws.{width_some, word_of_below}
@@ -34,37 +34,29 @@ bit_below_any : (b : Bool) (w : ℕ) → 0 < w → bit b < 2 ^ w
 bit_below_any true w h = let l : 2 ^ 1 ≤ 2 ^ w = pow_mono h in omega (arith, l)
 bit_below_any false w h = pow_pos w
 
--- a refusal on a condition
-unless : (t : Integer) (b : Bool) (reason : Reason) (r : Result ℕ Reason) → Below t r → Below t (if b then Err reason else r)
-unless t true reason r h = tt
-unless t false reason r h = h
+-- what is done where nothing is against it
+unless_below : (t : Integer) (r : Option Reason) (a : ℕ) → a < 2 ^ width t → Below t (unless r a)
+unless_below t None a h = h
+unless_below t (Some reason) a h = tt
+
+tested_below : (t : Integer) (tests : List Test) (z : ℤ) → Below t (tested tests (word_of t z))
+tested_below t tests z = unless_below t (first_against tests) (word_of t z) (word_of_below t z)
 
 held_below : (t : Integer) (z : ℤ) → Below t (held t z)
-unfolding held
-held_below t z = unless t (overflows t z) reasons.Overflow (Ok (word_of t z)) (word_of_below t z)
+held_below t z = tested_below t (held_tests t z) z
 
 quotient_below : (t : Integer) (x y : ℤ) → Below t (operators.quotient t x y)
-quotient_below t x y = unless t (is_zero y) reasons.DivZero (held t (int_div x y)) (held_below t (int_div x y))
+quotient_below t x y = tested_below t (operators.quotient_tests t x y) (int_div x y)
 
 remaining_below : (t : Integer) (x y : ℤ) → Below t (operators.remaining t x y)
-remaining_below t x y = unless t (is_zero y) reasons.DivZero _ (unless t (overflows t (int_div x y)) reasons.Overflow _ (word_of_below t _))
-
-moved_left_below : (t : Integer) (x : ℤ) (n : ℕ) → Below t (operators.moved_left t x n)
-moved_left_below t x n =
-    let z = x *ℤ pos (2 ^ n) in
-    unless t (t.signed && (int_lt x (pos 0) || not (can_hold t z))) reasons.Shift (Ok (word_of t z)) (word_of_below t z)
+remaining_below t x y = tested_below t (operators.quotient_tests t x y) (int_rem x y)
 
 left_below : (t u : Integer) (a b : ℕ) → Below t (operators.shift_left t u a b)
 left_below t u a b =
-    let x = reading t a in
-    let n = unsigned_abs (reading u b) in
-    unless t (operators.is_out t (reading u b)) reasons.Shift (operators.moved_left t x n) (moved_left_below t x n)
+    tested_below t (operators.shift_tests t (reading u b) ++ operators.left_tests t (reading t a) (operators.places u b)) (reading t a *ℤ pos (2 ^ operators.places u b))
 
 right_below : (t u : Integer) (a b : ℕ) → Below t (operators.shift_right t u a b)
-right_below t u a b =
-    let x = reading t a in
-    let n = unsigned_abs (reading u b) in
-    unless t (operators.is_out t (reading u b)) reasons.Shift (operators.moved_right t x n) (word_of_below t (int_div_euclid x (pos (2 ^ n))))
+right_below t u a b = tested_below t (operators.shift_tests t (reading u b)) (int_div_euclid (reading t a) (pos (2 ^ operators.places u b)))
 
 words_below : (op : BinaryOp) (t u : Integer) (a b : ℕ) → Below (if is_test op then int else t) (of_words op t u a b)
 words_below binary.OrElse t u a b = bit_below (truth t a || truth u b)

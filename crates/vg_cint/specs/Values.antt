@@ -1,10 +1,11 @@
 -- What a word of an integer type stands for, and the word of an integer (C11 6.2.6.2 in two's complement, 6.3.1.3).
-use Rattle.std.specs.Prelude.{ℕ, ◌-◌, ◌%◌, ◌^◌, Bool, not, ◌&&◌, if◌then◌else◌, ℤ, pos, neg_ℤ, int_le, nat_eq, unsigned_abs, Result, Ok, Err}
+use Rattle.std.specs.Prelude.{ℕ, ◌-◌, ◌%◌, ◌^◌, Bool, not, ◌&&◌, ◌||◌, if◌then◌else◌, List, [], ◌∷◌, ℤ, pos, neg_ℤ, int_le, nat_eq, unsigned_abs, Result}
 use Rattle.vg_bits.specs.Words as bits
 use Rattle.vg_core.specs.declared.types.Integer.{Integer}
 use Rattle.vg_core.specs.declared.reason.Reason.{Reason}
 use Rattle.vg_core.specs.declared.reason.Reason.TheVariants as reasons
 use Rattle.vg_cint.specs.Types.{width}
+use Rattle.vg_cint.specs.Tests.{Test, test, tested}
 
 -- a word of the type: a number below 2 ^ width. Of a greater number the low bits count
 abbrev pub low : Integer → ℕ → ℕ
@@ -32,13 +33,16 @@ can_hold t z = int_le (least t) z && int_le z (greatest t)
 abbrev pub converted : (to from : Integer) → ℕ → ℕ
 converted to from a = word_of to (reading from a)
 
--- a signed type can't hold the result of an operator (6.5, paragraph 5); an unsigned one takes it modulo 2 ^ width (6.2.5, paragraph 9)
-unfoldable pub overflows : Integer → ℤ → Bool
-overflows t z = t.signed && not (can_hold t z)
+-- a signed type can hold the result of an operator (6.5, paragraph 5); an unsigned one takes it modulo 2 ^ width (6.2.5, paragraph 9)
+unfoldable pub fits : Integer → ℤ → Bool
+fits t z = not t.signed || can_hold t z
+
+abbrev pub held_tests : Integer → ℤ → List Test
+held_tests t z = test reasons.Overflow (fits t z) ∷ []
 
 -- the word of an operator's whole-number result
-unfoldable pub held : Integer → ℤ → Result ℕ Reason
-held t z = if overflows t z then Err reasons.Overflow else Ok (word_of t z)
+abbrev pub held : Integer → ℤ → Result ℕ Reason
+held t z = tested (held_tests t z) (word_of t z)
 
 abbrev pub is_zero : ℤ → Bool
 is_zero z = nat_eq (unsigned_abs z) 0

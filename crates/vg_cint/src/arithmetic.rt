@@ -4,7 +4,7 @@ ghost use Rattle.std.specs.Prelude.{◌≡◌, ◌^◌, ◌*ℤ◌, ◌≤ℤ◌
 ghost use Rattle.vg_cint.specs.Values as values;
 ghost use Rattle.vg_cint.specs.Operators as operators;
 
-use crate::words::{held, low, overflows, reading, signed_reading, word_of};
+use crate::words::{fits, held, low, reading, signed_reading, word_of};
 use vg_core::{Integer, Reason};
 
 /// The sum of two words of one promoted type, modulo 2 to the width for an unsigned type (C11 6.5.6).
@@ -79,10 +79,11 @@ fn remaining(of: Integer, dividend: i128, divisor: i128) -> Result<u64, Reason>
     if divisor == 0 {
         return Err(Reason::DivZero);
     }
-    if overflows(of, dividend / divisor) {
-        return Err(Reason::Overflow);
+    if fits(of, dividend / divisor) {
+        Ok(word_of(of, dividend % divisor))
+    } else {
+        Err(Reason::Overflow)
     }
-    Ok(word_of(of, dividend % divisor))
 }
 
 /// A word of a promoted type with the other sign, modulo 2 to the width for an unsigned type (C11 6.5.3.3).

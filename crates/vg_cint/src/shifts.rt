@@ -4,14 +4,14 @@ ghost use Rattle.std.specs.Prelude.{◌≡◌, ◌<◌, ◌≤ℤ◌, ◌<ℤ◌
 ghost use Rattle.vg_cint.specs.Operators as operators;
 
 use crate::types::width;
-use crate::words::{can_hold, reading, word_of};
+use crate::words::{fits, reading, word_of};
 use vg_core::{Integer, Reason};
 
-/// Whether a shift of a word of this type by `count` is wrong: by a negative number, or by the width or more.
-fn is_out(of: Integer, count: i128) -> bool
-    ensures { result ≡ operators.is_out of count }
+/// Whether a word of this type is shifted by `count` at all: it isn't negative, and below the width.
+fn is_within(of: Integer, count: i128) -> bool
+    ensures { result ≡ operators.is_within of count }
 {
-    count < 0 || i128::from(width(of)) <= count
+    0 <= count && count < i128::from(width(of))
 }
 
 /// 2 to this number of places.
@@ -42,10 +42,14 @@ fn moved_left(of: Integer, value: i128, places: u32) -> Result<u64, Reason>
     ensures { result ≡ operators.moved_left of value places }
 {
     let moved = scaled(value, places);
-    if of.signed && (value < 0 || !can_hold(of, moved)) {
+    if of.signed && value < 0 {
         return Err(Reason::Shift);
     }
-    Ok(word_of(of, moved))
+    if fits(of, moved) {
+        Ok(word_of(of, moved))
+    } else {
+        Err(Reason::Shift)
+    }
 }
 
 /// A word of the promoted type `of` shifted to the left by a word of the promoted type `by` (C11 6.5.7), modulo 2 to the width for an unsigned type.
@@ -55,10 +59,11 @@ pub fn shift_left(of: Integer, by: Integer, word: u64, count: u64) -> Result<u64
     ensures { result ≡ operators.shift_left of by word count }
 {
     let count = reading(by, count);
-    if is_out(of, count) {
-        return Err(Reason::Shift);
+    if is_within(of, count) {
+        moved_left(of, reading(of, word), count as u32)
+    } else {
+        Err(Reason::Shift)
     }
-    moved_left(of, reading(of, word), count as u32)
 }
 
 /// A word of the promoted type `of` shifted to the right by a word of the promoted type `by` (C11 6.5.7), with the sign from the left.
@@ -68,8 +73,9 @@ pub fn shift_right(of: Integer, by: Integer, word: u64, count: u64) -> Result<u6
     ensures { result ≡ operators.shift_right of by word count }
 {
     let count = reading(by, count);
-    if is_out(of, count) {
-        return Err(Reason::Shift);
+    if is_within(of, count) {
+        Ok(word_of(of, reading(of, word) >> count))
+    } else {
+        Err(Reason::Shift)
     }
-    Ok(word_of(of, reading(of, word) >> count))
 }

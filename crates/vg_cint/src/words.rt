@@ -78,23 +78,23 @@ pub fn can_hold(of: Integer, value: i128) -> bool
     least(of) <= value && value <= greatest(of)
 }
 
-/// Whether this result of an operator is one that its signed type can't hold.
-#[tactic(auto, unfolding(crate::specs::Values::overflows))]
-pub(crate) fn overflows(of: Integer, value: i128) -> bool
-    ensures { result ≡ values.overflows of value }
+/// Whether a type takes this result of an operator: a signed type where it can hold it, an unsigned one always.
+#[tactic(auto, unfolding(crate::specs::Values::fits))]
+pub(crate) fn fits(of: Integer, value: i128) -> bool
+    ensures { result ≡ values.fits of value }
 {
-    of.signed && !can_hold(of, value)
+    !of.signed || can_hold(of, value)
 }
 
 /// The word of an operator's result. `Overflow`: a signed type that can't hold it.
-#[tactic(auto, unfolding(crate::specs::Values::held))]
 pub(crate) fn held(of: Integer, value: i128) -> Result<u64, Reason>
     ensures { result ≡ values.held of value }
 {
-    if overflows(of, value) {
-        return Err(Reason::Overflow);
+    if fits(of, value) {
+        Ok(word_of(of, value))
+    } else {
+        Err(Reason::Overflow)
     }
-    Ok(word_of(of, value))
 }
 
 /// A word of the type `from` converted to the type `to` (C11 6.3.1.3): the same value where `to` can hold it, and else modulo 2 to the width, also where

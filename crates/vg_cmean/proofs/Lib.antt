@@ -1,8 +1,8 @@
 pub mod Below
-mod Closing
+pub mod Closing
 pub mod Turns
 mod Lists
-mod Strict
+pub mod Strict
 mod Declarations
 mod Depths
-mod Links
+pub mod Links

@@ -11,12 +11,14 @@ use Rattle.vg_cmean.specs.declared.chains.Branch.{Branch}
 use Rattle.vg_cmean.specs.declared.datum.Datum.{Datum}
 use Rattle.vg_cmean.specs.declared.datum.Datum.TheVariants as data_of
 use Rattle.vg_cint.specs.declared.value.Value.{Value}
+use Rattle.vg_cint.specs.Tests.{tested}
 use Rattle.vg_cint.specs.Expressions.{binary_of}
+use Rattle.vg_core.specs.declared.types.CType.{CType}
 use Rattle.vg_core.specs.declared.reason.Reason.{Reason}
 use Rattle.vg_cmean.specs.Values.{read, of_result, binary, is_true, word_of}
-use Rattle.vg_cmean.specs.Places.{indexed, member, is_far, start_under}
-use Rattle.vg_cmean.specs.Outcomes.{Outcome, Next, Gives, Wrong, and_then, full, tick}
-use Rattle.vg_cmean.specs.Typings.{kind_at, place_at}
+use Rattle.vg_cmean.specs.Places.{indexed, member, element, element_at, element_of, index_tests, start_under}
+use Rattle.vg_cmean.specs.Outcomes.{Outcome, Next, Gives, Wrong, and_then, or_wrong, full, tick}
+use Rattle.vg_cmean.specs.Typings.{kind_at, place_at, type_at, element_size}
 use Rattle.vg_cmean.specs.Meaning.{Parts_mean, Meaning, meaning, meaning_below, expression, statement, operated, is_truth, value, taken, branch}
 use Rattle.vg_cmean.specs.Chains.{first_of, link, link_at, IsLink, IsChain, gives_above, IsElseIf, branched_at}
 use Rattle.vg_cmean.proofs.Below.{meaning_is, below_is}
@@ -63,15 +65,25 @@ valued_result : (r : Result Value Reason) (at : ℕ) (s : State) → IsValued (o
 valued_result (Ok v) at s = refl
 valued_result (Err reason) at s = refl
 
+valued_or_wrong : {A : Type 0} (r : Result A Reason) (at : ℕ) (s : State) (go : A → Outcome) → ((x : A) → IsValued (go x)) → IsValued (or_wrong r at s go)
+valued_or_wrong (Ok x) at s go h = h x
+valued_or_wrong (Err reason) at s go h = refl
+
 valued_operated : (op : BinaryOp) (at : ℕ) (right : Meaning) (a : Datum) (s : State) → IsValued (operated op at right a s)
 valued_operated binaries.AndThen at right a s = valued_if (is_true a) _ _ (valued_bind (value right (tick s)) is_truth (λ d t. refl)) refl
 valued_operated binaries.OrElse at right a s = valued_if (is_true a) _ _ refl (valued_bind (value right (tick s)) is_truth (λ d t. refl))
 valued_operated op at right a s = valued_bind (value right s) (binary op at a) (λ b t. valued_result (binary_of op (word_of a) (word_of b)) at t)
 
+valued_element : (size : ℕ) (type : CType) (at index_at : ℕ) (a b : Datum) (s : State) → IsValued (element size type at index_at a b s)
+valued_element size type at index_at a b s =
+    valued_or_wrong (tested (index_tests (start_under a) (word_of b)) (element_of (start_under a) size (word_of b))) index_at s
+    (λ p. Gives (data_of.Lvalue (element_at size type at a p)) s) (λ p. refl)
+
 valued_link : (u : Typed) (part : Parts_mean) (n : ℕ) (kind : Kind) (d : Datum) (s : State) → IsValued (link u part n kind d s)
 valued_link u part n (nodes.Binary op left right) d s = valued_bind (read d s) (operated op (place_at u n) (part right)) (valued_operated op (place_at u n) (part right))
 valued_link u part n (nodes.Index array index) d s =
-    valued_bind (indexed d s) _ (λ a t. valued_bind (value (part index) t) _ (λ b v. valued_if (is_far (start_under a) (word_of b)) _ _ refl refl))
+    valued_bind (indexed d s) _ (λ a t. valued_bind (value (part index) t) _ (λ b v.
+    valued_element (element_size u (type_at u array)) (type_at u n) (place_at u n) (place_at u index) a b v))
 valued_link u part n (nodes.Arrow pointer field) d s = valued_bind (read d s) _ (λ e t. refl)
 valued_link u part n _ d s = refl
 

@@ -235,7 +235,7 @@ counted u n counter s = write (declared u n (place_at u n) s.own) (data_of.Word 
 abbrev pub turn : Typed → ℕ → Meaning → Value → State → Outcome
 turn u n body counter s = after (counted u n counter (tick s)) body.does
 
--- so many turns are left
+-- so many turns are left. Typing keeps every loop below the 4,096 that a loop begins with
 unfoldable pub turns : Typed → (left : ℕ) → (n : ℕ) → Meaning → (counter bound : Value) → (step : ℕ) → State → Outcome
 turns u zero n body counter bound step s = Next s
 turns u (suc left) n body counter bound step s =

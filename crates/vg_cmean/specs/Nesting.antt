@@ -1,6 +1,7 @@
 -- How deep a run of a text nests: constructs in one another, where a called function stands in the call. The machine's own stack grows with it, so there
 -- is a limit. A statement, a block, and an expression that stands in one of them, in parentheses, in brackets, behind a sign or a cast, as an argument or
--- as the second or third operand of `?:` is a construct; a chain of operators or suffixes is one, however long it is.
+-- as the second or third operand of `?:` is a construct; a chain of operators or suffixes is one, however long it is. An `else if` is the statement that stands
+-- in its `if`. What a run doesn't come to counts nothing: a loop's start, bound and step are constants, and so is the length of an array.
 use Rattle.std.specs.Prelude.{ℕ, zero, suc, ◌+◌, max, min, List, [], ◌∷◌, ◌++◌, length, slice_index_or, option_to_list, Option, Some, None}
 use Rattle.vg_core.specs.Syntax.{list_of, named_by, listed}
 use Rattle.vg_core.specs.Units.{Typed}
@@ -32,6 +33,7 @@ inner (nodes.Index array index) = index ∷ []
 inner (nodes.Member whole field) = []
 inner (nodes.Arrow pointer field) = []
 inner (nodes.Declare base pointer name count value) = []
+inner (nodes.For type counter start tested bound stepped step body) = body ∷ []
 inner kind = named_by kind
 
 -- the greatest depth of some nodes, where each counts for so many more

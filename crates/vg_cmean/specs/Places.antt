@@ -1,5 +1,5 @@
 -- The lvalues that expressions name: variables, elements and members (C11 6.5.1, 6.5.2.1, 6.5.2.3, 6.5.3.2).
-use Rattle.std.specs.Prelude.{ℕ, ◌+◌, ◌*◌, ◌%◌, ◌^◌, nat_eq, Bool, false, ◌&&◌, ◌||◌, ℤ, pos, neg_ℤ, int_lt, Option, Some, None, if◌then◌else◌}
+use Rattle.std.specs.Prelude.{ℕ, ◌+◌, ◌*◌, ◌%◌, ◌^◌, nat_eq, Bool, false, ◌&&◌, ◌||◌, List, [], ◌∷◌, ℤ, pos, neg_ℤ, int_le, Option, Some, None, if◌then◌else◌}
 use Rattle.vg_core.specs.Units.{Typed}
 use Rattle.vg_core.specs.declared.reason.Reason.TheVariants as reasons
 use Rattle.vg_core.specs.declared.types.CType.{CType}
@@ -7,6 +7,7 @@ use Rattle.vg_core.specs.declared.types.CType.TheVariants as types
 use Rattle.vg_core.specs.Layouts.{layout}
 use Rattle.vg_core.specs.declared.unit.Referent.{Referent}
 use Rattle.vg_core.specs.declared.unit.Referent.TheVariants as referents
+use Rattle.vg_cint.specs.Tests.{Test, test, tested}
 use Rattle.vg_cint.specs.Types.{with_sign}
 use Rattle.vg_cint.specs.Values.{reading, converted}
 use Rattle.vg_cint.specs.declared.value.Value.{Value}
@@ -17,7 +18,7 @@ use Rattle.vg_cmemory.specs.State.{Own, State, start_of}
 use Rattle.vg_cmean.specs.declared.datum.Datum.{Datum}
 use Rattle.vg_cmean.specs.declared.datum.Datum.TheVariants as data_of
 use Rattle.vg_cmean.specs.declared.datum.Lvalue.{Lvalue}
-use Rattle.vg_cmean.specs.Outcomes.{Outcome, Gives, Wrong}
+use Rattle.vg_cmean.specs.Outcomes.{Outcome, Gives, or_wrong}
 use Rattle.vg_cmean.specs.Typings.{type_at, referent_at, offset_at, is_packed, is_array, is_pointer}
 use Rattle.vg_cmean.specs.Values.{read, word_of, pointer_of}
 
@@ -56,12 +57,15 @@ abbrev pub indexed : Datum → State → Outcome
 indexed (data_of.Lvalue place) s = if is_array place.of then Gives (data_of.Lvalue place) s else read (data_of.Lvalue place) s
 indexed d s = read d s
 
-abbrev pub lies_beyond : (bound : ℕ) → ℤ → Bool
-lies_beyond bound z = int_lt z (neg_ℤ (pos bound)) || int_lt (pos bound) z
+abbrev pub is_near : (bound : ℕ) → ℤ → Bool
+is_near bound z = int_le (neg_ℤ (pos bound)) z && int_le z (pos bound)
 
 -- an index beyond 262,144 to either side, or one on a pointer that stands beyond 2 ^ 40 bytes from its object, is outside of every object
-abbrev pub is_far : Pointer → Value → Bool
-is_far p i = lies_beyond 262144 (reading i.of i.word) || lies_beyond (2 ^ 40) (reading (with_sign 64) p.offset)
+abbrev pub index_tests : Pointer → Value → List Test
+index_tests p i =
+    test reasons.OutOfObject (is_near 262144 (reading i.of i.word))
+    ∷ test reasons.OutOfObject (is_near (2 ^ 40) (reading (with_sign 64) p.offset))
+    ∷ []
 
 abbrev pub element_of : Pointer → (size : ℕ) → Value → Pointer
 element_of p size i = moved p (converted (with_sign 64) i.of i.word * size % 2 ^ 64)
@@ -97,8 +101,8 @@ element_at size type at array p =
 
 abbrev pub element : (size : ℕ) → CType → (at index_at : ℕ) → Datum → Datum → State → Outcome
 element size type at index_at array index s =
-    if is_far (start_under array) (word_of index) then Wrong index_at reasons.OutOfObject s
-    else Gives (data_of.Lvalue (element_at size type at array (element_of (start_under array) size (word_of index)))) s
+    or_wrong (tested (index_tests (start_under array) (word_of index)) (element_of (start_under array) size (word_of index))) index_at s
+    (λ p. Gives (data_of.Lvalue (element_at size type at array p)) s)
 
 -- ---- members
 
@@ -128,7 +132,10 @@ pointed_to type at d = data_of.Lvalue (lvalue_at (pointer_of d) type at)
 abbrev pub may_be_pointed_to : (size : ℕ) → Lvalue → State → Bool
 may_be_pointed_to size place s = lies_in place.room place.pointer.offset size || (place.past && ends_at s place.pointer)
 
+abbrev pub address_tests : (size : ℕ) → Lvalue → State → List Test
+address_tests size place s = test reasons.OutOfObject (may_be_pointed_to size place s) ∷ []
+
 abbrev pub address : Typed → Datum → State → Outcome
 address u (data_of.Lvalue place) s =
-    if may_be_pointed_to (layout u.notes place.of).size place s then Gives (data_of.Address place.pointer) s else Wrong place.at reasons.OutOfObject s
+    or_wrong (tested (address_tests (layout u.notes place.of).size place s) place.pointer) place.at s (λ p. Gives (data_of.Address p) s)
 address u d s = Gives (data_of.Address (pointer_of d)) s

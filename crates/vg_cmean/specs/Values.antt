@@ -30,7 +30,7 @@ abbrev pub word_of : Datum → Value
 word_of (data_of.Word value) = value
 word_of _ = zero_value
 
--- no chunk is lent before the first step, so this points to nothing that lives
+-- objects are numbered from 1, so this points to nothing that lives
 abbrev pub nowhere : Pointer
 nowhere = record { object = objects.Chunk 0; offset = 0 }
 

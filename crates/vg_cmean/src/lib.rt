@@ -10,10 +10,7 @@ mod nesting;
 mod operators;
 mod places;
 mod run;
-mod typings;
+pub mod typings;
 mod values;
 
 pub use machine::{Done, Machine, has_externs};
-
-#[cfg(test)]
-mod tests;

@@ -73,16 +73,7 @@ fn deepest_inner(depths: &[u32], kind: Kind) -> u64
             then,
             otherwise,
         } => u64::max(deeper(depths, condition, then), optional(depths, otherwise)),
-        Kind::For {
-            start,
-            bound,
-            step,
-            body,
-            ..
-        } => u64::max(
-            deeper(depths, start, bound),
-            u64::max(optional(depths, step), inside(depths, body)),
-        ),
+        Kind::For { body, .. } => inside(depths, body),
         Kind::Return { value } => optional(depths, value),
         Kind::Choose {
             then,

@@ -1,12 +1,13 @@
 //! The lvalues that expressions name (C11 6.5.1, 6.5.2.1, 6.5.2.3, 6.5.3.2).
 ghost use Rattle.std.specs.Prelude.{◌≡◌};
 ghost use Rattle.vg_cmean.specs.Outcomes.{gives, full};
+ghost use Rattle.vg_cint.specs.Tests.{tested};
 ghost use Rattle.vg_cmean.specs.Places as places;
 ghost use Rattle.vg_cmean.specs.Typings as typings;
 ghost use Rattle.vg_cmemory.specs.State.{State};
 
 use crate::datum::{Datum, Lvalue};
-use crate::fault::Fault;
+use crate::fault::{Fault, or_wrong};
 use crate::typings::{
     is_array, is_packed, is_pointer, offset_at, place_at, referent_at, size_of_type, type_at,
 };
@@ -98,17 +99,10 @@ pub fn indexed(memory: &FrameMemory, frame: &[u8], datum: Datum) -> Result<Datum
     }
 }
 
-fn lies_beyond(bound: u64, number: i128) -> bool
-    ensures { result ≡ places.lies_beyond bound number }
+fn is_near(bound: u64, number: i128) -> bool
+    ensures { result ≡ places.is_near bound number }
 {
-    number < -i128::from(bound) || i128::from(bound) < number
-}
-
-fn is_far(pointer: Pointer, index: Value) -> bool
-    ensures { result ≡ places.is_far pointer index }
-{
-    lies_beyond(262144, reading(index.of, index.word))
-        || lies_beyond(1 << 40, reading(SIGNED_64, pointer.offset))
+    -i128::from(bound) <= number && number <= i128::from(bound)
 }
 
 fn element_of(pointer: Pointer, size: u32, index: Value) -> Pointer
@@ -116,6 +110,19 @@ fn element_of(pointer: Pointer, size: u32, index: Value) -> Pointer
 {
     let elements = converted(SIGNED_64, index.of, index.word);
     moved(pointer, elements.wrapping_mul(u64::from(size)))
+}
+
+// Where an index leads to, or the first reason against it.
+fn pointer_at(pointer: Pointer, size: u32, index: Value) -> Result<Pointer, Reason>
+    ensures { result ≡ tested (places.index_tests pointer index) (places.element_of pointer size index) }
+{
+    if !is_near(262144, reading(index.of, index.word)) {
+        return Err(Reason::OutOfObject);
+    }
+    if !is_near(1 << 40, reading(SIGNED_64, pointer.offset)) {
+        return Err(Reason::OutOfObject);
+    }
+    Ok(element_of(pointer, size, index))
 }
 
 fn length_of(of: CType) -> u32
@@ -203,14 +210,7 @@ pub fn element(
     ensures { (s : State) → gives result s ≡ places.element size of at index_at array index s }
 {
     let start = start_under(array);
-    let number = word_of(index);
-    if is_far(start, number) {
-        return Err(Fault {
-            at: index_at,
-            reason: Reason::OutOfObject,
-        });
-    }
-    let pointer = element_of(start, size, number);
+    let pointer = or_wrong(pointer_at(start, size, word_of(index)), index_at)?;
     Ok(Datum::Lvalue(element_at(size, of, at, array, pointer)))
 }
 
@@ -250,6 +250,22 @@ fn may_be_pointed_to(memory: &FrameMemory, frame: &[u8], size: u64, place: Lvalu
         || (place.past && memory.ends_at(frame, place.pointer))
 }
 
+// The address of an lvalue, or the first reason against it.
+fn address_of(
+    memory: &FrameMemory,
+    frame: &[u8],
+    size: u64,
+    place: Lvalue,
+) -> Result<Pointer, Reason>
+    ensures { result ≡ tested (places.address_tests size place (full memory.now frame.now)) place.pointer }
+{
+    if may_be_pointed_to(memory, frame, size, place) {
+        Ok(place.pointer)
+    } else {
+        Err(Reason::OutOfObject)
+    }
+}
+
 /// The address of an lvalue.
 ///
 /// `OutOfObject`, at the lvalue: it doesn't lie in the arrays that its path names, nor is it the element just past the last of an array with which its
@@ -264,14 +280,9 @@ pub fn address(
 {
     match datum {
         Datum::Lvalue(place) => {
-            if may_be_pointed_to(memory, frame, size_of_type(unit, place.of), place) {
-                Ok(Datum::Address(place.pointer))
-            } else {
-                Err(Fault {
-                    at: place.at,
-                    reason: Reason::OutOfObject,
-                })
-            }
+            let size = size_of_type(unit, place.of);
+            let pointer = or_wrong(address_of(memory, frame, size, place), place.at)?;
+            Ok(Datum::Address(pointer))
         }
         _ => Ok(Datum::Address(pointer_of(datum))),
     }

@@ -1,4 +1,4 @@
--- Laws of slots that change, and of tests.
+-- Laws of slots that change.
 use Rattle.std.proofs.Common.{◌≡◌, ◌≢◌, ℕ, zero, suc, ◌<◌, nat_eq, false, true, Bool, List, [], ◌∷◌, slice_set, slice_index_or, Option, Some, None, IfOk, refl, ap, subst, ◌∙◌, arith}
 use Rattle.std.proofs.lemmas.Grind.{common_steps}
 use Rattle.vg_core.specs.declared.reason.Reason.{Reason}
@@ -6,30 +6,13 @@ use Rattle.vg_cmemory.specs.declared.object.Object.{Object}
 use Rattle.vg_cmemory.specs.declared.object.Object.TheVariants as objects
 use Rattle.vg_cmemory.specs.declared.object.Room.{Room}
 use Rattle.vg_cmemory.specs.State.{Own, State, Slot, no_slot, made, ended, slot, declare}
-use Rattle.vg_cmemory.specs.Access.{Gone, content, content_of_life, bytes_of_word, in_own, in_frame, store_at, written_in, put_in_slot}
-use Rattle.vg_cmemory.specs.Tests.{Test, test, first_against, unless}
-use Rattle.vg_cmemory.specs.Laws.{AllHold, NothingAgainst, KeepsOthers, WritesStayInside, StaysGone, EndsLife}
-
--- ---- tests
-
-first_holds : (b : Bool) (r : Reason) (ts : List Test) → first_against (test r b ∷ ts) ≡ None → (b ≡ true) × (first_against ts ≡ None)
-first_holds true r ts e = (refl, e)
-first_holds false r ts e = cc
-
-all_hold : (tests : List Test) → first_against tests ≡ None → AllHold tests
-all_hold [] e = tt
-all_hold (t ∷ ts) e = let h = first_holds t.holds t.reason ts e in (h.0, all_hold ts h.1)
-
-none_against : (tests : List Test) → AllHold tests → first_against tests ≡ None
-none_against [] h = refl
-none_against (t ∷ ts) h = rw (h.0) (none_against ts h.1)
-
-pub nothing_against : NothingAgainst
-nothing_against tests = (all_hold tests, none_against tests)
+use Rattle.vg_cmemory.specs.Access.{Gone, content, content_of_life, bytes_of_word, write_tests, written, written_in, put_in_slot}
+use Rattle.vg_cint.specs.Tests.{first_against, unless}
+use Rattle.vg_cmemory.specs.Laws.{KeepsOthers, WritesStayInside, StaysGone, EndsLife}
 
 -- ---- slots
 
-slot_other : (slots : List Slot) (i k : ℕ) (to : Slot) → i ≢ k → slice_index_or (slice_set slots i to) k no_slot ≡ slice_index_or slots k no_slot
+pub slot_other : (slots : List Slot) (i k : ℕ) (to : Slot) → i ≢ k → slice_index_or (slice_set slots i to) k no_slot ≡ slice_index_or slots k no_slot
 slot_other [] i k to ne = refl
 slot_other (s ∷ ss) zero zero to ne = absurd (ne refl)
 slot_other (s ∷ ss) zero (suc k) to ne = refl
@@ -72,20 +55,15 @@ keeps s node number at new (objects.Declared k m) ne =
     ap (λ (x : Slot). content_of_life x.life m) (slot_other s.own.slots node k (put_in_slot at new (slot s.own node)) (λ e. ne (ap Some e)))
 keeps s node number at new (objects.Chunk m) ne = refl
 
-checked_own : (s : State) (r : Option Reason) (node number at : ℕ) (new : List ℕ) (other : Object) →
-    IfOk (in_own s (unless r (written_in node at new s.own))) (λ t. KeepsOthers s (objects.Declared node number) other t)
-checked_own s None node number at new other = keeps s node number at new other
-checked_own s (Some r) node number at new other = tt
+keeps_at : (s : State) (object other : Object) (at : ℕ) (new : List ℕ) → KeepsOthers s object other (written s object at new)
+keeps_at s (objects.Declared node number) other at new = keeps s node number at new other
+keeps_at s (objects.Chunk number) other at new = λ ne. refl
 
-checked_frame : (s : State) (r : Option Reason) (number : ℕ) (frame : List ℕ) (other : Object) →
-    IfOk (in_frame s (unless r frame)) (λ t. KeepsOthers s (objects.Chunk number) other t)
-checked_frame s None number frame other = λ ne. refl
-checked_frame s (Some r) number frame other = tt
-
-stored_at : (s : State) (object other : Object) (room : Option Room) (at size align word : ℕ) →
-    IfOk (store_at s object room at size align word) (λ t. KeepsOthers s object other t)
-stored_at s (objects.Declared node number) other room at size align word = checked_own s _ node number at (bytes_of_word size word) other
-stored_at s (objects.Chunk number) other room at size align word = checked_frame s _ number _ other
+done_if : (r : Option Reason) (done : State) (P : State → Type 0) → P done → IfOk (unless r done) P
+done_if None done P h = h
+done_if (Some reason) done P h = tt
 
 pub writes_stay_inside : WritesStayInside
-writes_stay_inside s p room size align word other = stored_at s p.object other room p.offset size align word
+writes_stay_inside s p room size align word other =
+    done_if (first_against (write_tests s p room size align)) (written s p.object p.offset (bytes_of_word size word)) (λ t. KeepsOthers s p.object other t)
+    (keeps_at s p.object other p.offset (bytes_of_word size word))

@@ -5,3 +5,4 @@ mod Gone
 mod Outside
 mod Seen
 mod Stacked
+mod Alone

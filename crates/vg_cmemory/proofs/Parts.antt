@@ -1,9 +1,10 @@
 -- Reads of a chunk: its bytes are all set.
-use Rattle.std.proofs.Common.{◌≡◌, ℕ, zero, suc, Bool, true, false, List, [], ◌∷◌, length, map, take, drop, Option, None, Ok, refl, ap, ◌∙◌}
+use Rattle.std.specs.Prelude.{nat_le}
+use Rattle.std.proofs.Common.{◌≡◌, ℕ, zero, suc, ◌+◌, ◌%◌, nat_eq, Bool, true, false, List, [], ◌∷◌, length, map, take, drop, Option, None, Ok, refl, ap, ◌∙◌}
 use Rattle.vg_core.specs.declared.reason.Reason.TheVariants as reasons
 use Rattle.vg_cmemory.specs.declared.object.Room.{Room}
-use Rattle.vg_cmemory.specs.Tests.{test, first_against, unless}
-use Rattle.vg_cmemory.specs.Access.{Lent, set, part, all_set, word_of, place_tests, load_from}
+use Rattle.vg_cint.specs.Tests.{test, first_against, unless}
+use Rattle.vg_cmemory.specs.Access.{Lent, set, part, all_set, word_of, lies_in, place_tests, load_from}
 
 map_take : (n : ℕ) (xs : List ℕ) → take n (map set xs) ≡ map set (take n xs)
 map_take zero xs = refl
@@ -26,15 +27,16 @@ map_length : (xs : List ℕ) → length (map set xs) ≡ length xs
 map_length [] = refl
 map_length (x ∷ xs) = ap suc (map_length xs)
 
-all_hold : (x y z : Bool) (word : ℕ) → first_against (test reasons.OutOfObject x ∷ test reasons.Misaligned y ∷ []) ≡ None → z ≡ true →
-    unless (first_against (test reasons.Dead true ∷ test reasons.OutOfObject x ∷ test reasons.Misaligned y ∷ test reasons.Unset z ∷ [])) word ≡ Ok word
-all_hold true true true word e z = refl
-all_hold true true false word e z = cc
-all_hold true false z word e h = cc
-all_hold false y z word e h = cc
+all_hold : (x v y z : Bool) (word : ℕ) → first_against (test reasons.OutOfObject x ∷ test reasons.OutOfObject v ∷ test reasons.Misaligned y ∷ []) ≡ None → z ≡ true →
+    unless (first_against (test reasons.Dead true ∷ test reasons.OutOfObject x ∷ test reasons.OutOfObject v ∷ test reasons.Misaligned y ∷ test reasons.Unset z ∷ [])) word ≡ Ok word
+all_hold true true true true word e h = refl
+all_hold true true true false word e h = cc
+all_hold true true false z word e h = cc
+all_hold true false y z word e h = cc
+all_hold false v y z word e h = cc
 
 pub chunk_read : (from size : ℕ) (bytes : List ℕ) (room : Option Room) (offset count align : ℕ) → first_against (place_tests (length bytes) room offset count align) ≡ None →
     load_from (Lent from size) (map set bytes) room offset count align ≡ Ok (word_of (map set (part bytes offset count)))
 chunk_read from size bytes room offset count align e =
     rw (map_length bytes, map_part bytes offset count, map_set (part bytes offset count))
-    (all_hold _ _ true (word_of (map set (part bytes offset count))) e refl)
+    (all_hold (nat_le (offset + count) (length bytes)) (lies_in room offset count) (nat_eq (offset % align) 0) true (word_of (map set (part bytes offset count))) e refl)

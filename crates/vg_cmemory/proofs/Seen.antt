@@ -1,14 +1,13 @@
 -- What a write leaves in its own object.
-use Rattle.std.proofs.Common.{◌≡◌, ℕ, zero, suc, ◌+◌, nat_eq, Bool, true, false, if◌then◌else◌, List, [], ◌∷◌, length, map, take, drop, slice_set, slice_index_or, Option, Some, None, IfOk, refl, ap, ◌∙◌, arith}
+use Rattle.std.proofs.Common.{◌≡◌, ℕ, zero, suc, ◌+◌, nat_eq, Bool, true, false, if◌then◌else◌, List, [], ◌∷◌, length, map, take, drop, slice_set, slice_index_or, Option, Some, None, IfOk, refl, ap, subst, sym, ◌∙◌, arith}
 use Rattle.vg_core.specs.declared.reason.Reason.{Reason}
 use Rattle.vg_core.specs.declared.reason.Reason.TheVariants as reasons
 use Rattle.vg_cmemory.specs.declared.object.Object.TheVariants as objects
 use Rattle.vg_cmemory.specs.declared.object.Object.{Object}
 use Rattle.vg_cmemory.specs.declared.object.Chunk.{Chunk}
-use Rattle.vg_cmemory.specs.declared.object.Room.{Room}
-use Rattle.vg_cmemory.specs.State.{Own, State, Slot, Life, no_slot, slot}
-use Rattle.vg_cmemory.specs.Tests.{Test, test, first_against, unless}
-use Rattle.vg_cmemory.specs.Access.{Content, Bytes, Lent, Gone, lives, set, part, put, bytes_of, bytes_of_word, content_of_life, content_of_chunk, put_in_slot, written_in, place_tests, store_at, in_own, in_frame, start_in_frame}
+use Rattle.vg_cmemory.specs.State.{State, Slot, Life, no_slot}
+use Rattle.vg_cint.specs.Tests.{Test, test, first_against, unless}
+use Rattle.vg_cmemory.specs.Access.{Content, Bytes, Lent, Gone, lives, set, part, put, bytes_of, bytes_of_word, content, content_of_life, content_of_chunk, put_in_slot, written, place_tests, start_in_frame}
 use Rattle.vg_cmemory.specs.Laws.{WritesAreSeen, bytes_in}
 
 -- ---- parts of a list
@@ -78,7 +77,7 @@ either : (b : Bool) (P : Content → Type 0) (x y : Content) → P x → P y →
 either true P x y h i = h
 either false P x y h i = i
 
-by_chunk : (chunks : List Chunk) (number : ℕ) (P : Content → Type 0) → ((from size : ℕ) → P (Lent from size)) → P Gone → P (content_of_chunk chunks number)
+pub by_chunk : (chunks : List Chunk) (number : ℕ) (P : Content → Type 0) → ((from size : ℕ) → P (Lent from size)) → P Gone → P (content_of_chunk chunks number)
 by_chunk [] number P one none = none
 by_chunk (c ∷ cs) number P one none = either (nat_eq c.number number) P (Lent c.from c.size) (content_of_chunk cs number) (one c.from c.size) (by_chunk cs number P one none)
 
@@ -96,26 +95,13 @@ seen_chunk s number at new =
 
 -- ---- both
 
-through_own : (s : State) (r : Option Reason) (own : Own) (P : State → Type 0) → IfOk (unless r own) (λ o. P (record s { own = o })) → IfOk (in_own s (unless r own)) P
-through_own s None own P h = h
-through_own s (Some reason) own P h = tt
-
-through_frame : (s : State) (r : Option Reason) (frame : List ℕ) (P : State → Type 0) → IfOk (unless r frame) (λ f. P (record s { frame = f })) → IfOk (in_frame s (unless r frame)) P
-through_frame s None frame P h = h
-through_frame s (Some reason) frame P h = tt
-
-seen_at : (s : State) (object : Object) (room : Option Room) (at size align word : ℕ) →
-    IfOk (store_at s object room at size align word) (λ t. bytes_in t object ≡ put (bytes_in s object) at (map set (bytes_of_word size word)))
-seen_at s (objects.Declared node number) room at size align word =
-    through_own s _ _ (λ t. bytes_in t (objects.Declared node number) ≡ put (bytes_in s (objects.Declared node number)) at (map set (bytes_of_word size word)))
-    (if_alive _ (place_tests (length (bytes_of [] (content_of_life (slot s.own node).life number))) room at size align) (written_in node at (bytes_of_word size word) s.own)
-    (λ o. bytes_in (record s { own = o }) (objects.Declared node number) ≡ put (bytes_in s (objects.Declared node number)) at (map set (bytes_of_word size word)))
-    (λ h. seen_slot s.own.slots node number at (bytes_of_word size word) s.frame s.frame h))
-seen_at s (objects.Chunk number) room at size align word =
-    through_frame s _ _ (λ t. bytes_in t (objects.Chunk number) ≡ put (bytes_in s (objects.Chunk number)) at (map set (bytes_of_word size word)))
-    (if_alive _ (place_tests (length (bytes_of s.frame (content_of_chunk s.own.chunks number))) room at size align) _
-    (λ f. bytes_in (record s { frame = f }) (objects.Chunk number) ≡ put (bytes_in s (objects.Chunk number)) at (map set (bytes_of_word size word)))
-    (λ h. seen_chunk s number at (bytes_of_word size word) h))
+seen_at : (s : State) (object : Object) (at : ℕ) (new : List ℕ) → lives (content s.own object) ≡ true →
+    bytes_in (written s object at new) object ≡ put (bytes_in s object) at (map set new)
+seen_at s (objects.Declared node number) at new h = seen_slot s.own.slots node number at new s.frame s.frame h
+seen_at s (objects.Chunk number) at new h = seen_chunk s number at new h
 
 pub writes_are_seen : WritesAreSeen
-writes_are_seen s p room size align word = seen_at s p.object room p.offset size align word
+writes_are_seen s p room size align word =
+    if_alive (lives (content s.own p.object)) (place_tests (length (bytes_in s p.object)) room p.offset size align) (written s p.object p.offset (bytes_of_word size word))
+    (λ t. bytes_in t p.object ≡ put (bytes_in s p.object) p.offset (map set (bytes_of_word size word)))
+    (λ h. seen_at s p.object p.offset (bytes_of_word size word) h)

@@ -8,7 +8,7 @@ use Rattle.vg_cmemory.specs.declared.object.Pointer.{Pointer}
 use Rattle.vg_cmemory.specs.declared.object.Chunk.{Chunk}
 use Rattle.vg_cmemory.specs.declared.object.Room.{Room}
 use Rattle.vg_cmemory.specs.State.{Life, Slot, Own, State, slot, with_slot}
-use Rattle.vg_cmemory.specs.Tests.{Test, test, first_against, unless}
+use Rattle.vg_cint.specs.Tests.{Test, test, tested}
 
 -- ---- what an object is: a list of bytes, set or unset; a chunk of the frame, whose bytes are the frame's; or gone
 
@@ -52,12 +52,10 @@ abbrev pub lies_in : Option Room → (offset size : ℕ) → Bool
 lies_in None offset size = true
 lies_in (Some room) offset size = nat_le ((offset + (2 ^ 64 - room.from)) % 2 ^ 64 + size) room.size
 
-abbrev pub lies_within : (bytes : ℕ) → Option Room → (offset size : ℕ) → Bool
-lies_within bytes room offset size = nat_le (offset + size) bytes && lies_in room offset size
-
 abbrev pub place_tests : (bytes : ℕ) → Option Room → (offset size align : ℕ) → List Test
 place_tests bytes room offset size align =
-    test reasons.OutOfObject (lies_within bytes room offset size)
+    test reasons.OutOfObject (nat_le (offset + size) bytes)
+    ∷ test reasons.OutOfObject (lies_in room offset size)
     ∷ test reasons.Misaligned (nat_eq (offset % align) 0)
     ∷ []
 
@@ -102,7 +100,7 @@ bytes_of_word (suc size) word = word % 256 ∷ bytes_of_word size (word / 256)
 
 abbrev pub load_from : Content → List (Option ℕ) → Option Room → (offset size align : ℕ) → Result ℕ Reason
 load_from content bytes room offset size align =
-    unless (first_against (read_tests content bytes room offset size align)) (word_of (part bytes offset size))
+    tested (read_tests content bytes room offset size align) (word_of (part bytes offset size))
 
 abbrev pub load : State → Pointer → Option Room → (size align : ℕ) → Result ℕ Reason
 load s p room size align = load_from (content s.own p.object) (bytes_of s.frame (content s.own p.object)) room p.offset size align
@@ -128,31 +126,18 @@ start_in_frame content = 0
 abbrev pub written_in : ℕ → ℕ → List ℕ → Own → Own
 written_in node at new own = with_slot own node (put_in_slot at new (slot own node))
 
-abbrev pub tests_declared : Own → (node number : ℕ) → Option Room → (offset size align : ℕ) → List Test
-tests_declared own node number room offset size align =
-    access_tests (content_of_life (slot own node).life number) (length (bytes_of [] (content_of_life (slot own node).life number))) room offset size align
-
-abbrev pub store_declared : Own → (node number : ℕ) → Option Room → (offset size align word : ℕ) → Result Own Reason
-store_declared own node number room offset size align word =
-    unless (first_against (tests_declared own node number room offset size align)) (written_in node offset (bytes_of_word size word) own)
-
-abbrev pub store_lent : (frame : List ℕ) → Content → Option Room → (offset size align word : ℕ) → Result (List ℕ) Reason
-store_lent frame content room offset size align word =
-    unless (first_against (access_tests content (length (bytes_of frame content)) room offset size align))
-    (put frame (start_in_frame content + offset) (bytes_of_word size word))
-
-abbrev pub in_own : State → Result Own Reason → Result State Reason
-in_own s (Ok own) = Ok (record s { own = own })
-in_own s (Err reason) = Err reason
-
-abbrev pub in_frame : State → Result (List ℕ) Reason → Result State Reason
-in_frame s (Ok frame) = Ok (record s { frame = frame })
-in_frame s (Err reason) = Err reason
+abbrev pub write_tests : State → Pointer → Option Room → (size align : ℕ) → List Test
+write_tests s p room size align = access_tests (content s.own p.object) (length (bytes_of s.frame (content s.own p.object))) room p.offset size align
 
 -- the bytes of a declaration's object are its own, those of a chunk are the frame's
-abbrev pub store_at : State → Object → Option Room → (offset size align word : ℕ) → Result State Reason
-store_at s (objects.Declared node number) room offset size align word = in_own s (store_declared s.own node number room offset size align word)
-store_at s (objects.Chunk number) room offset size align word = in_frame s (store_lent s.frame (content_of_chunk s.own.chunks number) room offset size align word)
+abbrev pub written : State → Object → (at : ℕ) → List ℕ → State
+written s (objects.Declared node number) at new = record s { own = written_in node at new s.own }
+written s (objects.Chunk number) at new = record s { frame = put s.frame (start_in_frame (content_of_chunk s.own.chunks number) + at) new }
 
 abbrev pub store : State → Pointer → Option Room → (size align word : ℕ) → Result State Reason
-store s p room size align word = store_at s p.object room p.offset size align word
+store s p room size align word = tested (write_tests s p room size align) (written s p.object p.offset (bytes_of_word size word))
+
+-- what a call left, where it answered that it did it
+abbrev pub leaves : {A : Type 0} → {S : Type 0} → Result A Reason → S → Result S Reason
+leaves (Ok done) s = Ok s
+leaves (Err reason) s = Err reason

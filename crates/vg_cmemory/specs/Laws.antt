@@ -1,5 +1,5 @@
 -- What the definitions come to: an object is touched through its own name alone, and one that is gone stays so.
-use Rattle.std.specs.Prelude.{◌≡◌, ◌≢◌, ℕ, ◌+◌, ◌<◌, ◌≤◌, true, List, [], ◌∷◌, length, map, AllPairs, Option, Some, None, IfOk, ◌⊎◌}
+use Rattle.std.specs.Prelude.{◌≡◌, ◌≢◌, ℕ, ◌+◌, ◌<◌, ◌≤◌, List, [], ◌∷◌, length, map, AllPairs, Option, Some, None, IfOk, ◌⊎◌}
 use Rattle.vg_cmemory.specs.declared.object.Object.{Object}
 use Rattle.vg_cmemory.specs.declared.object.Object.TheVariants as objects
 use Rattle.vg_cmemory.specs.declared.object.Pointer.{Pointer}
@@ -8,16 +8,6 @@ use Rattle.vg_cmemory.specs.declared.object.Chunk.{Chunk}
 use Rattle.vg_cmemory.specs.State.{Own, State, start, declare, end_life, take_back_all}
 use Rattle.vg_cmemory.specs.Loans.{with_loan, without_loan}
 use Rattle.vg_cmemory.specs.Access.{Gone, content, bytes_of, bytes_of_word, set, store, put, part}
-use Rattle.vg_cmemory.specs.Tests.{Test, first_against}
-
--- ---- a list of tests, said pointwise
-
-abbrev pub AllHold : List Test → Type 0
-AllHold [] = Unit {0}
-AllHold (t ∷ ts) = (t.holds ≡ true) × AllHold ts
-
-abbrev pub NothingAgainst : Type 0
-NothingAgainst = (tests : List Test) → (first_against tests ≡ None → AllHold tests) × (AllHold tests → first_against tests ≡ None)
 
 -- ---- writes
 
@@ -25,7 +15,7 @@ abbrev pub node_of : Object → Option ℕ
 node_of (objects.Declared node number) = Some node
 node_of (objects.Chunk number) = None
 
--- a write to a declaration's object leaves those of all other declarations, and the frame; a write to a chunk leaves all that isn't the frame's
+-- a write to the object of one declaration leaves what all others are, and a write to a chunk leaves all
 abbrev pub KeepsOthers : State → Object → Object → State → Type 0
 KeepsOthers s written other t = node_of written ≢ node_of other → content t.own other ≡ content s.own other
 
@@ -66,6 +56,11 @@ StaysStacked = (own : Own) (count : ℕ) → IsStacked own → IsStacked (with_l
 -- and so no two chunks have a byte in common
 abbrev pub ChunksAreApart : Type 0
 ChunksAreApart = (own : Own) → IsStacked own → AllPairs (λ one other. one.from + one.size ≤ other.from) own.chunks
+
+-- so a write to one object is seen in no other, be they of declarations or chunks
+abbrev pub WritesAreSeenThereAlone : Type 0
+WritesAreSeenThereAlone = (s : State) (p : Pointer) (room : Option Room) (size align word : ℕ) (other : Object) → IsStacked s.own → p.object ≢ other →
+    IfOk (store s p room size align word) (λ t. bytes_in t other ≡ bytes_in s other)
 
 -- ---- lives
 

@@ -1,6 +1,5 @@
 pub mod State
 pub mod Kept
-pub mod Tests
 pub mod Access
 pub mod Loans
 pub mod Laws

@@ -6,12 +6,8 @@ use Rattle.vg_cmemory.specs.declared.object.Object.{Object}
 use Rattle.vg_cmemory.specs.declared.object.Object.TheVariants as objects
 use Rattle.vg_cmemory.specs.declared.object.Pointer.{Pointer}
 use Rattle.vg_cmemory.specs.declared.object.Chunk.{Chunk}
-use Rattle.vg_cmemory.specs.Tests.{Test, test, first_against, unless}
+use Rattle.vg_cint.specs.Tests.{Test, test, tested}
 use Rattle.vg_cmemory.specs.State.{Own, next_number}
-
--- at least one byte, no more than are left of the frame, and fewer than 16 chunks lent
-abbrev pub can_borrow : Own → (frame_length count : ℕ) → Bool
-can_borrow own frame_length count = nat_lt 0 count && (nat_le (own.lent + count) frame_length && nat_lt (length own.chunks) 16)
 
 -- the chunk of the next bytes of the frame
 abbrev pub next_chunk : Own → ℕ → Chunk
@@ -40,12 +36,17 @@ start_of_chunk (Some chunk) = chunk.from
 abbrev pub without_loan : Own → Own
 without_loan own = record own { chunks = take (length own.chunks - 1) own.chunks; lent = start_of_chunk (last_chunk own) }
 
+-- at least one byte, no more than are left of the frame, and fewer than 16 chunks lent
 abbrev pub borrow_tests : Own → (frame_length count : ℕ) → List Test
-borrow_tests own frame_length count = test (reasons.Before 2) (can_borrow own frame_length count) ∷ []
+borrow_tests own frame_length count =
+    test (reasons.Before 2) (nat_lt 0 count)
+    ∷ test (reasons.Before 2) (nat_le (own.lent + count) frame_length)
+    ∷ test (reasons.Before 2) (nat_lt (length own.chunks) 16)
+    ∷ []
 
 -- `packet_borrow`
 abbrev pub borrow : Own → (frame_length count : ℕ) → Result Own Reason
-borrow own frame_length count = unless (first_against (borrow_tests own frame_length count)) (with_loan own count)
+borrow own frame_length count = tested (borrow_tests own frame_length count) (with_loan own count)
 
 abbrev pub start_of_loan : Own → Pointer
 start_of_loan own = record { object = objects.Chunk own.born; offset = 0 }
@@ -55,4 +56,4 @@ return_tests own p = test (reasons.Before 3) (is_start p (last_chunk own)) ∷ [
 
 -- `packet_return`
 abbrev pub give_back : Own → Pointer → Result Own Reason
-give_back own p = unless (first_against (return_tests own p)) (without_loan own)
+give_back own p = tested (return_tests own p) (without_loan own)

@@ -20,7 +20,7 @@ pub record Own : Type 0 where
   pub slots : List Slot
   -- the chunks of the frame that are lent, in the order of their loans
   pub chunks : List Chunk
-  -- how many bytes of the frame are lent
+  -- how many bytes of the frame are lent: those of all chunks together
   pub lent : ℕ
   -- the steps taken so far
   pub steps : ℕ
@@ -49,7 +49,7 @@ with_node size own = record own { slots = own.slots ++ record { size = size; lif
 abbrev pub take_back_all : Own → Own
 take_back_all own = record own { chunks = []; lent = 0 }
 
--- one step more
+-- one step more. Steps are counted in 32 bits: typing keeps a run far below
 abbrev pub tick : Own → Own
 tick own = record own { steps = (own.steps + 1) % 2 ^ 32 }
 

@@ -1,9 +1,9 @@
 //! Reads and writes of objects.
-ghost use Rattle.std.specs.Prelude.{◌≡◌, ◌≤◌, ◌<◌, ◌+◌, ◌-◌, ◌^◌, IfNone, OnOk, OnErr, Some, length, map};
+ghost use Rattle.std.specs.Prelude.{◌≡◌, ◌≤◌, ◌<◌, ◌+◌, ◌-◌, ◌^◌, IfNone, OnOk, OnErr, Some, List, ℕ, length, map};
 ghost use Rattle.vg_cmemory.specs.Access as accesses;
-ghost use Rattle.vg_cmemory.specs.Access.{Bytes, Lent, place_tests, load_from, bytes_of, content_of_chunk, content_of_option, load, store, ends_at, part, bytes_of_word, set};
+ghost use Rattle.vg_cmemory.specs.Access.{Bytes, Lent, place_tests, access_tests, write_tests, put, load_from, bytes_of, content_of_chunk, content_of_option, load, store, leaves, ends_at, part, bytes_of_word, set};
 ghost use Rattle.vg_cmemory.specs.State.{sizes};
-ghost use Rattle.vg_cmemory.specs.Tests.{first_against, unless, leaves};
+ghost use Rattle.vg_cint.specs.Tests.{first_against, unless, tested};
 
 use crate::bytes::{put_in_frame, word_in_frame, word_of};
 use crate::local::write;
@@ -24,19 +24,16 @@ pub fn lies_in(room: Option<Room>, offset: u64, size: u64) -> bool
     }
 }
 
-fn lies_within(bytes: u64, room: Option<Room>, offset: u64, size: u32) -> bool
-    ensures { result ≡ accesses.lies_within bytes room offset size }
-{
-    offset <= bytes && u64::from(size) <= bytes - offset && lies_in(room, offset, u64::from(size))
-}
-
 // The first reason against an access to an object of so many bytes that lives.
 fn refusal(bytes: u64, room: Option<Room>, offset: u64, size: u32, align: u32) -> Option<Reason>
     requires aligned { 0 < align }
     ensures value { result ≡ first_against (place_tests bytes room offset size align) }
     ensures within { IfNone result (offset + size ≤ bytes) }
 {
-    if !lies_within(bytes, room, offset, size) {
+    if offset > bytes || bytes - offset < u64::from(size) {
+        return Some(Reason::OutOfObject);
+    }
+    if !lies_in(room, offset, u64::from(size)) {
         return Some(Reason::OutOfObject);
     }
     if offset % u64::from(align) != 0 {
@@ -200,7 +197,7 @@ impl FrameMemory {
         word: u64,
     ) -> Result<(), Reason>
         requires aligned { 0 < align }
-        ensures value { leaves result self.new ≡ accesses.store_declared self.old node number room offset size align word }
+        ensures value { (frame : List ℕ) → leaves result (record { own = self.new; frame = frame }) ≡ store (record { own = self.old; frame = frame }) (record { object = Object.Declared node number; offset = offset }) room size align word }
         ensures kept { OnErr result (self.new ≡ self.old) }
         ensures sizes { sizes self.new ≡ sizes self.old }
     {
@@ -220,7 +217,7 @@ impl FrameMemory {
         align: u32,
     ) -> Result<(), Reason>
         requires aligned { 0 < align }
-        ensures value { result ≡ unless (first_against (accesses.tests_declared self.now node number room offset size align)) tt }
+        ensures value { (frame : List ℕ) → result ≡ tested (write_tests (record { own = self.now; frame = frame }) (record { object = Object.Declared node number; offset = offset }) room size align) tt }
         ensures near { OnOk result (offset + size < 2 ^ 64) }
     {
         let Some(local) = self.local_list.as_slice().get(node as usize) else {
@@ -296,7 +293,7 @@ fn store_lent(
     word: u64,
 ) -> Result<(), Reason>
     requires aligned { 0 < align }
-    ensures value { leaves result frame.new ≡ accesses.store_lent frame.old (Lent chunk.from chunk.size) room offset size align word }
+    ensures value { leaves result frame.new ≡ tested (access_tests (Lent chunk.from chunk.size) (length (bytes_of frame.old (Lent chunk.from chunk.size))) room offset size align) (put frame.old (chunk.from + offset) (bytes_of_word size word)) }
     ensures kept { OnErr result (frame.new ≡ frame.old) }
 {
     let bytes = part_of(frame, chunk.from as usize, chunk.size as usize).len() as u64;

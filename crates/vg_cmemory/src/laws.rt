@@ -1,14 +1,10 @@
 //! Laws of the memory's definitions, each as the contract of a function that does nothing.
-ghost use Rattle.vg_cmemory.specs.Laws.{NothingAgainst, WritesAreSeen, WritesStayInside, FrameWritesStayInside, StartsStacked, StaysStacked, ChunksAreApart, StaysGone, StaysGoneAtLoans, EndsLife};
-
-/// No reason is against what all tests of a list allow, and only that.
-pub fn nothing_against()
-    ensures { NothingAgainst }
-{}
+ghost use Rattle.vg_cmemory.specs.Laws.{WritesAreSeen, WritesAreSeenThereAlone, WritesStayInside, FrameWritesStayInside, StartsStacked, StaysStacked, ChunksAreApart, StaysGone, StaysGoneAtLoans, EndsLife};
 
 /// A write is seen in its own object, and changes no other.
 pub fn writes_stay_inside()
     ensures seen { WritesAreSeen }
+    ensures alone { WritesAreSeenThereAlone }
     ensures objects { WritesStayInside }
     ensures frame { FrameWritesStayInside }
 {}

@@ -11,7 +11,7 @@ mod object;
 mod runs;
 
 pub use access::lies_in;
-pub use laws::{chunks_are_apart, gone_stays_gone, nothing_against, writes_stay_inside};
+pub use laws::{chunks_are_apart, gone_stays_gone, writes_stay_inside};
 pub use memory::FrameMemory;
 pub use object::{Chunk, Object, Pointer, Room};
 

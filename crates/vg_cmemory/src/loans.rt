@@ -1,9 +1,10 @@
 //! Chunks of the frame, borrowed and given back.
-ghost use Rattle.std.specs.Prelude.{◌≡◌, length, OnErr, IfOk, Ok, slice_get};
-ghost use Rattle.vg_cmemory.specs.Tests.{leaves};
+ghost use Rattle.std.specs.Prelude.{◌≡◌, ◌≤◌, ◌<◌, ◌+◌, length, OnOk, OnErr, IfOk, Ok, slice_get};
+ghost use Rattle.vg_cint.specs.Tests.{tested};
+ghost use Rattle.vg_cmemory.specs.Access.{leaves};
 ghost use Rattle.vg_cmemory.specs.State.{sizes};
 ghost use Rattle.vg_cmemory.specs.Loans as loans;
-ghost use Rattle.vg_cmemory.specs.Loans.{can_borrow, start_of_loan, is_start, last_chunk};
+ghost use Rattle.vg_cmemory.specs.Loans.{start_of_loan, is_start, last_chunk};
 
 use crate::memory::FrameMemory;
 use crate::object::{Chunk, Object, Pointer};
@@ -20,13 +21,23 @@ fn is_start(pointer: Pointer, chunk: Option<Chunk>) -> bool
 }
 
 impl FrameMemory {
-    fn can_borrow(&self, frame_length: u32, count: u64) -> bool
-        ensures { result ≡ can_borrow self.now frame_length count }
+    // Whether so many bytes can be lent.
+    fn against_loan(&self, frame_length: u32, count: u64) -> Result<(), Reason>
+        ensures value { result ≡ tested (loans.borrow_tests self.now frame_length count) tt }
+        ensures within { OnOk result (self.now.lent + count ≤ frame_length) }
+        ensures few { OnOk result (length self.now.chunks < 16) }
     {
-        0 < count
-            && self.next <= frame_length
-            && count <= u64::from(frame_length - self.next)
-            && self.chunk_list.len() < 16
+        if count == 0 {
+            return Err(Reason::Before(2));
+        }
+        if self.next > frame_length || u64::from(frame_length - self.next) < count {
+            return Err(Reason::Before(2));
+        }
+        if self.chunk_list.len() < 16 {
+            Ok(())
+        } else {
+            Err(Reason::Before(2))
+        }
     }
 
     fn last_chunk(&self) -> Option<Chunk>
@@ -49,9 +60,7 @@ impl FrameMemory {
         ensures kept { OnErr result (self.new ≡ self.old) }
         ensures sizes { sizes self.new ≡ sizes self.old }
     {
-        if !self.can_borrow(frame_length, count) {
-            return Err(Reason::Before(2));
-        }
+        self.against_loan(frame_length, count)?;
         let number = self.next_object;
         let from = self.next;
         let size = count as u32;

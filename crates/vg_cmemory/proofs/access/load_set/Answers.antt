@@ -1,6 +1,6 @@
 use Rattle.std.proofs.Common.{◌≡◌, ◌∙◌, ap, sym, length, map, None, Ok, List, ℕ}
 use Rattle.vg_cmemory.specs.Access.{place_tests, set, word_of}
-use Rattle.vg_cmemory.specs.Tests.{first_against}
+use Rattle.vg_cint.specs.Tests.{first_against}
 use Rattle.vg_cmemory.proofs.Parts.{chunk_read}
 use Rattle.vg_cmemory.proofs.access.load_set.Goals as goal
 

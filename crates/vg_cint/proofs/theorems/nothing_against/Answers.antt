@@ -1,0 +1,5 @@
+use Rattle.vg_cint.proofs.Tests.{nothing_against}
+use Rattle.vg_cint.proofs.theorems.nothing_against.Goals as goal
+
+pub returns : goal.returns
+returns c = nothing_against
