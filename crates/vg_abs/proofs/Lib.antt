@@ -1,3 +1,4 @@
 pub mod TableLaws
 pub mod Evaluations
 pub mod Starting
+pub mod OpeningLaws
