@@ -2,3 +2,4 @@ pub mod TableLaws
 pub mod Evaluations
 pub mod Starting
 pub mod OpeningLaws
+pub mod Forgetting
