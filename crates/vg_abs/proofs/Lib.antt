@@ -1,3 +1,5 @@
 pub mod TableLaws
 pub mod Evaluations
 pub mod Starting
+pub mod OpeningLaws
+pub mod Forgetting

@@ -24,7 +24,7 @@ low_done count made rest bytes total all so_far =
     sym (append-nil bytes) ∙ sym (ap (λ n. bytes ++ low_bytes n rest) none) ∙ so_far
 
 -- a noted prefix
-same_test : (p k : ℕ) → eq_by_cmp nat_cmp p k ≡ (k == p)
+pub same_test : (p k : ℕ) → eq_by_cmp nat_cmp p k ≡ (k == p)
 same_test p k = elim (cases_eq k p) [
   | inl same ↦ ap is_eq (sym (nat_cmp_is p k Equal (sym same))) ∙ sym (eq-eqb k p same)
   | inr ne ↦ elim (cases_lt p k) [

@@ -1,6 +1,7 @@
 -- What calls of the library do to a state. Each change of a link ends what a partial state tells of its expiry bounds, since that speaks of
 -- the state before.
-use Rattle.std.specs.Prelude.{ℕ, ◌+◌, ◌-◌, ◌&&◌, not, List, map, Bool, true, false, nat_eq, Option, Some, None, slice_get, slice_set, if◌then◌else◌}
+use Rattle.std.specs.Option.{option_map}
+use Rattle.std.specs.Prelude.{ℕ, ◌≡◌, ◌+◌, ◌-◌, ◌&&◌, not, List, map, Bool, true, false, nat_eq, Option, Some, None, slice_get, slice_set, if◌then◌else◌}
 use Rattle.std.specs.Str.{bytes_eq}
 use Rattle.std.specs.List.{list_any}
 use Rattle.std.specs.FinMap.{FinMap, get, insert, empty, entries, retain_keys, from_sorted}
@@ -76,3 +77,9 @@ with_bytes_in s vector index bytes _ = s
 -- a cell of a vector holds these bytes
 abbrev pub with_bytes : State → ℕ → ℕ → List ℕ → State
 with_bytes s vector index bytes = with_bytes_in s vector index bytes (slice_get s.objects vector)
+
+-- what a table tells after that: a full state's lists no key that passes the test, and a partial one's tells of each that it lists that it is
+-- absent, or free; of all others both tell what they told
+pub record Forgets {K : Type 0} (R : K → K → Ordering) : Type 0 where
+  pub of_full : (gone : K → Bool) (table : FinMap R (Option ℕ)) (k : K) → get (without true gone table) k ≡ (if gone k then None else get table k)
+  pub of_part : (gone : K → Bool) (table : FinMap R (Option ℕ)) (k : K) → get (without false gone table) k ≡ option_map (λ answer. if gone k then None else answer) (get table k)

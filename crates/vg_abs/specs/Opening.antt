@@ -21,7 +21,7 @@ use Rattle.vg_abs.specs.State.{State}
 use Rattle.vg_abs.specs.Fields.{with_field}
 use Rattle.vg_abs.specs.Expressions.{PremiseHolds}
 use Rattle.vg_abs.specs.Shape.{size_of}
-use Rattle.vg_abs.specs.Lawful.{Holds}
+use Rattle.vg_abs.specs.Lawful.{Holds, IsLawfulLink}
 
 -- so many cells of so many zeros
 abbrev pub zero_cells : ℕ → ℕ → CellTable
@@ -128,3 +128,7 @@ pub record IsValid (spec : Specification) (config : Configuration) : Type 0 wher
   pub fills : All (FitsVector spec.shape config.numbers) config.fills
   pub premises : All (PremiseHolds spec.code config.numbers) spec.shape.premises
   pub rules : All (Holds spec config.numbers (opening spec config)) spec.shape.rules
+
+-- a link is lawful at the start
+abbrev pub LinkOpensLawful : Type 0
+LinkOpensLawful = (capacity key_length : ℕ) → IsLawfulLink 0 (opening_link capacity key_length)

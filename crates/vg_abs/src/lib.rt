@@ -4,6 +4,7 @@
 mod bytes;
 mod evaluation;
 mod keyed;
+mod laws;
 mod library;
 mod numbered;
 mod object;
@@ -15,6 +16,7 @@ mod tests;
 pub use bytes::Bytes;
 pub use evaluation::{Scope, operate, value};
 pub use keyed::Keyed;
+pub use laws::{an_opening_link_is_lawful, only_what_goes_is_forgotten};
 pub use library::Lib;
 pub use numbered::Numbered;
 pub use object::{LinkTable, Object, PrefixTable, VectorTable};
