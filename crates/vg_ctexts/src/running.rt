@@ -1,11 +1,9 @@
 //! Runs of texts, told as lines.
 
 use std::alloc::{AllocError, Global};
+use vg_cfront::read_c;
 use vg_cmean::{Done, Machine, has_externs};
 use vg_core::{Reason, Unit};
-use vg_cread::read_unit;
-use vg_ctok::tokens;
-use vg_ctyper::type_unit;
 
 /// The head of `nf_process` in each text.
 pub const HEAD: &str = "int nf_process(uint16_t port, uint64_t now) {";
@@ -20,15 +18,7 @@ pub fn unit_of(alloc: Global, text: &str) -> Result<Result<Unit, String>, AllocE
     if text.len() >= 65536 {
         return Ok(Err(format!(in alloc; "too long")?));
     }
-    let toks = match tokens(alloc, text.as_bytes()) {
-        Ok(toks) => toks,
-        Err(fault) => return Ok(Err(format!(in alloc; "{fault}")?)),
-    };
-    let tree = match read_unit(alloc, &toks) {
-        Ok(tree) => tree,
-        Err(fault) => return Ok(Err(format!(in alloc; "{fault}")?)),
-    };
-    match type_unit(alloc, text.as_bytes(), tree) {
+    match read_c(alloc, text.as_bytes()) {
         Ok(unit) => Ok(Ok(unit)),
         Err(fault) => Ok(Err(format!(in alloc; "{fault}")?)),
     }
