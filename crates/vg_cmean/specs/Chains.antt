@@ -8,7 +8,7 @@ use Rattle.vg_cmemory.specs.State.{State}
 use Rattle.vg_cmean.specs.declared.chains.Branch.{Branch}
 use Rattle.vg_cmean.specs.declared.datum.Datum.{Datum}
 use Rattle.vg_cmean.specs.Outcomes.{Outcome, Gives, and_then}
-use Rattle.vg_cmean.specs.Typings.{kind_at, type_at, place_at}
+use Rattle.vg_cmean.specs.Typings.{kind_at, place_at}
 use Rattle.vg_cmean.specs.Values.{read}
 use Rattle.vg_cmean.specs.Places.{member}
 use Rattle.vg_cmean.specs.Meaning.{Parts_mean, operated, indexed_by, meaning_below, branched}

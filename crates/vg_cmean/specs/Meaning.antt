@@ -26,7 +26,7 @@ use Rattle.vg_cmean.specs.declared.datum.Datum.{Datum}
 use Rattle.vg_cmean.specs.declared.datum.Datum.TheVariants as data_of
 use Rattle.vg_cmean.specs.Outcomes.{Outcome, Next, Gives, Wrong, and_then, after, or_wrong, on_own, tick}
 use Rattle.vg_cmean.specs.Typings.{kind_at, place_at, type_at, constant_at, referent_at, element_size}
-use Rattle.vg_cmean.specs.Values.{word_of, pointer_of, integer_of, converted_to, as_type, is_true, of_bool, read, write, binary, unary}
+use Rattle.vg_cmean.specs.Values.{word_of, pointer_of, integer_of, converted_to, as_type, is_true, of_bool, read, write, binary, unary, number}
 use Rattle.vg_cmean.specs.Places.{named, declared, indexed, element, member, pointed_to, address}
 
 -- what a node means: as an expression it gives something, as a statement it does something
@@ -135,7 +135,7 @@ abbrev pub unsigned_32 : Integer
 unsigned_32 = integers.without_sign 32
 
 abbrev pub packet_length : State → Outcome
-packet_length s = Gives (data_of.Word (record { of = unsigned_32; word = length s.frame })) s
+packet_length s = Gives (data_of.Word (number unsigned_32 (length s.frame))) s
 
 abbrev pub packet_borrow : (at : ℕ) → Datum → State → Outcome
 packet_borrow at d s =
@@ -163,8 +163,8 @@ call u part at arguments (Some (referents.Library row)) s = library part row at 
 -- ---- what a node gives as an expression
 
 abbrev pub expression : Typed → Parts_mean → ℕ → Kind → State → Outcome
-expression u part n (nodes.Number word of) s = Gives (data_of.Word (record { of = integers.integer_of of; word = word })) s
-expression u part n (nodes.Sizeof base) s = Gives (data_of.Word (record { of = integers.without_sign 64; word = constant_at u n })) s
+expression u part n (nodes.Number word of) s = Gives (data_of.Word (number (integers.integer_of of) word)) s
+expression u part n (nodes.Sizeof base) s = Gives (data_of.Word (number (integers.without_sign 64) (constant_at u n))) s
 expression u part n (nodes.Variable name) s = Gives (named u (referent_at u n) (place_at u n) s.own) s
 expression u part n (nodes.Parens inner) s = (part inner).gives s
 expression u part n (nodes.Unary op operand) s = before_operand u op n (part operand) s
@@ -226,7 +226,7 @@ abbrev pub is_below : Value → Value → Bool
 is_below counter bound = is_ok_true (binary_of binaries.Less counter bound)
 
 abbrev pub next_of : Value → (step : ℕ) → Value
-next_of counter step = record { of = counter.of; word = (counter.word + step) % 2 ^ 64 }
+next_of counter step = number counter.of ((counter.word + step) % 2 ^ 64)
 
 abbrev pub counted : Typed → ℕ → Value → State → Outcome
 counted u n counter s = write (declared u n (place_at u n) s.own) (data_of.Word counter) s
@@ -242,7 +242,7 @@ turns u (suc left) n body counter bound step s =
     if is_below counter bound then after (turn u n body counter s) (turns u left n body (next_of counter step) bound step) else Next s
 
 abbrev pub constant : Typed → ℕ → Value
-constant u n = record { of = integer_of (type_at u n); word = constant_at u n }
+constant u n = number (integer_of (type_at u n)) (constant_at u n)
 
 abbrev pub step_of : Typed → Option ℕ → ℕ
 step_of u None = 1

@@ -19,7 +19,7 @@ use Rattle.vg_cmean.specs.declared.machine.Done.{Done}
 use Rattle.vg_cmean.specs.declared.machine.Done.TheVariants as ends
 use Rattle.vg_cmean.specs.Outcomes.{Outcome, Next, Gives, Wrong, after, full}
 use Rattle.vg_cmean.specs.Typings.{kind_at, type_at}
-use Rattle.vg_cmean.specs.Values.{word_of}
+use Rattle.vg_cmean.specs.Values.{word_of, number}
 use Rattle.vg_cmean.specs.Meaning.{meaning, parameter, answer_as, closing, end_of}
 
 -- ---- how many bytes the objects of each declaration have
@@ -80,7 +80,7 @@ abbrev pub process_of : Typed → Option ℕ
 process_of u = process_in u (kind_at u (length u.tree.nodes - 1))
 
 abbrev pub unsigned : (bits word : ℕ) → Datum
-unsigned bits word = data_of.Word (record { of = without_sign bits; word = word })
+unsigned bits word = data_of.Word (number (without_sign bits) word)
 
 -- its parameters: the port, of 16 bits, and the time, of 64
 abbrev pub arguments : Typed → List ℕ → (port now : ℕ) → State → Outcome

@@ -47,6 +47,10 @@ integer_of _ = int
 abbrev pub converted_to : Integer → Value → Value
 converted_to t v = record { of = t; word = converted t v.of v.word }
 
+-- a number with this word, which is cut to its type
+abbrev pub number : Integer → ℕ → Value
+number t word = converted_to t (record { of = t; word = word })
+
 -- as by an assignment, a cast, an argument or a `return` (6.3.1.3, 6.3.2.3)
 abbrev pub as_type : CType → Datum → Datum
 as_type (types.Int bits signed) d = data_of.Word (converted_to (record { bits = bits; signed = signed }) (word_of d))

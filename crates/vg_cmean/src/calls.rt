@@ -8,8 +8,8 @@ use crate::datum::Datum;
 use crate::fault::{Fault, or_wrong};
 use crate::places::declared;
 use crate::typings::{kind_at, place_at};
-use crate::values::{converted_to, pointer_of, word_of, write};
-use vg_cint::{Value, integer_of};
+use crate::values::{converted_to, number, pointer_of, word_of, write};
+use vg_cint::integer_of;
 use vg_cmemory::FrameMemory;
 use vg_core::{IntType, Integer, Kind, Reason, Unit};
 
@@ -102,10 +102,7 @@ pub fn library_alone(memory: &mut FrameMemory, frame: &[u8], row: u8) -> Datum
         return Datum::Nothing;
     }
     memory.tick();
-    Datum::Word(Value {
-        of: UNSIGNED_32,
-        word: frame.len() as u64,
-    })
+    Datum::Word(number(UNSIGNED_32, frame.len() as u64))
 }
 
 /// A call of the library with an argument, by the number of its row.

@@ -14,10 +14,10 @@ use crate::fault::Fault;
 use crate::nesting::{MOST_NESTED, depth, depths};
 use crate::run::statement;
 use crate::typings::{is_pointer, kind_at, size_of_type, type_at};
-use crate::values::word_of;
+use crate::values::{number, word_of};
 use std::alloc::Global;
 use std::marker::Model;
-use vg_cint::{INT, Value, reading};
+use vg_cint::{INT, reading};
 use vg_cmemory::FrameMemory;
 use vg_core::{CType, Integer, Kind, Node, Reason, Unit, erase};
 use vg_parts::Memory;
@@ -190,13 +190,11 @@ fn process_of(unit: &Unit) -> Option<u32>
 fn unsigned(bits: u8, word: u64) -> Datum
     ensures { result ≡ runs.unsigned bits word }
 {
-    Datum::Word(Value {
-        of: Integer {
-            bits,
-            signed: false,
-        },
-        word,
-    })
+    let of = Integer {
+        bits,
+        signed: false,
+    };
+    Datum::Word(number(of, word))
 }
 
 // The parameters of `nf_process`: the port and the time.

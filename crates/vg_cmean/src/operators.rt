@@ -7,7 +7,7 @@ ghost use Rattle.vg_cmemory.specs.State.{State};
 
 use crate::datum::Datum;
 use crate::fault::{Fault, or_wrong};
-use crate::values::word_of;
+use crate::values::{number, word_of};
 use vg_cint::{INT, Value, truth};
 use vg_core::{BinaryOp, UnaryOp};
 
@@ -46,8 +46,5 @@ pub fn is_below(counter: Value, bound: Value) -> bool
 pub fn next_of(counter: Value, step: u64) -> Value
     ensures { result ≡ meaning.next_of counter step }
 {
-    Value {
-        of: counter.of,
-        word: counter.word.wrapping_add(step),
-    }
+    number(counter.of, counter.word.wrapping_add(step))
 }

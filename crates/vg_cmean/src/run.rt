@@ -14,7 +14,7 @@ use crate::fault::Fault;
 use crate::operators::{ONE, binary, is_below, next_of, unary};
 use crate::places::{address, declared, element, indexed, member, named, pointed_to};
 use crate::typings::{constant_at, element_size, kind_at, place_at, referent_at, type_at};
-use crate::values::{as_type, converted_to, integer_of, is_true, of_bool, read, write};
+use crate::values::{as_type, converted_to, integer_of, is_true, number, of_bool, read, write};
 use vg_cint::Value;
 use vg_cmemory::FrameMemory;
 use vg_core::{BinaryOp, IntType, Integer, Kind, Referent, UnaryOp, Unit, erase};
@@ -55,14 +55,8 @@ fn alone(memory: &mut FrameMemory, frame: &mut [u8], env: &Env, n: u32) -> Resul
     ensures sizes { sizes memory.new ≡ sizes memory.old }
 {
     match kind_at(env.unit, n) {
-        Kind::Number { value, of } => Ok(Datum::Word(Value {
-            of: vg_cint::integer_of(of),
-            word: value,
-        })),
-        Kind::Sizeof { .. } => Ok(Datum::Word(Value {
-            of: UNSIGNED_64,
-            word: constant_at(env.unit, n),
-        })),
+        Kind::Number { value, of } => Ok(Datum::Word(number(vg_cint::integer_of(of), value))),
+        Kind::Sizeof { .. } => Ok(Datum::Word(number(UNSIGNED_64, constant_at(env.unit, n)))),
         Kind::Variable { .. } => Ok(named(memory, env.unit, n)),
         Kind::Parens { inner } => part(memory, frame, env, n, inner),
         Kind::Unary { op, operand } => before_operand(memory, frame, env, op, n, operand),
@@ -704,10 +698,7 @@ fn stepped(
 fn constant(unit: &Unit, n: u32) -> Value
     ensures { result ≡ meaning.constant unit.now n }
 {
-    Value {
-        of: integer_of(type_at(unit, n)),
-        word: constant_at(unit, n),
-    }
+    number(integer_of(type_at(unit, n)), constant_at(unit, n))
 }
 
 // What a loop's counter begins with.

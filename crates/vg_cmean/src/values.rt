@@ -53,6 +53,13 @@ pub fn converted_to(to: Integer, value: Value) -> Value
     }
 }
 
+/// A number with this word, which is cut to its type.
+pub fn number(of: Integer, word: u64) -> Value
+    ensures { result ≡ values.number of word }
+{
+    converted_to(of, Value { of, word })
+}
+
 /// What an expression gave, converted to a type as an assignment, a cast or a `return` does it.
 pub fn as_type(of: CType, datum: Datum) -> Datum
     ensures { result ≡ values.as_type of datum }
