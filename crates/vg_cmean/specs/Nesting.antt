@@ -1,7 +1,8 @@
 -- How deep a run of a text nests: constructs in one another, where a called function stands in the call. The machine's own stack grows with it, so there
 -- is a limit. A statement, a block, and an expression that stands in one of them, in parentheses, in brackets, behind a sign or a cast, as an argument or
--- as the second or third operand of `?:` is a construct; a chain of operators or suffixes is one, however long it is. An `else if` is the statement that stands
--- in its `if`. What a run doesn't come to counts nothing: a loop's start, bound and step are constants, and so is the length of an array.
+-- as the second or third operand of `?:` is a construct, and what stands to the right of an operator counts as one; a chain of operators or suffixes is
+-- one, however long it is. An `else if` is the statement that stands in its `if`. What a run doesn't come to counts nothing: a loop's start, bound and step
+-- are constants, and so is the length of an array.
 use Rattle.std.specs.Prelude.{ℕ, zero, suc, ◌+◌, max, min, List, [], ◌∷◌, ◌++◌, length, slice_index_or, option_to_list, Option, Some, None}
 use Rattle.vg_core.specs.Syntax.{list_of, named_by, listed}
 use Rattle.vg_core.specs.Units.{Typed}
@@ -17,7 +18,7 @@ most_nested = 1000
 
 -- the parts that belong to the construct that their node belongs to
 abbrev pub operands : Kind → List ℕ
-operands (nodes.Binary op left right) = left ∷ right ∷ []
+operands (nodes.Binary op left right) = left ∷ []
 operands (nodes.Choose condition one other) = condition ∷ []
 operands (nodes.Index array index) = array ∷ []
 operands (nodes.Member whole field) = whole ∷ []
@@ -27,7 +28,7 @@ operands _ = []
 
 -- the parts that are constructs of their own, but for those in a list
 abbrev pub inner : Kind → List ℕ
-inner (nodes.Binary op left right) = []
+inner (nodes.Binary op left right) = right ∷ []
 inner (nodes.Choose condition one other) = one ∷ other ∷ []
 inner (nodes.Index array index) = index ∷ []
 inner (nodes.Member whole field) = []

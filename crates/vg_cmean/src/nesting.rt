@@ -81,6 +81,7 @@ fn deepest_inner(depths: &[u32], kind: Kind) -> u64
             ..
         } => deeper(depths, then, otherwise),
         Kind::Unary { operand, .. } | Kind::Cast { operand, .. } => inside(depths, operand),
+        Kind::Binary { right, .. } => inside(depths, right),
         Kind::Index { index, .. } => inside(depths, index),
         Kind::Parens { inner } => inside(depths, inner),
         _ => 0,
@@ -92,7 +93,7 @@ fn deepest_operand(depths: &[u32], kind: Kind) -> u32
     ensures { result ≡ deepest depths.now 0 (nesting.operands kind) }
 {
     match kind {
-        Kind::Binary { left, right, .. } => u32::max(depth(depths, left), depth(depths, right)),
+        Kind::Binary { left, .. } => depth(depths, left),
         Kind::Choose { condition, .. } => depth(depths, condition),
         Kind::Index { array, .. } => depth(depths, array),
         Kind::Member { whole, .. } => depth(depths, whole),
