@@ -1,6 +1,7 @@
 use super::*;
 use std::alloc::Global;
 use std::test::Fail;
+use vg_core::Verdict;
 
 const SWAP_C: &str =
     "int nf_process(uint16_t port, uint64_t now) { if (port == 0) return 1; return 0; }";
