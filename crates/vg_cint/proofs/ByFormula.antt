@@ -18,7 +18,7 @@ use Rattle.vg_cint.specs.Values.{low, reading, word_of, held_tests, truth, is_ze
 use Rattle.vg_cint.specs.Operators as operators
 use Rattle.vg_cint.specs.Formulas.{IsFormula, OneIsFormula, ConvertedIsFormula, tests_of, formula, no, is_less, is_some, negative, signed_quotient, signed_remainder}
 use Rattle.vg_cint.proofs.Laws.{width_some}
-use Rattle.vg_cint.proofs.Tests.{nothing_against}
+use Rattle.vg_cint.proofs.FirstAgainst.{nothing_against}
 use Rattle.vg_cint.proofs.Reduced.{read, sum_is, difference_is, negative_is, shifted_is, product_is}
 use Rattle.vg_cint.proofs.Compared.{no_bit, or_bit, and_bit, zero_is, at_most, equal_is, places_is, moved_is, some_word, unsigned_quotient, unsigned_remainder, signed_quotient_is, signed_remainder_is, small_word}
 
