@@ -39,7 +39,8 @@ fn run(rt: &(impl Env + Files + AllocGlobal + Print)) -> Result<(), Stop> {
     };
     match words.as_slice() {
         [layer, rest @ ..] if layer.as_str() == "containers" => containers::run(rt, rest),
-        [layer, rest @ ..] if layer.as_str() == "read" => read::run(rt, rest),
+        [layer, rest @ ..] if layer.as_str() == "read" => read::run_read(rt, rest),
+        [layer, rest @ ..] if layer.as_str() == "type" => read::run_type(rt, rest),
         [run, rest @ ..] if run.as_str() == "solve" => files::run_solve(rt, rest),
         [run, rest @ ..] if run.as_str() == "check" => files::run_check(rt, rest),
         _ => Err(Stop::Usage),

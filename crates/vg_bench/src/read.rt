@@ -1,10 +1,11 @@
-//! `read FILE`: a C text to its tokens and its tree.
-ghost use Rattle.std.specs.Prelude.{◌<◌, ◌^◌, length};
+//! `read FILE`: a C text to its tokens and its tree. `type FILE`: a C text to its typed unit.
+ghost use Rattle.std.specs.Prelude.{◌<◌, ◌≤◌, ◌^◌, IfOk, length, vec_len};
 
 use crate::stop::Stop;
 use std::alloc::Global;
 use std::rt::Files as System;
 use vg_base::{HostFiles, LoadFault, load};
+use vg_cfront::{CFault, read_c};
 use vg_cread::{ReadFault, read_unit};
 use vg_ctok::{TokFault, tokens};
 
@@ -27,20 +28,46 @@ fn report(alloc: Global, text: &[u8]) -> Result<String, Stop>
     }
 }
 
-/// Reads the file that the word names, and prints what it is on one line.
-pub fn run(rt: &(impl System + AllocGlobal + Print), words: &[String]) -> Result<(), Stop> {
+// Types a text, and says how many nodes it has, or why it is refused.
+fn typed(alloc: Global, text: &[u8]) -> Result<String, Stop>
+    requires { length text.now < 2 ^ 31 }
+{
+    match read_c(alloc, text) {
+        Ok(unit) => Ok(format!(in alloc; "typed nodes {}", unit.notes().len())?),
+        Err(CFault::Memory) => Err(Stop::Memory),
+        Err(fault) => Ok(format!(in alloc; "{fault}")?),
+    }
+}
+
+// The text in the file that the word names.
+fn text_in<R: System>(alloc: Global, rt: &R, words: &[String]) -> Result<Vec<u8>, Stop>
+    ensures { IfOk result (λ text. vec_len text ≤ 1048576) }
+{
     let [name] = words else {
         return Err(Stop::Usage);
     };
-    let alloc = rt.alloc();
     let mut files = HostFiles::new(alloc, rt);
-    let text = match load(alloc, &mut files, name.as_str(), LIMIT) {
-        Ok(text) => text,
-        Err(LoadFault::Read) => return Err(Stop::Read),
-        Err(LoadFault::TooLong) => return Err(Stop::Long),
-        Err(LoadFault::Memory) => return Err(Stop::Memory),
-    };
+    match load(alloc, &mut files, name.as_str(), LIMIT) {
+        Ok(text) => Ok(text),
+        Err(LoadFault::Read) => Err(Stop::Read),
+        Err(LoadFault::TooLong) => Err(Stop::Long),
+        Err(LoadFault::Memory) => Err(Stop::Memory),
+    }
+}
+
+/// Reads the file that the word names, and prints what it is on one line.
+pub fn run_read(rt: &(impl System + AllocGlobal + Print), words: &[String]) -> Result<(), Stop> {
+    let alloc = rt.alloc();
+    let text = text_in(alloc, rt, words)?;
     let line = report(alloc, &text)?;
+    println!(rt; "{line}").map_err(|_| Stop::Print)
+}
+
+/// Types the file that the word names, and prints what it is on one line.
+pub fn run_type(rt: &(impl System + AllocGlobal + Print), words: &[String]) -> Result<(), Stop> {
+    let alloc = rt.alloc();
+    let text = text_in(alloc, rt, words)?;
+    let line = typed(alloc, &text)?;
     println!(rt; "{line}").map_err(|_| Stop::Print)
 }
 
@@ -69,6 +96,13 @@ mod tests {
         assert!(rt; syntax.as_str() == "syntax at 6");
         let byte = reported(alloc, "int @").ok().ok_or("no line")?;
         assert!(rt; byte.as_str() == "bad byte at 4");
+        // Two nodes more than above, the parameters.
+        let good = b"int nf_process(uint16_t port, uint64_t now) { return 0; }";
+        let unit = typed(alloc, good).ok().ok_or("no line")?;
+        assert!(rt; unit.as_str() == "typed nodes 7");
+        let undeclared = b"int nf_process(uint16_t port, uint64_t now) { return x; }";
+        let rule = typed(alloc, undeclared).ok().ok_or("no line")?;
+        assert!(rt; rule.as_str() == "type 1 at 53");
         Ok(())
     }
 }

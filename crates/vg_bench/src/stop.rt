@@ -10,7 +10,7 @@ use vg_parts::Memory;
 #[derive(Clone, Copy, Debug, PartialEq, Eq, Error)]
 pub enum Stop {
     /// The command line is that of no run.
-    #[error("usage: vg_bench containers lookups|mix COUNT, read FILE, solve FILE LIMIT [PROOF], check FILE PROOF")]
+    #[error("usage: vg_bench containers lookups|mix COUNT, read FILE, type FILE, solve FILE LIMIT [PROOF], check FILE PROOF")]
     Usage,
     /// Memory ran out.
     #[error("no memory")]
