@@ -6,7 +6,7 @@ use Rattle.vg_core.specs.Units.{Typed}
 use Rattle.vg_core.specs.declared.unit.Note.{Note}
 use Rattle.vg_ctyper.specs.declared.fault.TypeFault.{TypeFault}
 use Rattle.vg_ctyper.specs.declared.fault.TypeFault.TheVariants as type_faults
-use Rattle.vg_ctyper.specs.Faults.{rank}
+use Rattle.vg_ctyper.proofs.Ranking.{rank_tells}
 use Rattle.vg_ctyper.specs.Passes.{typed}
 use Rattle.vg_ctyper.specs.WellTyped.{AreNotes, IsWellTyped, IsFirstFault}
 use Rattle.vg_ctyper.proofs.Laws.{of_text, is_well_typed, is_first_fault, typed_so, refused_so, notes_are}
@@ -45,10 +45,10 @@ module _ (text : List ℕ) (tree : Syntax) where
   only_typed (Err e) h (inr fault) ns is = absurd (never_both (typed text tree) (record { text = text; tree = tree; notes = ns }) e (typed_so text tree ns is) fault)
 
   pub only_fault : (r : Result Typed TypeFault) → IfOk r (λ u. typed text tree ≡ Ok u) → IfErr r (λ e. (e ≡ type_faults.Memory) ⊎ (typed text tree ≡ Err e))
-      → (f : TypeFault) → IsFirstFault text tree f → MatchResult r (λ u. ⊥) (λ e. (e ≡ type_faults.Memory) ⊎ (rank e ≡ rank f))
+      → (f : TypeFault) → IsFirstFault text tree f → MatchResult r (λ u. ⊥) (λ e. (e ≡ type_faults.Memory) ⊎ (e ≡ f))
   only_fault (Ok u) h i f is = let other = refused_so text tree f is in never_both (typed text tree) u other.0 h other.1
   only_fault (Err e) h (inl none) f is = inl none
-  only_fault (Err e) h (inr fault) f is = let other = refused_so text tree f is in inr (ap rank (same_err (typed text tree) e other.0 fault other.1) ∙ other.2)
+  only_fault (Err e) h (inr fault) f is = let other = refused_so text tree f is in inr (same_err (typed text tree) e other.0 fault other.1 ∙ rank_tells other.0 f other.2)
 
   pub notes_one : (ms ns : List Note) → AreNotes text tree ms → AreNotes text tree ns → ms ≡ ns
   notes_one ms ns one two = notes_are text tree ms one ∙ sym (notes_are text tree ns two)

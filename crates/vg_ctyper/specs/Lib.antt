@@ -8,6 +8,7 @@ pub mod Notes
 pub mod Passes
 pub mod Rules
 pub mod Scopes
+pub mod Small
 pub mod StatementRules
 pub mod Types
 pub mod Views

@@ -16,7 +16,7 @@ mod typed;
 mod typing;
 
 pub use fault::{Rule, TypeFault};
-pub use typing::{notes_are_one, type_unit};
+pub use typing::{notes_are_one, type_unit, types_are_small};
 
 #[cfg(test)]
 mod tests;

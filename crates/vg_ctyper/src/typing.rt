@@ -1,10 +1,11 @@
 //! Typing a whole text.
 ghost use Rattle.std.specs.Prelude.{◌≡◌, ◌⊎◌, ℕ, List, length, IfOk, IfErr, Ok, Err, OnOk, MatchResult};
 ghost use Rattle.vg_core.specs.Syntax.{Syntax, IsOrdered, IsUsedOnce};
+ghost use Rattle.vg_core.specs.Units.{Typed};
 ghost use Rattle.vg_core.specs.declared.unit.Note.{Note};
 ghost use Rattle.vg_ctyper.specs.Notes as notes;
 ghost use Rattle.vg_ctyper.specs.Passes as passes;
-ghost use Rattle.vg_ctyper.specs.Faults.{rank};
+ghost use Rattle.vg_ctyper.specs.Small.{AreSmall};
 ghost use Rattle.vg_ctyper.specs.WellTyped.{AreNotes, IsWellTyped, IsFirstFault};
 ghost use Rattle.vg_ctyper.specs.declared.fault.TypeFault.{TypeFault};
 ghost use Rattle.vg_ctyper.specs.Views.{known, seen};
@@ -39,7 +40,7 @@ pub fn type_unit(alloc: Global, text: &[u8], tree: Tree) -> Result<Unit, TypeFau
     ensures typed { IsOrdered tree → IsUsedOnce tree → IfOk result (λ u. IsWellTyped u) }
     ensures fault { IfErr result (λ e. (e ≡ type_faults.Memory) ⊎ IsFirstFault text.now tree e) }
     ensures only_typed { (ns : List Note) → IsWellTyped (record { text = text.now; tree = tree; notes = ns }) → MatchResult result (λ u. u.notes ≡ ns) (λ e. e ≡ type_faults.Memory) }
-    ensures only_fault { (f : TypeFault) → IsFirstFault text.now tree f → MatchResult result (λ _. ⊥) (λ e. (e ≡ type_faults.Memory) ⊎ (rank e ≡ rank f)) }
+    ensures only_fault { (f : TypeFault) → IsFirstFault text.now tree f → MatchResult result (λ _. ⊥) (λ e. (e ≡ type_faults.Memory) ⊎ (e ≡ f)) }
 {
     typed(alloc, text, tree)
 }
@@ -47,6 +48,11 @@ pub fn type_unit(alloc: Global, text: &[u8], tree: Tree) -> Result<Unit, TypeFau
 /// There is one list of notes on a tree.
 pub fn notes_are_one()
     ensures { (text : List ℕ) (tree : Syntax) (ms ns : List Note) → AreNotes text tree ms → AreNotes text tree ns → ms ≡ ns }
+{}
+
+/// An object of a type that a note of a well typed text has takes at most 65,536 bytes.
+pub fn types_are_small()
+    ensures { (u : Typed) → IsWellTyped u → AreSmall u.notes }
 {}
 
 /// The typed text of a tree, or its first fault.
