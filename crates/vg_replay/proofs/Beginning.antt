@@ -5,7 +5,6 @@ use Rattle.vg_base.proofs.Disks.{SameHeld-trans}
 use Rattle.vg_base.specs.declared.faults.Failed.{Failed}
 use Rattle.vg_base.specs.Files.{Disk}
 use Rattle.vg_base.specs.Several.{DiffersBy}
-use Rattle.vg_small.specs.declared.small.Small.{Small}
 use Rattle.vg_pcap.specs.declared.merge.MergeFault.{MergeFault}
 use Rattle.vg_pcap.proofs.Filling.{none_come}
 use Rattle.vg_pcap.proofs.Opening.{few_ids}
@@ -21,10 +20,11 @@ use Rattle.vg_replay.proofs.Ids.{DiffersBy-append, closed_again}
 use Rattle.vg_replay.proofs.Pieces.{capture_to-none, log_of-none}
 use Rattle.vg_replay.proofs.Stopping.{IsRead, read_goes, read_stops}
 use Rattle.vg_replay.proofs.Wrote.{log_is_none}
-use Rattle.vg_replay.specs.Outputs.{handled_by, totals_of}
-use Rattle.vg_replay.specs.Replays.{ReplayFiles, AreReplayFiles, AreFirst, TakesFewSteps, IsPart, Replays}
-use Rattle.vg_replay.specs.Handling.{GoesOn}
-use Rattle.vg_replay.specs.UnderWay.{Replaying, Going}
+use Rattle.vg_replay.specs.Outputs.{Handled, totals_of}
+use Rattle.vg_replay.specs.Replays.{ReplayFiles, AreReplayFiles, AreFirst, IsPart, Replays}
+use Rattle.vg_replay.specs.Handling.{GoesOn, ReplaysThrough}
+use Rattle.vg_replay.proofs.Histories.{Replays-map, after_start, stops_start}
+use Rattle.vg_replay.specs.UnderWay.{ReplayOf, TakesFewSteps, Going}
 use Rattle.vg_replay.specs.Writing.{HasCreatedAll, HasFailedAll}
 use Rattle.vg_replay.specs.Stepping.{stop_of, HasStopped}
 
@@ -37,10 +37,10 @@ nothing_yet : {s t : Disk} {ins : List (List ℕ)} {inputs : List Input} → Sta
 nothing_yet x told = let come = x.comes told in (come.0, come.0, come.1, none_come come.0, (λ port damage at. tt), omega arith)
 
 -- every output was created, and holds what it should of no frames
-pub begun : {s t u : Disk} {n : ReplayFiles} {inputs : List Input} {ids : List ℕ} {log_id : ℕ} (f : Small) (totals : Totals) → AreReplayFiles n → TakesFewSteps f → length n.outs ≤ 63 → StartsMerge s t n.ins (Ok inputs)
-    → HasCreatedAll t u n.outs n.log ids log_id → IsRead s u n (record { function = f; inputs = inputs; outs = ids; log = log_id; totals = totals }) []
-begun {s} {t} {u} {n} {inputs} {ids} {log_id} f totals names steps few x y = record {
-  sound = record { names = names; steps = steps; inputs = x.ports; outs = y.ports; few = omega (arith, few, y.ports) };
+pub begun : {s t u : Disk} {n : ReplayFiles} {inputs : List Input} {ids : List ℕ} {log_id : ℕ} (totals : Totals) → AreReplayFiles n → length n.outs ≤ 63 → StartsMerge s t n.ins (Ok inputs)
+    → HasCreatedAll t u n.outs n.log ids log_id → IsRead s u n (record { inputs = inputs; outs = ids; log = log_id; totals = totals }) []
+begun {s} {t} {u} {n} {inputs} {ids} {log_id} totals names few x y = record {
+  sound = record { names = names; inputs = x.ports; outs = y.ports; few = omega (arith, few, y.ports) };
   opened = record {
     held = SameHeld-trans x.keeps.held y.held;
     opens = DiffersBy-append (ids_of inputs) (ids ++ log_id ∷ []) x.opens.0 y.opens;
@@ -50,16 +50,17 @@ begun {s} {t} {u} {n} {inputs} {ids} {log_id} f totals names steps few x y = rec
     log_named = λ told. y.log_named (rw x.keeps.held.tells_made told);
   };
   no_fault = record { read_faults = y.no_fault.read_faults ∙ x.cause.same; write_faults = y.no_fault.write_faults ∙ x.keeps.write_faults };
-  ports = All-nil (λ (a : Arrival). a.port < length n.ins);
+  ports = All-nil (λ (h : Handled). h.arrival.port < length n.ins);
   first = nothing_yet x;
   wrote = λ told.
       let later : IsTrue t.tells_made = rw x.keeps.held.tells_made told in
       record {
-        outs = λ port name at. rw (capture_to-none port f) (y.made later names.apart (log_is_none names) port name at);
-        log = rw (log_of-none f) (y.log_made later);
+        outs = λ port name at. rw (capture_to-none port) (y.made later names.apart (log_is_none names) port name at);
+        log = rw (log_of-none) (y.log_made later);
       };
   others = λ told name none. y.others (rw x.keeps.held.tells_made told) name none ∙ ap (λ (made : List ℕ → Option (List ℕ)). made name) x.keeps.made;
   few = omega arith;
+  steps = All-nil TakesFewSteps;
 }
 
 -- what is to come is still to come
@@ -70,24 +71,24 @@ still_to_come {inputs = inputs} x y told =
     (come.0, come.1, AreToCome-stays (SameReading-differs inputs x.readable y.held y.opens) come.2)
 
 -- each first record was read
-pub filled : {s t u v : Disk} {n : ReplayFiles} {inputs new : List Input} {ids : List ℕ} {log_id : ℕ} (f : Small) (totals : Totals) → AreReplayFiles n → TakesFewSteps f → length n.outs ≤ 63 → StartsMerge s t n.ins (Ok inputs)
-    → HasCreatedAll t u n.outs n.log ids log_id → Fills u v inputs new (Ok tt) → totals ≡ totals_of (handled_by f []) → Going s v n (record { function = f; inputs = new; outs = ids; log = log_id; totals = totals }) []
-filled f totals names steps few x y fills counts =
-    read_goes (begun f totals names steps few x y) fills.reads counts (λ told. let come = still_to_come x y told in (come.0, come.1, fills.comes come.0 come.2))
+pub filled : {s t u v : Disk} {n : ReplayFiles} {inputs new : List Input} {ids : List ℕ} {log_id : ℕ} (totals : Totals) → AreReplayFiles n → length n.outs ≤ 63 → StartsMerge s t n.ins (Ok inputs)
+    → HasCreatedAll t u n.outs n.log ids log_id → Fills u v inputs new (Ok tt) → totals ≡ totals_of [] → Going s v n (record { inputs = new; outs = ids; log = log_id; totals = totals }) []
+filled totals names few x y fills counts =
+    read_goes (begun totals names few x y) fills.reads counts (λ told. let come = still_to_come x y told in (come.0, come.1, fills.comes come.0 come.2))
 
 -- a first record is refused
-pub fill_refused : {s t u v : Disk} {n : ReplayFiles} {inputs new : List Input} {ids : List ℕ} {log_id : ℕ} {e : MergeFault} (f : Small) (totals : Totals) → AreReplayFiles n → TakesFewSteps f → length n.outs ≤ 63 → StartsMerge s t n.ins (Ok inputs)
-    → HasCreatedAll t u n.outs n.log ids log_id → Fills u v inputs new (Err e) → HasStopped s v n (record { function = f; inputs = new; outs = ids; log = log_id; totals = totals }) f (stop_of e)
-fill_refused f totals names steps few x y fills =
-    read_stops totals (begun f totals names steps few x y) fills.reads fills.fault (λ told. let come = still_to_come x y told in (come.0, come.1, fills.refused come.0 come.2))
+pub fill_refused : {S : Type 0} {I : List Handled → Type 0} {A : List Handled → Arrival → S → Type 0} {s t u v : Disk} {n : ReplayFiles} {inputs new : List Input} {ids : List ℕ} {log_id : ℕ} {e : MergeFault} (totals : Totals) → I [] → AreReplayFiles n → length n.outs ≤ 63 → StartsMerge s t n.ins (Ok inputs)
+    → HasCreatedAll t u n.outs n.log ids log_id → Fills u v inputs new (Err e) → HasStopped s v n (record { inputs = new; outs = ids; log = log_id; totals = totals }) I A (stop_of e)
+fill_refused totals history names few x y fills =
+    read_stops totals history (begun totals names few x y) fills.reads fills.fault (λ told. let come = still_to_come x y told in (come.0, come.1, fills.refused come.0 come.2))
 
 part_back : (s t u v : Disk) (name whole : List ℕ) → t.made ≡ s.made → v.made ≡ u.made → IsPart t u name whole → IsPart s v name whole
 part_back s t u v name whole before after part = rw (← before, after) part
 
 -- the outputs couldn't be created
-pub uncreated : {s t u v : Disk} {n : ReplayFiles} {inputs : List Input} (f : Small) (q : Result (Unit {0}) Failed) → AreReplayFiles n → StartsMerge s t n.ins (Ok inputs) → HasFailedAll t u n.outs n.log → ClosesInputs u v inputs q
-    → Replays s v n f (Err stops.Write)
-uncreated {s} {t} {u} {v} {n} {inputs} f q names x y z =
+pub uncreated : {S : Type 0} {I : List Handled → Type 0} {A : List Handled → Arrival → S → Type 0} {s t u v : Disk} {n : ReplayFiles} {inputs : List Input} (q : Result (Unit {0}) Failed) → I [] → AreReplayFiles n → StartsMerge s t n.ins (Ok inputs) → HasFailedAll t u n.outs n.log → ClosesInputs u v inputs q
+    → Replays s v n I A (Err stops.Write)
+uncreated {s = s} {t = t} {u = u} {v = v} {n = n} {inputs = inputs} q history names x y z =
     let made : (name : List ℕ) → t.made name ≡ s.made name = λ name. ap (λ (made : List ℕ → Option (List ℕ)). made name) x.keeps.made in
     let after : (name : List ℕ) → v.made name ≡ u.made name = λ name. ap (λ (made : List ℕ → Option (List ℕ)). made name) z.keeps.made in
     let closes : DiffersBy v t (ids_of inputs) = record {
@@ -105,12 +106,13 @@ uncreated {s} {t} {u} {v} {n} {inputs} f q names x y z =
         z.read_faults ∙ y.read_faults ∙ x.cause.same,
         record {
           frames = [];
-          ports = All-nil (λ (a : Arrival). a.port < length n.ins);
+          history = history;
+          ports = All-nil (λ (h : Handled). h.arrival.port < length n.ins);
           first = nothing_yet x;
           wrote = λ told.
               let later : IsTrue t.tells_made = rw x.keeps.held.tells_made told in
               record {
-                outs = λ port name at. rw (capture_to-none port f) (part_back s t u v name header x.keeps.made z.keeps.made (y.parts later names.apart port name at));
+                outs = λ port name at. rw (capture_to-none port) (part_back s t u v name header x.keeps.made z.keeps.made (y.parts later names.apart port name at));
                 log = inl (after n.log ∙ y.log_made later (log_is_none names) ∙ made n.log);
                 handled = [];
                 begun = [];
@@ -124,6 +126,7 @@ uncreated {s} {t} {u} {v} {n} {inputs} f q names x y z =
     }
 
 -- a replay that was begun went on
-pub went_on : (s t : Disk) (n : ReplayFiles) (r : Replaying) {f : Small} (result : Result Totals RunStop) → r.function ≡ f → GoesOn s t n r result → Replays s t n f result
-went_on s t n r (Ok totals) function x = rw (← function) x
-went_on s t n r (Err stop) function x = rw (← function) x.1
+pub went_on : {H S : Type 0} (Handles : H → Handled → H → Type 0) (Stops : H → Arrival → S → Type 0) (s t : Disk) (n : ReplayFiles) (r : ReplayOf H) {handler : H} (result : Result Totals (RunStop S)) → r.handler ≡ handler
+    → GoesOn Handles Stops s t n r [] result → ReplaysThrough Handles Stops s t n handler result
+went_on Handles Stops s t n r (Ok totals) is x = rw (← is) (Replays-map (after_start Handles Stops r.handler) (stops_start Handles Stops r.handler) s t n (Ok totals) x)
+went_on Handles Stops s t n r (Err stop) is x = rw (← is) (Replays-map (after_start Handles Stops r.handler) (stops_start Handles Stops r.handler) s t n (Err stop) x.1)

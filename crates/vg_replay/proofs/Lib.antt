@@ -7,3 +7,5 @@ pub mod Wrote
 pub mod Stopping
 pub mod Handling
 pub mod Beginning
+pub mod Histories
+pub mod Stepped

@@ -5,12 +5,10 @@ use Rattle.std.proofs.Common.{◌≡◌, ◌≢◌, ◌<◌, ◌≤◌, ◌+◌,
 use Rattle.vg_base.proofs.Disks.{WriteKeeps-trans}
 use Rattle.vg_base.specs.declared.faults.Failed.{Failed}
 use Rattle.vg_base.specs.Files.{Disk, Appends, Rose, WritesAll, WriteKeeps}
-use Rattle.vg_small.specs.declared.small.Small.{Small}
-use Rattle.vg_pcap.specs.Arrivals.{Arrival}
 use Rattle.vg_replay.proofs.Growing.{told_after, piece_below-within}
 use Rattle.vg_replay.proofs.Pieces.{capture_to-more, log_of-more}
 use Rattle.vg_replay.proofs.Places.{All-at, All-right}
-use Rattle.vg_replay.specs.Outputs.{Handled, handle_at, handled_by, piece_to, capture_to, line_of, log_of}
+use Rattle.vg_replay.specs.Outputs.{Handled, piece_to, capture_to, line_of, log_of}
 use Rattle.vg_replay.specs.Replays.{ReplayFiles, AreReplayFiles, IsNoneOf, KeepsOthers, WroteAll, WroteParts}
 use Rattle.vg_replay.specs.UnderWay.{Replaying, IsSound, HasOpened}
 use Rattle.vg_replay.specs.Writing.{AreTold, Puts, pieces_of, WritesFrame}
@@ -53,15 +51,15 @@ not_log {n} names port name at same = All-at (λ other. n.log ≢ other) n.outs 
 
 -- ---- the captures, and then the log
 
-captures_more : {s t b : Disk} {n : ReplayFiles} {f : Small} {past : List Arrival} {ids : List ℕ} (a : Arrival) → AreTold t ids n.outs → WroteAll s t n f past → Puts t b ids (pieces_of (handle_at f a)) (length ids) (Ok tt) →
-    (port : ℕ) (name : List ℕ) → slice_get n.outs port ≡ Some name → b.made name ≡ Some (capture_to port (handled_by f (past ++ a ∷ [])))
-captures_more {s} {t} {b} {n} {f} {past} {ids} a told wrote puts port name at =
+captures_more : {s t b : Disk} {n : ReplayFiles} {past : List Handled} {ids : List ℕ} (h : Handled) → AreTold t ids n.outs → WroteAll s t n past → Puts t b ids (pieces_of h) (length ids) (Ok tt) →
+    (port : ℕ) (name : List ℕ) → slice_get n.outs port ≡ Some name → b.made name ≡ Some (capture_to port (past ++ h ∷ []))
+captures_more {s} {t} {b} {n} {past} {ids} h told wrote puts port name at =
     let within : port < length ids = let below = slice_get_within n.outs port name at in omega (arith, below, told.ports) in
-    let grown = puts.grown n.outs told port name (capture_to port (handled_by f past)) at (wrote.outs port name at) in
-    rw (capture_to-more port f past a) (rw (piece_below-within (length ids) (pieces_of (handle_at f a)) port within) at grown)
+    let grown = puts.grown n.outs told port name (capture_to port past) at (wrote.outs port name at) in
+    rw (capture_to-more port past h) (rw (piece_below-within (length ids) (pieces_of h) port within) at grown)
 
-log_kept : {s t b : Disk} {n : ReplayFiles} {f : Small} {past : List Arrival} {pieces : ℕ → List ℕ} {ids : List ℕ} {count : ℕ} (r : Result (Unit {0}) Failed) → AreReplayFiles n → AreTold t ids n.outs → WroteAll s t n f past
-    → Puts t b ids pieces count r → b.made n.log ≡ Some (log_of (handled_by f past))
+log_kept : {s t b : Disk} {n : ReplayFiles} {past : List Handled} {pieces : ℕ → List ℕ} {ids : List ℕ} {count : ℕ} (r : Result (Unit {0}) Failed) → AreReplayFiles n → AreTold t ids n.outs → WroteAll s t n past
+    → Puts t b ids pieces count r → b.made n.log ≡ Some (log_of past)
 log_kept {n = n} r names told wrote puts = puts.others n.outs told n.log (log_is_none names) ∙ wrote.log
 
 log_appends : {s t b u : Disk} {n : ReplayFiles} {r : Replaying} {pieces : ℕ → List ℕ} {count : ℕ} {line : List ℕ} → HasOpened s t n r → IsTrue s.tells_made → Puts t b r.outs pieces count (Ok tt) → WritesAll b u r.log line (Ok tt)
@@ -73,65 +71,63 @@ log_appends_part : {s t b u : Disk} {n : ReplayFiles} {r : Replaying} {pieces : 
 log_appends_part {n = n} opened told puts writes = writes.prefix (told_after puts.keeps (rw opened.held.tells_made told)) n.log (rw puts.keeps.ids.opened (opened.log_named told))
 
 -- a frame was written whole
-pub wrote_more : {s t u : Disk} {n : ReplayFiles} {r : Replaying} {past : List Arrival} {number : ℕ} (a : Arrival) → IsSound n r → HasOpened s t n r → IsTrue s.tells_made → WroteAll s t n r.function past → number ≡ length past + 1
-    → WritesFrame t u r.outs r.log number (handle_at r.function a) (Ok tt) → WroteAll s u n r.function (past ++ a ∷ [])
-wrote_more {n = n} {r = r} {past = past} a sound opened told wrote is w = elim w.whole_or_not [
+pub wrote_more : {s t u : Disk} {n : ReplayFiles} {r : Replaying} {past : List Handled} {number : ℕ} (h : Handled) → IsSound n r → HasOpened s t n r → IsTrue s.tells_made → WroteAll s t n past → number ≡ length past + 1
+    → WritesFrame t u r.outs r.log number h (Ok tt) → WroteAll s u n (past ++ h ∷ [])
+wrote_more {n = n} {r = r} {past = past} h sound opened told wrote is w = elim w.whole_or_not [
   | inl both ↦
       let appends = log_appends opened told both.1 both.2 in
       record {
-        outs = λ port name at. appends.others name (not_log sound.names port name at) ∙ captures_more a (told_of sound opened told) wrote both.1 port name at;
-        log = rw (log_of-more r.function past a, ← is) (appends.grown (log_of (handled_by r.function past)) (log_kept (Ok tt) sound.names (told_of sound opened told) wrote both.1));
+        outs = λ port name at. appends.others name (not_log sound.names port name at) ∙ captures_more h (told_of sound opened told) wrote both.1 port name at;
+        log = rw (log_of-more past h, ← is) (appends.grown (log_of past) (log_kept (Ok tt) sound.names (told_of sound opened told) wrote both.1));
       }
   | inr puts ↦ absurd puts.0
 ]
 
 -- a frame was written in part
-pub wrote_parts : {s t u : Disk} {n : ReplayFiles} {r : Replaying} {past : List Arrival} {number : ℕ} {e : Failed} (a : Arrival) → IsSound n r → HasOpened s t n r → IsTrue s.tells_made → WroteAll s t n r.function past → number ≡ length past + 1
-    → WritesFrame t u r.outs r.log number (handle_at r.function a) (Err e) → WroteParts s u n r.function (past ++ a ∷ [])
-wrote_parts {u = u} {n = n} {r = r} {past = past} {number = number} {e = e} a sound opened told wrote is w = elim w.whole_or_not [
+pub wrote_parts : {s t u : Disk} {n : ReplayFiles} {r : Replaying} {past : List Handled} {number : ℕ} {e : Failed} (h : Handled) → IsSound n r → HasOpened s t n r → IsTrue s.tells_made → WroteAll s t n past → number ≡ length past + 1
+    → WritesFrame t u r.outs r.log number h (Err e) → WroteParts s u n (past ++ h ∷ [])
+wrote_parts {u = u} {n = n} {r = r} {past = past} {number = number} {e = e} h sound opened told wrote is w = elim w.whole_or_not [
   | inl both ↦
       let appends = log_appends_part opened told both.1 both.2 in
-      let f = r.function in
-      let line = line_of number (handle_at f a) in
-      let captures : (port : ℕ) (name : List ℕ) → slice_get n.outs port ≡ Some name → u.made name ≡ Some (capture_to port (handled_by f (past ++ a ∷ []))) =
-      λ port name at. appends.2.others name (not_log sound.names port name at) ∙ captures_more a (told_of sound opened told) wrote both.1 port name at in
+      let line = line_of number h in
+      let captures : (port : ℕ) (name : List ℕ) → slice_get n.outs port ≡ Some name → u.made name ≡ Some (capture_to port (past ++ h ∷ [])) =
+      λ port name at. appends.2.others name (not_log sound.names port name at) ∙ captures_more h (told_of sound opened told) wrote both.1 port name at in
       record {
-        outs = λ port name at. inr (capture_to port (handled_by f (past ++ a ∷ [])), [], captures port name at, sym (append-nil (capture_to port (handled_by f (past ++ a ∷ [])))));
+        outs = λ port name at. inr (capture_to port (past ++ h ∷ []), [], captures port name at, sym (append-nil (capture_to port (past ++ h ∷ []))));
         handled = past;
-        begun = a ∷ [];
+        begun = h ∷ [];
         one = omega arith;
         frames_are = refl;
         log = inr (
-          log_of (handled_by f past) ++ take appends.0 line,
+          log_of past ++ take appends.0 line,
           drop appends.0 line,
-          appends.2.grown (log_of (handled_by f past)) (log_kept (Ok tt) sound.names (told_of sound opened told) wrote both.1),
-          rw (log_of-more f past a, ← is, append_assoc, take-append-drop) refl,
+          appends.2.grown (log_of past) (log_kept (Ok tt) sound.names (told_of sound opened told) wrote both.1),
+          rw (log_of-more past h, ← is, append_assoc, take-append-drop) refl,
         );
         whole = inr (
-          (λ port name at. (piece_to port (handle_at f a), rw (capture_to-more port f past a) at (captures port name at))),
-          (take appends.0 line, appends.2.grown (log_of (handled_by f past)) (log_kept (Ok tt) sound.names (told_of sound opened told) wrote both.1)),
+          (λ port name at. (piece_to port h, rw (capture_to-more port past h) at (captures port name at))),
+          (take appends.0 line, appends.2.grown (log_of past) (log_kept (Ok tt) sound.names (told_of sound opened told) wrote both.1)),
         );
         line = inr (λ port name at. ([], rw append-nil (captures port name at)));
       }
   | inr puts ↦
-      let f = r.function in
       let all = told_of sound opened told in
-      let begun : (port : ℕ) (name : List ℕ) → slice_get n.outs port ≡ Some name → (part : List ℕ) × (rest : List ℕ) × (u.made name ≡ Some (capture_to port (handled_by f past) ++ part)) × (piece_to port (handle_at f a) ≡ part ++ rest) =
-      λ port name at. puts.1.begun n.outs all port name (capture_to port (handled_by f past)) at (wrote.outs port name at) in
+      let begun : (port : ℕ) (name : List ℕ) → slice_get n.outs port ≡ Some name → (part : List ℕ) × (rest : List ℕ) × (u.made name ≡ Some (capture_to port past ++ part)) × (piece_to port h ≡ part ++ rest) =
+      λ port name at. puts.1.begun n.outs all port name (capture_to port past) at (wrote.outs port name at) in
       record {
         outs = λ port name at.
             let part = begun port name at in
-            inr (capture_to port (handled_by f past) ++ part.0, part.1, part.2, rw (capture_to-more port f past a, part.3, append_assoc) refl);
-        log = inr (log_of (handled_by f past), line_of number (handle_at f a), log_kept (Err e) sound.names all wrote puts.1, rw (log_of-more f past a, ← is) refl);
+            inr (capture_to port past ++ part.0, part.1, part.2, rw (capture_to-more port past h, part.3, append_assoc) refl);
+        log = inr (log_of past, line_of number h, log_kept (Err e) sound.names all wrote puts.1, rw (log_of-more past h, ← is) refl);
         handled = past;
-        begun = a ∷ [];
+        begun = h ∷ [];
         one = omega arith;
         frames_are = refl;
         whole = inr (
           (λ port name at. let part = begun port name at in (part.0, part.2)),
           ([], rw append-nil (log_kept (Err e) sound.names all wrote puts.1)),
         );
-        line = inl (inr (log_of (handled_by f past), [], log_kept (Err e) sound.names all wrote puts.1, sym (append-nil (log_of (handled_by f past)))));
+        line = inl (inr (log_of past, [], log_kept (Err e) sound.names all wrote puts.1, sym (append-nil (log_of past))));
       }
 ]
 
@@ -152,10 +148,10 @@ others_more {n = n} (Err e) sound opened told others w name none = elim w.whole_
 ]
 
 -- what was written whole holds no more than it should
-pub whole_parts : {s t : Disk} {n : ReplayFiles} {f : Small} {past : List Arrival} → WroteAll s t n f past → WroteParts s t n f past
-whole_parts {s} {t} {n} {f} {past} wrote = record {
-  outs = λ port name at. inr (capture_to port (handled_by f past), [], wrote.outs port name at, sym (append-nil (capture_to port (handled_by f past))));
-  log = inr (log_of (handled_by f past), [], wrote.log, sym (append-nil (log_of (handled_by f past))));
+pub whole_parts : {s t : Disk} {n : ReplayFiles} {past : List Handled} → WroteAll s t n past → WroteParts s t n past
+whole_parts {s} {t} {n} {past} wrote = record {
+  outs = λ port name at. inr (capture_to port past, [], wrote.outs port name at, sym (append-nil (capture_to port past)));
+  log = inr (log_of past, [], wrote.log, sym (append-nil (log_of past)));
   handled = past;
   begun = [];
   one = omega arith;

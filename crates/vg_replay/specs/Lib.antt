@@ -1,6 +1,7 @@
 pub mod Outputs
 pub mod Replays
 pub mod UnderWay
+pub mod Handler
 pub mod Handling
 pub mod Counts
 pub mod View

@@ -1,32 +1,21 @@
 -- What a replay writes: the capture of each port, and the log.
 use Rattle.std.specs.Prelude.{ℕ, ◌+◌, List, [], ◌∷◌, ◌++◌, codes, decimal, map, length, count_by, sum_by, ◌==◌, if◌then◌else◌, Bool, true, false}
 use Rattle.std.specs.List.{flat_map}
-use Rattle.vg_small.specs.declared.small.Small.{Small}
 use Rattle.vg_core.specs.declared.verdict.Verdict.{Verdict}
 use Rattle.vg_core.specs.declared.verdict.Verdict.TheVariants.{Drop, Send, Flood}
-use Rattle.vg_small.specs.Meaning.{verdict_at, steps_at}
-use Rattle.vg_pcap.specs.Frames.{Framed, header, record_of}
+use Rattle.vg_pcap.specs.Frames.{header, record_of}
 use Rattle.vg_pcap.specs.Arrivals.{Arrival}
 use Rattle.vg_replay.specs.declared.totals.Totals.{Totals}
 
--- what a function does with a frame of this port
-abbrev pub verdict_by : Small → ℕ → Verdict
-verdict_by f port = verdict_at f.tests f.last port
-
--- a frame, the port at which it came in, and what was done with it
+-- a frame with the port at which it came in, and what was done with it
 pub record Handled : Type 0 where
-  pub frame : Framed
-  pub port : ℕ
+  pub arrival : Arrival
   pub verdict : Verdict
   pub steps : ℕ
 
--- what a function does with a frame
-abbrev pub handle_at : Small → Arrival → Handled
-handle_at f a = record { frame = a.frame; port = a.port; verdict = verdict_by f a.port; steps = steps_at f.tests a.port }
-
--- what it does with frames, in order
-abbrev pub handled_by : Small → List Arrival → List Handled
-handled_by f arrivals = map (handle_at f) arrivals
+-- the frames as they came in
+abbrev pub arrivals_of : List Handled → List Arrival
+arrivals_of handled = map (λ h. h.arrival) handled
 
 -- whether a verdict on a frame of one port sends it to another; a flooded frame goes to every port but its own
 abbrev pub goes_to : Verdict → ℕ → ℕ → Bool
@@ -36,7 +25,7 @@ goes_to Flood from to = if from == to then false else true
 
 -- what a frame puts into the capture of a port
 unfoldable pub piece_to : ℕ → Handled → List ℕ
-piece_to port h = if goes_to h.verdict h.port port then record_of h.frame else []
+piece_to port h = if goes_to h.verdict h.arrival.port port then record_of h.arrival.frame else []
 
 -- the capture of a port: a header, and the frames that went there
 unfoldable pub capture_to : ℕ → List Handled → List ℕ
@@ -51,7 +40,7 @@ verdict_text Flood = codes "flood"
 -- the line of the log on frame n
 unfoldable pub line_of : ℕ → Handled → List ℕ
 line_of n h =
-    decimal n ++ codes " in " ++ decimal h.port ++ codes " " ++ verdict_text h.verdict ++ codes " steps " ++ decimal h.steps ++ codes "\n"
+    decimal n ++ codes " in " ++ decimal h.arrival.port ++ codes " " ++ verdict_text h.verdict ++ codes " steps " ++ decimal h.steps ++ codes "\n"
 
 -- the lines on these frames, the first of which is frame n
 abbrev pub lines_from : ℕ → List Handled → List ℕ

@@ -1,8 +1,6 @@
 -- What a replay does: which frames it handles, what it leaves in the files, and why it stops.
 use Rattle.std.specs.Prelude.{ℕ, ◌+◌, ◌-◌, ◌<◌, ◌≤◌, ◌^◌, ◌≡◌, ◌≢◌, ◌⊎◌, List, [], ◌∷◌, ◌++◌, length, IsTrue, Some, Result, IfOk, IfErr, All, AllPairs, slice_get}
 use Rattle.vg_base.specs.Files.{Disk, Rose, SameHeld, SameIds}
-use Rattle.vg_small.specs.declared.small.Small.{Small}
-use Rattle.vg_small.specs.Meaning.{steps_at}
 use Rattle.vg_pcap.specs.declared.faults.CaptureRefusal.TheVariants.{Header, Record}
 use Rattle.vg_pcap.specs.declared.faults.HeaderField.{HeaderField}
 use Rattle.vg_pcap.specs.declared.faults.Damage.{Damage}
@@ -12,7 +10,7 @@ use Rattle.vg_pcap.specs.Incoming.{AllComeIn, IsFirstBadHeader}
 use Rattle.vg_replay.specs.declared.totals.Totals.{Totals}
 use Rattle.vg_replay.specs.declared.stop.RunStop.{RunStop}
 use Rattle.vg_replay.specs.declared.stop.RunStop.TheVariants as stops
-use Rattle.vg_replay.specs.Outputs.{handled_by, capture_to, log_of, totals_of}
+use Rattle.vg_replay.specs.Outputs.{Handled, arrivals_of, capture_to, log_of, totals_of}
 
 -- ---- names
 
@@ -33,12 +31,6 @@ pub record AreReplayFiles (n : ReplayFiles) : Type 0 where
   pub outs : All (IsNoneOf n.ins) n.outs
   pub apart : AllPairs ◌≢◌ n.outs
 
--- ---- the function
-
--- no frame takes more steps than this, so that those of all frames can be counted in 64 bits
-abbrev pub TakesFewSteps : Small → Type 0
-TakesFewSteps f = (port : ℕ) → steps_at f.tests port ≤ 2 ^ 31
-
 -- ---- what stands in the files
 
 -- no file but the outputs was changed
@@ -46,9 +38,9 @@ abbrev pub KeepsOthers : Disk → Disk → ReplayFiles → Type 0
 KeepsOthers s t n = (name : List ℕ) → IsNoneOf (n.log ∷ n.outs) name → t.made name ≡ s.made name
 
 -- each output holds what it should of these frames
-pub record WroteAll (s t : Disk) (n : ReplayFiles) (f : Small) (frames : List Arrival) : Type 0 where
-  pub outs : (port : ℕ) (name : List ℕ) → slice_get n.outs port ≡ Some name → t.made name ≡ Some (capture_to port (handled_by f frames))
-  pub log : t.made n.log ≡ Some (log_of (handled_by f frames))
+pub record WroteAll (s t : Disk) (n : ReplayFiles) (frames : List Handled) : Type 0 where
+  pub outs : (port : ℕ) (name : List ℕ) → slice_get n.outs port ≡ Some name → t.made name ≡ Some (capture_to port frames)
+  pub log : t.made n.log ≡ Some (log_of frames)
 
 -- a file was left as it was, or it was created and holds no more than first bytes of these
 abbrev pub IsPart : Disk → Disk → List ℕ → List ℕ → Type 0
@@ -60,20 +52,20 @@ abbrev pub Holds : Disk → List ℕ → List ℕ → Type 0
 Holds t name bytes = (more : List ℕ) × (t.made name ≡ Some (bytes ++ more))
 
 -- every capture begins with what it should of these frames
-abbrev pub HoldCaptures : Disk → ReplayFiles → Small → List Arrival → Type 0
-HoldCaptures t n f frames = (port : ℕ) (name : List ℕ) → slice_get n.outs port ≡ Some name → Holds t name (capture_to port (handled_by f frames))
+abbrev pub HoldCaptures : Disk → ReplayFiles → List Handled → Type 0
+HoldCaptures t n frames = (port : ℕ) (name : List ℕ) → slice_get n.outs port ≡ Some name → Holds t name (capture_to port frames)
 
 -- Each output was left as it was or holds no more than first bytes of what it should of these frames. All of them were handled whole but at most the last
 -- one: the captures have those frames, and the log their lines. The line of the last one was begun only where every capture has it.
-pub record WroteParts (s t : Disk) (n : ReplayFiles) (f : Small) (frames : List Arrival) : Type 0 where
-  pub outs : (port : ℕ) (name : List ℕ) → slice_get n.outs port ≡ Some name → IsPart s t name (capture_to port (handled_by f frames))
-  pub log : IsPart s t n.log (log_of (handled_by f frames))
-  pub handled : List Arrival
-  pub begun : List Arrival
+pub record WroteParts (s t : Disk) (n : ReplayFiles) (frames : List Handled) : Type 0 where
+  pub outs : (port : ℕ) (name : List ℕ) → slice_get n.outs port ≡ Some name → IsPart s t name (capture_to port frames)
+  pub log : IsPart s t n.log (log_of frames)
+  pub handled : List Handled
+  pub begun : List Handled
   pub one : length begun ≤ 1
   pub frames_are : frames ≡ handled ++ begun
-  pub whole : (handled ≡ []) ⊎ (HoldCaptures t n f handled × Holds t n.log (log_of (handled_by f handled)))
-  pub line : IsPart s t n.log (log_of (handled_by f handled)) ⊎ HoldCaptures t n f frames
+  pub whole : (handled ≡ []) ⊎ (HoldCaptures t n handled × Holds t n.log (log_of handled))
+  pub line : IsPart s t n.log (log_of handled) ⊎ HoldCaptures t n frames
 
 -- ---- which frames are handled
 
@@ -106,10 +98,10 @@ AreTooMany s ins frames =
     × ((port : ℕ) (damage : Damage) → IsAtDamage left port damage → ⊥)
 
 -- the frames came in at ports of the replay
-abbrev pub HavePorts : ReplayFiles → List Arrival → Type 0
-HavePorts n frames = All (λ a. a.port < length n.ins) frames
+abbrev pub HavePorts : ReplayFiles → List Handled → Type 0
+HavePorts n frames = All (λ h. h.arrival.port < length n.ins) frames
 
--- ---- how a replay ends
+-- ---- how a replay ends, of whose handler these are the histories, what it may do with frames, in order, and this why it may stop at the frame after one
 
 -- no fault was counted but in closing what was read
 pub record NoFault (s t : Disk) : Type 0 where
@@ -117,12 +109,13 @@ pub record NoFault (s t : Disk) : Type 0 where
   pub write_faults : t.write_faults ≡ s.write_faults
 
 -- all frames were handled
-pub record HasReplayed (s t : Disk) (n : ReplayFiles) (f : Small) (totals : Totals) : Type 0 where
-  pub frames : List Arrival
+pub record HasReplayed (s t : Disk) (n : ReplayFiles) (IsHistory : List Handled → Type 0) (totals : Totals) : Type 0 where
+  pub frames : List Handled
+  pub history : IsHistory frames
   pub ports : HavePorts n frames
-  pub all : IsTrue s.tells_held → AreAll s n.ins frames
-  pub totals_are : totals ≡ totals_of (handled_by f frames)
-  pub wrote : IsTrue s.tells_made → WroteAll s t n f frames
+  pub all : IsTrue s.tells_held → AreAll s n.ins (arrivals_of frames)
+  pub totals_are : totals ≡ totals_of frames
+  pub wrote : IsTrue s.tells_made → WroteAll s t n frames
   pub no_fault : NoFault s t
 
 -- the header of a capture is refused, and nothing was created
@@ -132,50 +125,66 @@ pub record StopsAtHeader (s t : Disk) (n : ReplayFiles) (port : ℕ) (field : He
   pub no_fault : NoFault s t
 
 -- a record is refused, and the outputs are those of the frames before it
-pub record StopsAtRecord (s t : Disk) (n : ReplayFiles) (f : Small) (port number : ℕ) (why : Damage) : Type 0 where
-  pub frames : List Arrival
+pub record StopsAtRecord (s t : Disk) (n : ReplayFiles) (IsHistory : List Handled → Type 0) (port number : ℕ) (why : Damage) : Type 0 where
+  pub frames : List Handled
+  pub history : IsHistory frames
   pub ports : HavePorts n frames
-  pub up_to : IsTrue s.tells_held → AreUpTo s n.ins frames port number why
-  pub wrote : IsTrue s.tells_made → WroteAll s t n f frames
+  pub up_to : IsTrue s.tells_held → AreUpTo s n.ins (arrivals_of frames) port number why
+  pub wrote : IsTrue s.tells_made → WroteAll s t n frames
   pub read_faults : t.read_faults ≡ s.read_faults
 
 -- there are more frames than are handled, and the outputs are those of the first
-pub record StopsAtMost (s t : Disk) (n : ReplayFiles) (f : Small) : Type 0 where
-  pub frames : List Arrival
+pub record StopsAtMost (s t : Disk) (n : ReplayFiles) (IsHistory : List Handled → Type 0) : Type 0 where
+  pub frames : List Handled
+  pub history : IsHistory frames
   pub ports : HavePorts n frames
-  pub too_many : IsTrue s.tells_held → AreTooMany s n.ins frames
-  pub wrote : IsTrue s.tells_made → WroteAll s t n f frames
+  pub too_many : IsTrue s.tells_held → AreTooMany s n.ins (arrivals_of frames)
+  pub wrote : IsTrue s.tells_made → WroteAll s t n frames
   pub read_faults : t.read_faults ≡ s.read_faults
 
 -- outputs were begun: each was left as it was, or holds no more than first bytes of what it should
-pub record Began (s t : Disk) (n : ReplayFiles) (f : Small) : Type 0 where
-  pub frames : List Arrival
+pub record Began (s t : Disk) (n : ReplayFiles) (IsHistory : List Handled → Type 0) : Type 0 where
+  pub frames : List Handled
+  pub history : IsHistory frames
   pub ports : HavePorts n frames
-  pub first : IsTrue s.tells_held → AreFirst s n.ins frames
-  pub wrote : IsTrue s.tells_made → WroteParts s t n f frames
+  pub first : IsTrue s.tells_held → AreFirst s n.ins (arrivals_of frames)
+  pub wrote : IsTrue s.tells_made → WroteParts s t n frames
+
+-- the handler stopped at a frame for this reason, and the outputs are those of the frames before it
+pub record StopsAtFrame {S : Type 0} (s t : Disk) (n : ReplayFiles) (IsHistory : List Handled → Type 0) (StopsAt : List Handled → Arrival → S → Type 0) (reason : S) : Type 0 where
+  pub frames : List Handled
+  pub history : IsHistory frames
+  pub ports : HavePorts n frames
+  pub arrival : Arrival
+  pub stops : StopsAt frames arrival reason
+  pub first : IsTrue s.tells_held → AreFirst s n.ins (arrivals_of frames ++ arrival ∷ [])
+  pub wrote : IsTrue s.tells_made → WroteAll s t n frames
+  pub read_faults : t.read_faults ≡ s.read_faults
 
 -- why a replay stopped, and what it left; a fault in closing an output then is counted among those at writing, and changes nothing
-abbrev pub StopsReplay : Disk → Disk → ReplayFiles → Small → RunStop → Type 0
-StopsReplay s t n f (stops.Capture port (Header field)) = StopsAtHeader s t n port field
-StopsReplay s t n f (stops.Capture port (Record number why)) = StopsAtRecord s t n f port number why
-StopsReplay s t n f stops.Read = Rose s.read_faults t.read_faults × (((t.made ≡ s.made) × (t.write_faults ≡ s.write_faults)) ⊎ Began s t n f)
-StopsReplay s t n f stops.Write = Rose s.write_faults t.write_faults × (t.read_faults ≡ s.read_faults) × Began s t n f
-StopsReplay s t n f stops.Frames = StopsAtMost s t n f
-StopsReplay s t n f stops.Memory = (t.made ≡ s.made) × NoFault s t
+abbrev pub StopsReplay : {S : Type 0} → Disk → Disk → ReplayFiles → (List Handled → Type 0) → (List Handled → Arrival → S → Type 0) → RunStop S → Type 0
+StopsReplay s t n IsHistory StopsAt (stops.Capture port (Header field)) = StopsAtHeader s t n port field
+StopsReplay s t n IsHistory StopsAt (stops.Capture port (Record number why)) = StopsAtRecord s t n IsHistory port number why
+StopsReplay s t n IsHistory StopsAt stops.Read = Rose s.read_faults t.read_faults × (((t.made ≡ s.made) × (t.write_faults ≡ s.write_faults)) ⊎ Began s t n IsHistory)
+StopsReplay s t n IsHistory StopsAt stops.Write = Rose s.write_faults t.write_faults × (t.read_faults ≡ s.read_faults) × Began s t n IsHistory
+StopsReplay s t n IsHistory StopsAt stops.Frames = StopsAtMost s t n IsHistory
+StopsReplay s t n IsHistory StopsAt (stops.Handler reason) = StopsAtFrame s t n IsHistory StopsAt reason
+StopsReplay s t n IsHistory StopsAt stops.Memory = (t.made ≡ s.made) × NoFault s t
 
 -- why a replay stopped whose outputs were created, and what it left
-abbrev pub StopsBegun : Disk → Disk → ReplayFiles → Small → RunStop → Type 0
-StopsBegun s t n f (stops.Capture port (Header field)) = ⊥
-StopsBegun s t n f (stops.Capture port (Record number why)) = StopsAtRecord s t n f port number why
-StopsBegun s t n f stops.Read = Rose s.read_faults t.read_faults × Began s t n f
-StopsBegun s t n f stops.Write = Rose s.write_faults t.write_faults × (t.read_faults ≡ s.read_faults) × Began s t n f
-StopsBegun s t n f stops.Frames = StopsAtMost s t n f
-StopsBegun s t n f stops.Memory = ⊥
+abbrev pub StopsBegun : {S : Type 0} → Disk → Disk → ReplayFiles → (List Handled → Type 0) → (List Handled → Arrival → S → Type 0) → RunStop S → Type 0
+StopsBegun s t n IsHistory StopsAt (stops.Capture port (Header field)) = ⊥
+StopsBegun s t n IsHistory StopsAt (stops.Capture port (Record number why)) = StopsAtRecord s t n IsHistory port number why
+StopsBegun s t n IsHistory StopsAt stops.Read = Rose s.read_faults t.read_faults × Began s t n IsHistory
+StopsBegun s t n IsHistory StopsAt stops.Write = Rose s.write_faults t.write_faults × (t.read_faults ≡ s.read_faults) × Began s t n IsHistory
+StopsBegun s t n IsHistory StopsAt stops.Frames = StopsAtMost s t n IsHistory
+StopsBegun s t n IsHistory StopsAt (stops.Handler reason) = StopsAtFrame s t n IsHistory StopsAt reason
+StopsBegun s t n IsHistory StopsAt stops.Memory = ⊥
 
--- what comes in was replayed through a function, or this stopped; whatever happened, no other file was changed, and no id is open that wasn't
-pub record Replays (s t : Disk) (n : ReplayFiles) (f : Small) (result : Result Totals RunStop) : Type 0 where
+-- what comes in was replayed, or this stopped; whatever happened, no other file was changed, and no id is open that wasn't
+pub record Replays {S : Type 0} (s t : Disk) (n : ReplayFiles) (IsHistory : List Handled → Type 0) (StopsAt : List Handled → Arrival → S → Type 0) (result : Result Totals (RunStop S)) : Type 0 where
   pub held : SameHeld s t
   pub ids : SameIds s t
   pub others : IsTrue s.tells_made → KeepsOthers s t n
-  pub done : IfOk result (HasReplayed s t n f)
-  pub stops : IfErr result (StopsReplay s t n f)
+  pub done : IfOk result (HasReplayed s t n IsHistory)
+  pub stops : IfErr result (StopsReplay s t n IsHistory StopsAt)

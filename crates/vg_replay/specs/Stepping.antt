@@ -1,9 +1,8 @@
 -- The parts of handling a frame. No public clause rests on this file.
-use Rattle.std.specs.Prelude.{ℕ, ◌≡◌, List, [], ◌∷◌, ◌++◌, false, All, IsTrue, Bool, true, Result, Ok, Err}
+use Rattle.std.specs.Prelude.{ℕ, ◌+◌, ◌≤◌, ◌^◌, ◌≡◌, List, [], ◌∷◌, ◌++◌, false, All, IsTrue, Bool, true, Result, Ok, Err}
 use Rattle.vg_base.specs.declared.faults.Failed.{Failed}
 use Rattle.vg_base.specs.Files.{Disk, Counts, SameHeld}
 use Rattle.vg_base.specs.Several.{DiffersBy}
-use Rattle.vg_small.specs.declared.small.Small.{Small}
 use Rattle.vg_pcap.specs.declared.faults.CaptureFault.{CaptureFault}
 use Rattle.vg_pcap.specs.declared.faults.CaptureFault.TheVariants as faults
 use Rattle.vg_pcap.specs.declared.merge.MergeFault.{MergeFault}
@@ -13,33 +12,53 @@ use Rattle.vg_pcap.specs.Merge.{IsNext, Comes}
 use Rattle.vg_replay.specs.declared.stop.RunStop.{RunStop}
 use Rattle.vg_replay.specs.declared.stop.RunStop.TheVariants as stops
 use Rattle.vg_replay.specs.Replays.{ReplayFiles, KeepsOthers, StopsBegun}
-use Rattle.vg_replay.specs.UnderWay.{Replaying, HasOpened, Going, open_ids}
+use Rattle.vg_replay.specs.declared.handled.Outcome.{Outcome}
+use Rattle.vg_replay.specs.Outputs.{Handled}
+use Rattle.vg_replay.specs.Writing.{WritesFrame}
+use Rattle.vg_replay.specs.Handler.{HandledAfter, StopsAfter}
+use Rattle.vg_replay.specs.UnderWay.{Replaying, ReplayOf, HasOpened, Going, open_ids}
 
 -- why a replay stops where its inputs can't be read on
-abbrev pub stop_at : ℕ → CaptureFault → RunStop
+abbrev pub stop_at : {S : Type 0} → ℕ → CaptureFault → RunStop S
 stop_at port (faults.Refused refusal) = stops.Capture port refusal
 stop_at port faults.Read = stops.Read
 stop_at port faults.Memory = stops.Memory
 
-abbrev pub stop_of : MergeFault → RunStop
+abbrev pub stop_of : {S : Type 0} → MergeFault → RunStop S
 stop_of e = stop_at e.port e.fault
 
 -- a replay has stopped, and its files are still open
-pub record HasStopped (s t : Disk) (n : ReplayFiles) (r : Replaying) (f : Small) (stop : RunStop) : Type 0 where
+pub record HasStopped {S : Type 0} (s t : Disk) (n : ReplayFiles) (r : Replaying) (IsHistory : List Handled → Type 0) (StopsAt : List Handled → Arrival → S → Type 0) (stop : RunStop S) : Type 0 where
   pub opened : HasOpened s t n r
   pub others : IsTrue s.tells_made → KeepsOthers s t n
-  pub stops : StopsBegun s t n f stop
+  pub stops : StopsBegun s t n IsHistory StopsAt stop
 
 -- no frame is left
 pub record HasEnded (t : Disk) (r : Replaying) : Type 0 where
   pub none_waits : All (λ input. input.waits ≡ false) r.inputs
   pub all : (streams : List Stream) (past : List Arrival) → Comes t r.inputs streams past → AllCome streams past
 
--- the next frame was handled; or none was left, and nothing was done; or the replay stopped
-abbrev pub Steps : Disk → Disk → Disk → ReplayFiles → Replaying → Replaying → List Arrival → Result Bool RunStop → Type 0
-Steps s t u n old new past (Ok true) = (new.function ≡ old.function) × (a : Arrival) × IsNext old.inputs a × Going s u n new (past ++ a ∷ [])
-Steps s t u n old new past (Ok false) = (new ≡ old) × (u ≡ t) × HasEnded u new
-Steps s t u n old new past (Err stop) = HasStopped s u n new old.function stop
+-- a frame with which this was done
+abbrev pub handled_with : Arrival → Outcome → Handled
+handled_with a outcome = record { arrival = a; verdict = outcome.verdict; steps = outcome.steps }
+
+module _ {H S : Type 0} (Handles : H → Handled → H → Type 0) (Stops : H → Arrival → S → Type 0) where
+  -- the next frame was handled; or none was left, and nothing was done; or the replay stopped
+  abbrev pub Steps : Disk → Disk → Disk → ReplayFiles → ReplayOf H → ReplayOf H → List Handled → Result Bool (RunStop S) → Type 0
+  Steps s t u n old new past (Ok true) = (h : Handled) × Handles old.handler h new.handler × IsNext old.files.inputs h.arrival × Going s u n new.files (past ++ h ∷ [])
+  Steps s t u n old new past (Ok false) = (new ≡ old) × (u ≡ t) × HasEnded u new.files
+  Steps s t u n old new past (Err stop) = HasStopped s u n new.files (HandledAfter Handles past old.handler) (StopsAfter Handles Stops past old.handler) stop
+
+  -- The next frame was handled and written; or it was handled, and a fault was counted as it was written; or the handler stopped, and nothing was touched.
+  abbrev pub HandlesFrame : Disk → Disk → ReplayOf H → ReplayOf H → Arrival → Result Outcome (RunStop S) → Type 0
+  HandlesFrame s t old new a (Ok outcome) =
+      Handles old.handler (handled_with a outcome) new.handler × (outcome.steps ≤ 2 ^ 31)
+      × WritesFrame s t old.files.outs old.files.log (old.files.totals.frames + 1) (handled_with a outcome) (Ok tt)
+  HandlesFrame s t old new a (Err stops.Write) =
+      (outcome : Outcome) × Handles old.handler (handled_with a outcome) new.handler
+      × WritesFrame s t old.files.outs old.files.log (old.files.totals.frames + 1) (handled_with a outcome) (Err (record {}))
+  HandlesFrame s t old new a (Err (stops.Handler reason)) = Stops old.handler a reason × (t ≡ s)
+  HandlesFrame s t old new a (Err _) = ⊥
 
 -- every file of a replay was closed; a failure tells of one that was written
 pub record ClosesAll (s t : Disk) (r : Replaying) (result : Result (Unit {0}) Failed) : Type 0 where

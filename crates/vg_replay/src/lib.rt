@@ -1,7 +1,8 @@
-//! Replaying captures through a function: one capture out for each port, and a log.
+//! Replaying captures through a handler of frames: one capture out for each port, and a log.
 #![tactic(auto)]
 
 mod handled;
+mod handler;
 mod lines;
 mod outputs;
 mod replaying;
@@ -11,6 +12,8 @@ mod tests;
 mod totals;
 mod under_way;
 
+pub use handled::{Frame, Outcome};
+pub use handler::Handler;
 pub use replaying::replay;
 pub use stop::RunStop;
 pub use totals::Totals;

@@ -35,11 +35,11 @@ pub fn log_line(number: u32, frame: &HandledFrame<'_>) -> ArrayString<300>
     let mut digits = Buffer::new();
     line.push_str(digits.format(number));
     line.push_str(" in ");
-    line.push_str(digits.format(frame.port));
+    line.push_str(digits.format(frame.arrival.port));
     line.push_str(" ");
-    line.push_str(verdict_text(frame.verdict).as_str());
+    line.push_str(verdict_text(frame.outcome.verdict).as_str());
     line.push_str(" steps ");
-    line.push_str(digits.format(frame.steps));
+    line.push_str(digits.format(frame.outcome.steps));
     line.push_str("\n");
     line
 }

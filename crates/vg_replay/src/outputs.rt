@@ -60,7 +60,7 @@ impl Outputs {
     ) -> Result<(), Failed>
         requires open { AreOpen (F.disk files.old) Writes (self.old.captures.items ++ self.old.log ∷ []) }
         requires few { length self.old.captures.items ≤ MAX_OPEN }
-        requires fits { Fits ((view frame.now).frame) }
+        requires fits { Fits ((view frame.now).arrival.frame) }
         ensures same_captures { self.new.captures.items ≡ self.old.captures.items }
         ensures same_log { self.new.log ≡ self.old.log }
         ensures writes { WritesFrame (F.disk files.old) (F.disk files.new) self.old.captures.items self.old.log number (view frame.now) result }
@@ -135,12 +135,17 @@ fn send_to<F: Files>(
     frame: &HandledFrame<'_>,
 ) -> Result<(), Failed>
     requires open { IsOpen Writes ((F.disk files.old).opened capture.old) }
-    requires fits { Fits ((view frame.now).frame) }
+    requires fits { Fits ((view frame.now).arrival.frame) }
     ensures same { capture.new ≡ capture.old }
     ensures writes { WritesAll (F.disk files.old) (F.disk files.new) capture.old (piece_to port (view frame.now)) result }
 {
-    if goes_to(frame.verdict, frame.port, port) {
-        capture.put(files, frame.time, frame.original, frame.bytes)
+    if goes_to(frame.outcome.verdict, frame.arrival.port, port) {
+        capture.put(
+            files,
+            frame.arrival.time,
+            frame.arrival.original,
+            frame.arrival.bytes,
+        )
     } else {
         Ok(())
     }
@@ -154,7 +159,7 @@ fn put_frame<F: Files>(
 ) -> Result<(), Failed>
     requires open { AreOpen (F.disk files.old) Writes captures.old.items }
     requires few { length captures.old.items ≤ MAX_OPEN }
-    requires fits { Fits ((view frame.now).frame) }
+    requires fits { Fits ((view frame.now).arrival.frame) }
     ensures same { captures.new.items ≡ captures.old.items }
     ensures puts { Puts (F.disk files.old) (F.disk files.new) captures.old.items (pieces_of (view frame.now)) (length captures.old.items) result }
 {

@@ -6,7 +6,7 @@ use vg_pcap::{CaptureFault, CaptureRefusal, MergeFault};
 
 /// Why a replay stopped early.
 #[derive(Clone, Copy, Debug, PartialEq, Eq)]
-pub enum RunStop {
+pub enum RunStop<S> {
     /// The capture of this port is refused.
     Capture { port: u16, refusal: CaptureRefusal },
     /// A file couldn't be read.
@@ -17,10 +17,12 @@ pub enum RunStop {
     Frames,
     /// Memory ran out, before any output was created.
     Memory,
+    /// The handler stopped, before a frame was written.
+    Handler(S),
 }
 
 // Why a replay stops where its inputs can't be read on.
-pub(crate) fn stop_of(e: MergeFault) -> RunStop
+pub(crate) fn stop_of<S>(e: MergeFault) -> RunStop<S>
     ensures { result ≡ stop_of e }
 {
     match e.fault {

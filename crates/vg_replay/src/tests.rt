@@ -1,19 +1,44 @@
-ghost use Rattle.std.specs.Prelude.{◌≡◌, ◌<◌, IfOk, [], ◌∷◌, codes, length, map, string_bytes};
+ghost use Rattle.std.specs.Prelude.{◌≡◌, ◌+◌, IfOk, [], ◌∷◌, map, string_bytes};
 ghost use Rattle.vg_doubles.specs.Memory.{disk_of};
-ghost use Rattle.vg_small.specs.Meaning.{SendsBelow};
-ghost use Rattle.vg_replay.specs.Replays.{TakesFewSteps};
 
 use super::*;
 use std::alloc::{AllocError, Global};
 use std::test::Fail;
 use vg_base::Files;
+use vg_core::Verdict;
 use vg_doubles::MemFiles;
 use vg_pcap::{CaptureRefusal, Damage, HeaderField};
-use vg_small::{Lang, Small, read_small};
 
-// What port 0 gets goes to port 2, and the rest to port 0.
-const TO_TWO: &str =
-    "int nf_process(uint16_t port, uint64_t now) { if (port == 0) return 2; return 0; }";
+// Sends what port 0 gets to port 2, and the rest to port 0, in three steps, and stops after so many frames.
+#[derive(Drop)]
+struct ToTwo {
+    left: u32,
+}
+
+#[derive(Clone, Copy, Debug, PartialEq, Eq)]
+struct Enough;
+
+impl Handler for ToTwo {
+    type Stop = Enough;
+
+    ghost handles = { λ old h new. (new.left + 1 ≡ old.left) × (h.steps ≡ 3) };
+
+    ghost stops_at = { λ old a reason. old.left ≡ 0 };
+
+    fn handle(&mut self, frame: &Frame<'_>) -> Result<Outcome, Enough> {
+        if self.left == 0 {
+            return Err(Enough);
+        }
+        self.left -= 1;
+        Ok(Outcome {
+            verdict: Verdict::Send(if frame.port == 0 { 2 } else { 0 }),
+            steps: 3,
+        })
+    }
+}
+
+// More frames than come.
+const ALL: ToTwo = ToTwo { left: 100 };
 
 // The header of a capture: little-endian, nanoseconds, version 2.4, snap length 262,144, Ethernet.
 const HEADER: [u8; 24] = [
@@ -62,28 +87,17 @@ fn three(alloc: Global, a: &str, b: &str, c: &str) -> Result<Vec<String>, AllocE
     Ok(names)
 }
 
-// A function that sends to the ports 0 to 2.
-fn function_of(alloc: Global, text: &str) -> Result<Small, Fail>
-    requires { length text.now < 1000 }
-    ensures steps { IfOk result TakesFewSteps }
-    ensures ports { IfOk result (SendsBelow 3) }
-{
-    let small = read_small(alloc, text.as_bytes(), Lang::C)?;
-    if small.sends_below(3) {
-        Ok(small)
-    } else {
-        Err("a value is no port".into())
-    }
-}
-
 // Replays three ports, of which the last gets nothing.
-fn replay_three(alloc: Global, files: &mut MemFiles) -> Result<Result<Totals, RunStop>, Fail>
+fn replay_three(
+    alloc: Global,
+    handler: ToTwo,
+    files: &mut MemFiles,
+) -> Result<Result<Totals, RunStop<Enough>>, Fail>
     requires { (disk_of files.old).open_count ≡ 0 }
 {
-    let small = function_of(alloc, TO_TWO)?;
     let ins = three(alloc, "in0", "in1", "-")?;
     let outs = three(alloc, "out0", "out1", "out2")?;
-    Ok(replay(alloc, small, files, "log", &ins, &outs))
+    Ok(replay(alloc, handler, files, "log", &ins, &outs))
 }
 
 #[test]
@@ -102,7 +116,7 @@ fn frames_are_merged(rt: HostRuntime) -> Result<(), Fail> {
         flooded: 0,
         steps: 12,
     };
-    assert_eq!(rt; replay_three(alloc, &mut files)?, Ok(totals));
+    assert_eq!(rt; replay_three(alloc, ALL, &mut files)?, Ok(totals));
     let log =
         "1 in 0 to 2 steps 3\n2 in 0 to 2 steps 3\n3 in 1 to 0 steps 3\n4 in 0 to 2 steps 3\n";
     assert_eq!(rt; files.written("log").ok_or("no log")?, log.as_bytes());
@@ -131,7 +145,31 @@ fn a_cut_record_ends_it(rt: HostRuntime) -> Result<(), Fail> {
             why: Damage::Cut,
         },
     };
-    assert_eq!(rt; replay_three(alloc, &mut files)?, Err(stop));
+    assert_eq!(rt; replay_three(alloc, ALL, &mut files)?, Err(stop));
+    let log = "1 in 0 to 2 steps 3\n2 in 0 to 2 steps 3\n";
+    assert_eq!(rt; files.written("log").ok_or("no log")?, log.as_bytes());
+    assert_eq!(rt; files.written("out0").ok_or("no out0")?, HEADER.as_slice());
+    assert_eq!(rt;
+        files.written("out2").ok_or("no out2")?,
+        capture(alloc, &[5, 5])?.as_slice()
+    );
+    Ok(())
+}
+
+// The frame at which a handler stops is neither written nor told, though it was read.
+#[test]
+fn a_handler_stops(rt: HostRuntime) -> Result<(), Fail> {
+    let alloc = rt.alloc();
+    let mut files = files_of(
+        alloc,
+        capture(alloc, &[5, 3, 9])?,
+        capture(alloc, &[5])?,
+        &[],
+    )?;
+    assert_eq!(rt;
+        replay_three(alloc, ToTwo { left: 2 }, &mut files)?,
+        Err(RunStop::Handler(Enough))
+    );
     let log = "1 in 0 to 2 steps 3\n2 in 0 to 2 steps 3\n";
     assert_eq!(rt; files.written("log").ok_or("no log")?, log.as_bytes());
     assert_eq!(rt; files.written("out0").ok_or("no out0")?, HEADER.as_slice());
@@ -151,7 +189,7 @@ fn a_bad_header_creates_nothing(rt: HostRuntime) -> Result<(), Fail> {
         port: 1,
         refusal: CaptureRefusal::Header(HeaderField::Length),
     };
-    assert_eq!(rt; replay_three(alloc, &mut files)?, Err(stop));
+    assert_eq!(rt; replay_three(alloc, ALL, &mut files)?, Err(stop));
     assert!(rt; files.written("out0").is_none());
     assert!(rt; files.written("log").is_none());
     Ok(())
@@ -171,7 +209,7 @@ fn each_fault_is_told(rt: HostRuntime) -> Result<(), Fail> {
             capture(alloc, &[4])?,
             &[call],
         )?;
-        match replay_three(alloc, &mut files)? {
+        match replay_three(alloc, ALL, &mut files)? {
             Ok(totals) => assert_eq!(rt; totals.frames, 3),
             Err(RunStop::Read) => reads.push(call)?,
             Err(RunStop::Write) => writes.push(call)?,
@@ -188,7 +226,7 @@ fn each_fault_is_told(rt: HostRuntime) -> Result<(), Fail> {
 fn a_capture_is_not_created(rt: HostRuntime) -> Result<(), Fail> {
     let alloc = rt.alloc();
     let mut files = files_of(alloc, capture(alloc, &[5])?, capture(alloc, &[4])?, &[7])?;
-    assert_eq!(rt; replay_three(alloc, &mut files)?, Err(RunStop::Write));
+    assert_eq!(rt; replay_three(alloc, ALL, &mut files)?, Err(RunStop::Write));
     assert_eq!(rt; files.written("out0").ok_or("no out0")?, HEADER.as_slice());
     assert!(rt; files.written("out1").is_none());
     assert!(rt; files.written("out2").is_none());
@@ -200,10 +238,9 @@ fn a_capture_is_not_created(rt: HostRuntime) -> Result<(), Fail> {
 fn frame_by_frame(rt: HostRuntime) -> Result<(), Fail> {
     let alloc = rt.alloc();
     let mut files = files_of(alloc, capture(alloc, &[5, 3])?, capture(alloc, &[])?, &[])?;
-    let small = function_of(alloc, TO_TWO)?;
     let ins = three(alloc, "in0", "in1", "-")?;
     let outs = three(alloc, "out0", "out1", "out2")?;
-    let Ok(begun) = Replay::start(alloc, small, &mut files, "log", &ins, &outs) else {
+    let Ok(begun) = Replay::start(alloc, ALL, &mut files, "log", &ins, &outs) else {
         return Err("not begun".into());
     };
     assert_eq!(rt; files.written("out2").ok_or("no out2")?, HEADER.as_slice());

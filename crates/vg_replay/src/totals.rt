@@ -1,7 +1,7 @@
 //! Counts of what was done with frames.
 ghost use Rattle.std.specs.Prelude.{◌≡◌, ◌+◌, ◌<◌, ◌≤◌, ◌^◌};
-ghost use Rattle.vg_core.specs.declared.verdict.Verdict.{Verdict};
 
+use crate::handled::Outcome;
 use vg_core::Verdict;
 
 /// How many frames there were, how many of them were sent, dropped and flooded, and how many steps they took together.
@@ -17,15 +17,15 @@ pub struct Totals {
 impl Totals {
     ghost use Rattle.vg_replay.specs.Counts.{counted, AreFew};
 
-    // One frame more, with this verdict and so many steps.
-    pub(crate) fn counted(self, verdict: Verdict, steps: u64) -> Totals
-        requires { AreFew self steps }
-        ensures { result ≡ counted self verdict steps }
+    // One frame more, with which this was done.
+    pub(crate) fn counted(self, outcome: Outcome) -> Totals
+        requires { AreFew self outcome.steps }
+        ensures { result ≡ counted self outcome.verdict outcome.steps }
     {
         let mut totals = self;
         totals.frames += 1;
-        totals.steps += steps;
-        match verdict {
+        totals.steps += outcome.steps;
+        match outcome.verdict {
             Verdict::Drop => totals.dropped += 1,
             Verdict::Send(_) => totals.sent += 1,
             Verdict::Flood => totals.flooded += 1,

@@ -1,3 +1,4 @@
+mod Handled
 mod Agreeing
 mod NamesApart
 mod Replayed

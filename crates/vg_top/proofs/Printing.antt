@@ -12,7 +12,8 @@ use Rattle.vg_pcap.specs.declared.faults.Damage.{Damage}
 use Rattle.vg_pcap.specs.Captures.{CaptureEnd, Whole, Refused}
 use Rattle.vg_pcap.specs.Arrivals.{Arrival}
 use Rattle.vg_core.specs.declared.verdict.Verdict.{Verdict}
-use Rattle.vg_replay.specs.Outputs.{goes_to, handle_at, handled_by, piece_to, capture_to}
+use Rattle.vg_replay.specs.Outputs.{Handled, arrivals_of, goes_to, piece_to, capture_to}
+use Rattle.vg_top.specs.Frames.{handle_at, handled_by, AreHandledBy}
 use Rattle.vg_replay.specs.Replays.{ReplayFiles, IsPart, Holds, WroteAll, WroteParts, AreFirst, AreAll, AreUpTo, AreTooMany}
 use Rattle.vg_top.specs.declared.report.Report.{Report}
 use Rattle.vg_top.specs.declared.stop.Stop.{Stop}
@@ -24,6 +25,7 @@ use Rattle.vg_top.specs.Lines.{verified_line, totals_line, refusal_text}
 use Rattle.vg_top.specs.Runs.{IsRun, RefusesWords}
 use Rattle.vg_top.specs.Running.{HasRun}
 use Rattle.vg_top.specs.Statuses.{status_of, status_at, IsFaultOrMemory}
+use Rattle.vg_top.proofs.Handled.{arrivals_of-handled}
 use Rattle.vg_top.proofs.Unique.{ComesTo-same}
 
 -- ---- a run that was done
@@ -50,22 +52,23 @@ module _ (c spec : Small) (agree : Agree c spec) (to : ℕ) where
 pub has_finished : (s t : Disk) {n : Files} (r : Report) → HasRun s t n r → Finished s t n (verified_line r.paths r.steps ++ totals_line r.totals)
 has_finished s t {n} r has =
     let ports : length n.ins ≡ has.spec.ports = has.verified.functions.ports in
-    let below : All (λ a. a.port < has.spec.ports) has.replayed.frames = rw ports at has.replayed.ports in
+    let frames = arrivals_of has.replayed.frames in
+    let below : All (λ a. a.port < has.spec.ports) frames = All-map (λ (a : Arrival). a.port < has.spec.ports) (λ (h : Handled). h.arrival) has.replayed.frames (rw ports at has.replayed.ports) in
     record {
       c = has.c;
       spec = has.spec;
       verified = has.verified;
-      frames = has.replayed.frames;
+      frames = frames;
       all = has.replayed.all;
-      captures = λ told port name at. (has.replayed.wrote told).outs port name at ∙ ap Some (same_capture has.c has.spec has.verified.agree port has.replayed.frames below);
-      log = λ told. (has.replayed.wrote told).log;
+      captures = λ told port name at. rw has.replayed.history at ((has.replayed.wrote told).outs port name at) ∙ ap Some (same_capture has.c has.spec has.verified.agree port frames below);
+      log = λ told. rw has.replayed.history at ((has.replayed.wrote told).log);
       others = has.others;
       paths = r.paths;
       counted = has.paths;
       steps = r.steps;
       most = has.steps;
-      bounded = bounded has.c has.spec.ports r.steps has.replayed.frames has.steps below;
-      reports = rw has.replayed.totals_are refl;
+      bounded = bounded has.c has.spec.ports r.steps frames has.steps below;
+      reports = rw (← has.replayed.history, has.replayed.totals_are) refl;
       no_fault = has.replayed.no_fault;
     }
 
@@ -92,7 +95,7 @@ whole_part s t name whole made = inr (whole, [], made, sym (append-nil whole))
 whole_holds : (t : Disk) (name whole : List ℕ) → t.made name ≡ Some whole → Holds t name whole
 whole_holds t name whole made = ([], made ∙ ap Some (sym (append-nil whole)))
 
-parts_of_all : (s t : Disk) {n : ReplayFiles} {c : Small} (frames : List Arrival) → WroteAll s t n c frames → WroteParts s t n c frames
+parts_of_all : (s t : Disk) {n : ReplayFiles} (frames : List Handled) → WroteAll s t n frames → WroteParts s t n frames
 parts_of_all s t frames all = record {
   outs = λ port name at. whole_part s t name _ (all.outs port name at);
   log = whole_part s t _ _ all.log;
@@ -138,6 +141,7 @@ began_done s t {n} r run has = (
     verified = has.verified;
     began = record {
       frames = has.replayed.frames;
+      history = has.replayed.history;
       ports = has.replayed.ports;
       first = λ told. first_of_all (has.replayed.all told);
       wrote = λ told. parts_of_all s t has.replayed.frames (has.replayed.wrote told);
@@ -149,11 +153,19 @@ began_done s t {n} r run has = (
 -- ---- what stands in the outputs after a stop
 
 began_after : (s t : Disk) {n : Files} {Reason : List Arrival → Type 0} → ((frames : List Arrival) → Reason frames → AreFirst s n.ins frames) → StopsAfter s t n Reason → BeganReplay s t n
-began_after s t {n} first x = record {
+began_after s t {n} first x =
+    let came : arrivals_of (handled_by x.c x.frames) ≡ x.frames = arrivals_of-handled x.c x.frames in
+    record {
   c = x.c;
   spec = x.spec;
   verified = x.verified;
-  began = record { frames = x.frames; ports = x.ports; first = λ told. first x.frames (x.handled told); wrote = λ told. parts_of_all s t x.frames (x.wrote told) };
+  began = record {
+    frames = handled_by x.c x.frames;
+    history = rw came refl;
+    ports = x.ports;
+    first = λ told. rw came (first x.frames (x.handled told));
+    wrote = λ told. parts_of_all s t (handled_by x.c x.frames) (x.wrote told);
+  };
   others = x.others;
 }
 
@@ -175,8 +187,8 @@ outputs_after s t (Limit lang) run x = inl x.unwritten
 pub exactly_done : {words : List (List ℕ)} (s t : Disk) {u v : Flow} {text : List ℕ} {n : Files} {answer : ℕ} (r : Report) → IsRun words n → HasRun s t n r → Prints u v text 0 answer →
     IsTrue s.tells_held → (ending : Ending) → ComesTo s words ending → (answer ≡ status_at ending) ⊎ IsFaultOrMemory answer
 exactly_done {words = words} s t {n = n} r run has (inl printed) told ending comes =
-    let done : ComesTo s words (Done has.c has.spec has.replayed.frames) = inr (inr (n, run, (has.verified, has.replayed.all))) in
-    inl (printed.0 ∙ ap status_at (ComesTo-same s words (Done has.c has.spec has.replayed.frames) ending told done comes))
+    let done : ComesTo s words (Done has.c has.spec (arrivals_of has.replayed.frames)) = inr (inr (n, run, (has.verified, has.replayed.all))) in
+    inl (printed.0 ∙ ap status_at (ComesTo-same s words (Done has.c has.spec (arrivals_of has.replayed.frames)) ending told done comes))
 exactly_done s t r run has (inr failed) told ending comes = inr (inr (inl failed.0))
 
 -- a run that stopped for a reason

@@ -3,7 +3,7 @@ use Rattle.std.proofs.Common.{◌≡◌, inl, inr, ◌∙◌, ℕ, List, IsTrue,
 use Rattle.vg_base.proofs.Disks.{SameHeld-trans, SameIds-trans}
 use Rattle.vg_base.specs.Files.{Disk, SameHeld, SameIds}
 use Rattle.vg_command.specs.Commands.{Files}
-use Rattle.vg_small.specs.declared.small.Small.{Small}
+use Rattle.std.specs.declared.convert.Infallible.{Infallible}
 use Rattle.vg_pcap.specs.declared.faults.CaptureRefusal.TheVariants.{Header, Record}
 use Rattle.vg_pcap.specs.declared.faults.Damage.{Damage}
 use Rattle.vg_pcap.specs.declared.faults.HeaderField.{HeaderField}
@@ -14,6 +14,9 @@ use Rattle.vg_replay.specs.declared.stop.RunStop.{RunStop}
 use Rattle.vg_replay.specs.declared.stop.RunStop.TheVariants as stops
 use Rattle.vg_replay.specs.declared.totals.Totals.{Totals}
 use Rattle.vg_replay.specs.Replays.{ReplayFiles, KeepsOthers, WroteAll, WroteParts, AreFirst, AreAll, AreUpTo, AreTooMany, HasReplayed, StopsAtHeader, StopsAtRecord, Began, StopsReplay, Replays}
+use Rattle.vg_replay.specs.Outputs.{Handled, arrivals_of}
+use Rattle.vg_top.proofs.Handled.{never_stops}
+use Rattle.vg_top.specs.Frames.{AreHandledBy}
 use Rattle.vg_top.specs.declared.setup.Functions.{Functions}
 use Rattle.vg_top.specs.declared.report.Report.{Report}
 use Rattle.vg_top.specs.declared.stop.Stop.TheVariants.{Capture}
@@ -52,10 +55,10 @@ module _ {s t : Disk} (same : t.held ≡ s.held) where
 
 -- ---- outputs that were the same
 
-WroteAll-before : (s t u : Disk) {n : ReplayFiles} {f : Small} {frames : List Arrival} → WroteAll t u n f frames → WroteAll s u n f frames
+WroteAll-before : (s t u : Disk) {n : ReplayFiles} {frames : List Handled} → WroteAll t u n frames → WroteAll s u n frames
 WroteAll-before s t u x = record { outs = x.outs; log = x.log }
 
-WroteParts-before : (s t u : Disk) {n : ReplayFiles} {f : Small} {frames : List Arrival} → t.made ≡ s.made → WroteParts t u n f frames → WroteParts s u n f frames
+WroteParts-before : (s t u : Disk) {n : ReplayFiles} {frames : List Handled} → t.made ≡ s.made → WroteParts t u n frames → WroteParts s u n frames
 WroteParts-before s t u made x = record {
   outs = λ port name at. rw made at (x.outs port name at);
   log = rw made at x.log;
@@ -83,13 +86,14 @@ module _ {s t : Disk} (u : Disk) {n : Files} (f : Functions) (x : ReadsFunctions
   others_before : (IsTrue t.tells_made → KeepsOthers t u (replay_files n)) → IsTrue s.tells_made → KeepsOthers s u (replay_files n)
   others_before keeps told = λ name none. keeps (made f x told) name none ∙ ap (λ (m : List ℕ → _). m name) x.reads.keeps.made
 
-  began_before : (IsTrue t.tells_made → KeepsOthers t u (replay_files n)) → Began t u (replay_files n) f.c → BeganReplay s u n
+  began_before : (IsTrue t.tells_made → KeepsOthers t u (replay_files n)) → Began t u (replay_files n) (AreHandledBy f.c) → BeganReplay s u n
   began_before keeps b = record {
     c = f.c;
     spec = f.spec;
     verified = x.verified;
     began = record {
       frames = b.frames;
+      history = b.history;
       ports = b.ports;
       first = λ told. first_before (same f x) (b.first (held f x told));
       wrote = λ told. WroteParts-before s t u x.reads.keeps.made (b.wrote (made f x told));
@@ -101,15 +105,15 @@ module _ {s t : Disk} (u : Disk) {n : Files} (f : Functions) (x : ReadsFunctions
   unwritten m w = record { made = m ∙ x.reads.keeps.made; write_faults = w ∙ x.reads.keeps.write_faults }
 
   after_record : (port number : ℕ) (why : Damage) → (IsTrue t.tells_made → KeepsOthers t u (replay_files n)) →
-      StopsAtRecord t u (replay_files n) f.c port number why → Leaves s u n (Capture port (Record number why))
+      StopsAtRecord t u (replay_files n) (AreHandledBy f.c) port number why → Leaves s u n (Capture port (Record number why))
   after_record port number why keeps y = record {
     c = f.c;
     spec = f.spec;
     verified = x.verified;
-    frames = y.frames;
-    ports = y.ports;
+    frames = arrivals_of y.frames;
+    ports = rw y.history at y.ports;
     handled = λ told. AreUpTo-before (same f x) (y.up_to (held f x told));
-    wrote = λ told. WroteAll-before s t u (y.wrote (made f x told));
+    wrote = λ told. rw y.history at (WroteAll-before s t u (y.wrote (made f x told)));
     others = others_before keeps;
     read_faults = y.read_faults ∙ x.reads.same;
   }
@@ -126,7 +130,7 @@ module _ {s t : Disk} (u : Disk) {n : Files} (f : Functions) (x : ReadsFunctions
     read_faults = y.no_fault.read_faults ∙ x.reads.same;
   }
 
-  pub replay_stops : (e : RunStop) → (IsTrue t.tells_made → KeepsOthers t u (replay_files n)) → StopsReplay t u (replay_files n) f.c e → Leaves s u n (stop_of e)
+  pub replay_stops : (e : RunStop Infallible) → (IsTrue t.tells_made → KeepsOthers t u (replay_files n)) → StopsReplay t u (replay_files n) (AreHandledBy f.c) never_stops e → Leaves s u n (stop_of e)
   replay_stops (stops.Capture port (Header field)) keeps y = at_header port field y
   replay_stops (stops.Capture port (Record number why)) keeps y = after_record port number why keeps y
   replay_stops stops.Read keeps y = (
@@ -141,18 +145,19 @@ module _ {s t : Disk} (u : Disk) {n : Files} (f : Functions) (x : ReadsFunctions
     c = f.c;
     spec = f.spec;
     verified = x.verified;
-    frames = y.frames;
-    ports = y.ports;
+    frames = arrivals_of y.frames;
+    ports = rw y.history at y.ports;
     handled = λ told. AreTooMany-before (same f x) (y.too_many (held f x told));
-    wrote = λ told. WroteAll-before s t u (y.wrote (made f x told));
+    wrote = λ told. rw y.history at (WroteAll-before s t u (y.wrote (made f x told)));
     others = others_before keeps;
     read_faults = y.read_faults ∙ x.reads.same;
   }
+  replay_stops (stops.Handler reason) keeps y = absurd y.stops
   replay_stops stops.Memory keeps y =
       (unwritten y.0 y.1.write_faults, y.1.read_faults ∙ x.reads.same)
 
   pub replay_done : (r : Report) → IsPathCount f.c f.spec f.spec.ports r.paths → IsMostSteps f.c f.spec.ports r.steps → (IsTrue t.tells_made → KeepsOthers t u (replay_files n)) →
-      HasReplayed t u (replay_files n) f.c r.totals → HasRun s u n r
+      HasReplayed t u (replay_files n) (AreHandledBy f.c) r.totals → HasRun s u n r
   replay_done r paths steps keeps y = record {
     c = f.c;
     spec = f.spec;
@@ -161,6 +166,7 @@ module _ {s t : Disk} (u : Disk) {n : Files} (f : Functions) (x : ReadsFunctions
     steps = steps;
     replayed = record {
       frames = y.frames;
+      history = y.history;
       ports = y.ports;
       all = λ told. AreAll-before (same f x) (y.all (held f x told));
       totals_are = y.totals_are;
@@ -170,8 +176,8 @@ module _ {s t : Disk} (u : Disk) {n : Files} (f : Functions) (x : ReadsFunctions
     others = others_before keeps;
   }
 
-  pub held_after : {r : Result Totals RunStop} → Replays t u (replay_files n) f.c r → SameHeld s u
+  pub held_after : {r : Result Totals (RunStop Infallible)} → Replays t u (replay_files n) (AreHandledBy f.c) never_stops r → SameHeld s u
   held_after y = SameHeld-trans x.reads.keeps.held y.held
 
-  pub ids_after : {r : Result Totals RunStop} → Replays t u (replay_files n) f.c r → SameIds s u
+  pub ids_after : {r : Result Totals (RunStop Infallible)} → Replays t u (replay_files n) (AreHandledBy f.c) never_stops r → SameIds s u
   ids_after y = SameIds-trans x.reads.ids y.ids

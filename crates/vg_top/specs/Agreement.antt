@@ -2,7 +2,7 @@
 use Rattle.std.specs.Prelude.{ℕ, ◌≡◌, ◌≢◌, ◌<◌, ◌≤◌, List, length, Bool, All, AllPairs, Contains}
 use Rattle.vg_small.specs.declared.small.Small.{Small}
 use Rattle.vg_small.specs.Meaning.{steps_at, sides_at}
-use Rattle.vg_replay.specs.Outputs.{verdict_by}
+use Rattle.vg_top.specs.Frames.{verdict_by}
 
 -- two functions do the same with a frame of this port
 abbrev pub AgreeAt : Small → Small → ℕ → Type 0

@@ -6,7 +6,8 @@ use Rattle.vg_command.specs.Commands.{Files}
 use Rattle.vg_small.specs.declared.small.Small.{Small}
 use Rattle.vg_pcap.specs.declared.faults.CaptureRefusal.TheVariants.{Record}
 use Rattle.vg_pcap.specs.Arrivals.{Arrival}
-use Rattle.vg_replay.specs.Outputs.{handled_by, capture_to, log_of, totals_of}
+use Rattle.vg_replay.specs.Outputs.{capture_to, log_of, totals_of}
+use Rattle.vg_top.specs.Frames.{handled_by, AreHandledBy}
 use Rattle.vg_replay.specs.Replays.{KeepsOthers, WroteAll, AreAll, AreUpTo, AreTooMany, HavePorts, Began, NoFault}
 use Rattle.vg_top.specs.declared.stop.Stop.{Stop}
 use Rattle.vg_top.specs.declared.stop.Stop.TheVariants.{Capture, Read, Write, Memory, Frames}
@@ -29,7 +30,7 @@ pub record BeganReplay (s t : Disk) (n : Files) : Type 0 where
   pub c : Small
   pub spec : Small
   pub verified : AreVerified s n c spec
-  pub began : Began s t (replay_files n) c
+  pub began : Began s t (replay_files n) (AreHandledBy c)
   pub others : IsTrue s.tells_made → KeepsOthers s t (replay_files n)
 
 -- ---- a run that was done
@@ -69,9 +70,9 @@ pub record StopsAfter (s t : Disk) (n : Files) (Reason : List Arrival → Type 0
   pub spec : Small
   pub verified : AreVerified s n c spec
   pub frames : List Arrival
-  pub ports : HavePorts (replay_files n) frames
+  pub ports : HavePorts (replay_files n) (handled_by c frames)
   pub handled : IsTrue s.tells_held → Reason frames
-  pub wrote : IsTrue s.tells_made → WroteAll s t (replay_files n) c frames
+  pub wrote : IsTrue s.tells_made → WroteAll s t (replay_files n) (handled_by c frames)
   pub others : IsTrue s.tells_made → KeepsOthers s t (replay_files n)
   pub read_faults : t.read_faults ≡ s.read_faults
 

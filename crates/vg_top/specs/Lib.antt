@@ -1,3 +1,4 @@
+pub mod Frames
 pub mod Agreement
 pub mod Runs
 pub mod Endings

@@ -9,6 +9,7 @@ use Rattle.vg_top.specs.declared.stop.Stop.{Stop}
 use Rattle.vg_top.specs.Agreement.{IsPathCount, IsMostSteps}
 use Rattle.vg_top.specs.Effects.{Leaves}
 use Rattle.vg_top.specs.Endings.{AreVerified}
+use Rattle.vg_top.specs.Frames.{AreHandledBy}
 use Rattle.vg_top.specs.Runs.{replay_files}
 
 -- a run on these files was done, and this is its report
@@ -18,7 +19,7 @@ pub record HasRun (s t : Disk) (n : Files) (r : Report) : Type 0 where
   pub verified : AreVerified s n c spec
   pub paths : IsPathCount c spec spec.ports r.paths
   pub steps : IsMostSteps c spec.ports r.steps
-  pub replayed : HasReplayed s t (replay_files n) c r.totals
+  pub replayed : HasReplayed s t (replay_files n) (AreHandledBy c) r.totals
   pub others : IsTrue s.tells_made → KeepsOthers s t (replay_files n)
 
 -- a run on these files, up to its printing

@@ -8,7 +8,7 @@ use Rattle.vg_small.specs.declared.small.Lang.{Lang}
 use Rattle.vg_small.specs.declared.small.Lang.TheVariants.{C, Spec}
 use Rattle.vg_small.specs.Meaning.{SendsBelow}
 use Rattle.vg_small.specs.Spelling.{Spells, SpellsNone}
-use Rattle.vg_replay.specs.Replays.{TakesFewSteps}
+use Rattle.vg_top.specs.Frames.{TakesFewSteps}
 use Rattle.vg_top.specs.declared.setup.Texts.{Texts}
 use Rattle.vg_top.specs.declared.setup.Functions.{Functions}
 use Rattle.vg_top.specs.declared.stop.Stop.{Stop}

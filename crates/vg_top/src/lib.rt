@@ -2,6 +2,7 @@
 #![tactic(auto)]
 
 mod agreement;
+mod handler;
 mod limits;
 mod lines;
 mod report;

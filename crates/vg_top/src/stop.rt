@@ -2,6 +2,7 @@
 ghost use Rattle.std.specs.Prelude.{◌≡◌};
 ghost use Rattle.vg_top.specs.Stops.{stop_of};
 
+use std::convert::Infallible;
 use vg_pcap::CaptureRefusal;
 use vg_replay::RunStop;
 use vg_small::Lang;
@@ -61,7 +62,7 @@ impl Stop {
 }
 
 // Why a run stops whose replay stopped.
-pub(crate) fn stop_of(stop: RunStop) -> Stop
+pub(crate) fn stop_of(stop: RunStop<Infallible>) -> Stop
     ensures { result ≡ stop_of stop }
 {
     match stop {
@@ -70,5 +71,6 @@ pub(crate) fn stop_of(stop: RunStop) -> Stop
         RunStop::Write => Stop::Write,
         RunStop::Frames => Stop::Frames,
         RunStop::Memory => Stop::Memory,
+        RunStop::Handler(never) => match never {},
     }
 }

@@ -11,6 +11,7 @@ ghost use Rattle.vg_top.specs.Effects.{Unwritten, BeganReplay, RunsOn, Prints, A
 ghost use Rattle.vg_top.specs.Running.{Runs};
 
 use crate::agreement::{most_steps, path_count};
+use crate::handler::SmallHandler;
 use crate::lines::{refusal_text, report_text};
 use crate::report::Report;
 use crate::setup::{Functions, read_functions};
@@ -52,7 +53,8 @@ fn run_files<F: Files>(alloc: Global, files: &mut F, names: &FileNames<'_>) -> R
     let Functions { c, spec } = functions;
     let paths = path_count(&c, &spec);
     let steps = most_steps(&c, spec.ports);
-    match replay(alloc, c, files, names.log, names.ins, names.outs) {
+    let handler = SmallHandler { function: c };
+    match replay(alloc, handler, files, names.log, names.ins, names.outs) {
         Ok(totals) => Ok(Report {
             paths,
             steps,

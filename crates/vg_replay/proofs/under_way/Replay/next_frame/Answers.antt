@@ -1,7 +1,8 @@
 use Rattle.std.proofs.Common.{ap}
+use Rattle.vg_replay.proofs.Histories.{after_none}
 use Rattle.vg_replay.proofs.Stopping.{stopped, stopped_begun}
 use Rattle.vg_replay.proofs.Handling.{next_ends, next_end_fails}
-use Rattle.vg_replay.specs.UnderWay.{Replaying}
+use Rattle.vg_replay.specs.UnderWay.{ReplayOf}
 use Rattle.vg_replay.proofs.under_way.Replay.next_frame.Goals as goal
 
 pub close-requires-clause-readable : goal.close-requires-clause-readable
@@ -26,13 +27,13 @@ returns-in-Ok-true g c = rw c.in-Ok-true.field-0-test at c.in-Ok-true.ensures
 pub returns-in-Ok : goal.returns-in-Ok
 returns-in-Ok g c = λ s n past x.
     let done = (rw c.in-Ok-false.field-0-test at c.in-Ok-false.ensures) s n past x in
-    let totals = ap (λ (r : Replaying). r.totals) c.replay.view_is in
-    rw totals (next_ends x done.0 done.1 done.2 c.in-Ok.ensures)
+    let totals = ap (λ (r : ReplayOf _). r.files.totals) c.replay.view_is in
+    rw totals (next_ends (after_none g.H.Handler.handles g.H.Handler.stops_at past c.args.self.handler) x (ap (λ (r : ReplayOf _). r.files) done.0) done.1 done.2 c.in-Ok.ensures)
 
 pub returns-in-Err-close : goal.returns-in-Err-close
 returns-in-Err-close g c = λ s n past x.
     let done = (rw c.in-Ok-false.field-0-test at c.in-Ok-false.ensures) s n past x in
-    let failed = next_end_fails x done.0 done.1 c.in-Err-close.ensures in
+    let failed = next_end_fails (after_none g.H.Handler.handles g.H.Handler.stops_at past c.args.self.handler) x (ap (λ (r : ReplayOf _). r.files) done.0) done.1 c.in-Err-close.ensures in
     (failed.stops, failed)
 
 pub returns-in-Err : goal.returns-in-Err

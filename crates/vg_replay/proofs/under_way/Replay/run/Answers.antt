@@ -1,38 +1,42 @@
-use Rattle.std.proofs.Common.{◌∙◌, [], ◌∷◌, ◌++◌, length-append, arith}
-use Rattle.vg_replay.proofs.Handling.{past_number}
+use Rattle.std.proofs.Common.{[], ◌∷◌, ◌++◌, refl, append-nil, append_assoc, length-append, arith}
+use Rattle.vg_replay.proofs.Handling.{past_number, replays_earlier, begun_earlier}
+use Rattle.vg_replay.proofs.Histories.{HandlesAll-push}
 use Rattle.vg_replay.proofs.under_way.Replay.run.Goals as goal
+
+pub loop-next-init : goal.loop-next-init
+loop-next-init g c = λ s n before x. ([], refl, rw append-nil x)
 
 pub next_frame-requires : goal.next_frame-requires
 next_frame-requires g c =
-    let now = c.loop-next.invariant.1 c.requires.0 c.requires.1 c.requires.2 c.requires.3 in
-    (c.requires.0, c.requires.1, now.0, now.1)
+    let now = c.loop-next.invariant c.requires.0 c.requires.1 c.requires.2 c.requires.3 in
+    (c.requires.0, c.requires.1, c.requires.2 ++ now.0, now.2)
 
 pub loop-next-smaller : goal.loop-next-smaller
 loop-next-smaller g c =
-    let now = c.loop-next.invariant.1 c.requires.0 c.requires.1 c.requires.2 c.requires.3 in
-    let next = (rw c.in-Ok-Again.field-0-is at c.in-Ok-Again.ensures) c.requires.0 c.requires.1 now.0 now.1 in
-    omega (arith, past_number now.1, past_number next.3, next.3.few, length-append now.0 (next.1 ∷ []))
+    let now = c.loop-next.invariant c.requires.0 c.requires.1 c.requires.2 c.requires.3 in
+    let past = c.requires.2 ++ now.0 in
+    let next = (rw c.in-Ok-Again.field-0-is at c.in-Ok-Again.ensures) c.requires.0 c.requires.1 past now.2 in
+    omega (arith, past_number {past = past} now.2, past_number {past = past ++ next.0 ∷ []} next.3, next.3.few, length-append past (next.0 ∷ []))
 
 pub loop-next-preserved : goal.loop-next-preserved
 loop-next-preserved g c =
     let again = rw c.in-Ok-Again.field-0-is at c.in-Ok-Again.ensures in
-    let past = c.loop-next.invariant.1 c.requires.0 c.requires.1 c.requires.2 c.requires.3 in
-    let function = (again c.requires.0 c.requires.1 past.0 past.1).0 in (
-      function ∙ c.loop-next.invariant.0,
-      λ s n before x.
-          let now = c.loop-next.invariant.1 s n before x in
-          let next = again s n now.0 now.1 in
-          (now.0 ++ next.1 ∷ [], next.3),
+    λ s n before x.
+    let now = c.loop-next.invariant s n before x in
+    let next = again s n (before ++ now.0) now.2 in (
+      now.0 ++ next.0 ∷ [],
+      HandlesAll-push g.H.Handler.handles g.H.Handler.stops_at _ now.0 _ next.0 _ now.1 next.1,
+      rw append_assoc at next.3,
     )
 
 pub returns-in-Ok-End : goal.returns-in-Ok-End
 returns-in-Ok-End g c = λ s n before x.
-    let now = c.loop-next.invariant.1 s n before x in
-    let end = (rw c.in-Ok-End.field-0-is at c.in-Ok-End.ensures) s n now.0 now.1 in
-    rw (← c.loop-next.invariant.0) end.1
+    let now = c.loop-next.invariant s n before x in
+    let end = (rw c.in-Ok-End.field-0-is at c.in-Ok-End.ensures) s n (before ++ now.0) now.2 in
+    replays_earlier g.H.Handler.handles g.H.Handler.stops_at before now.0 _ _ now.1 s _ n _ end.1
 
 pub returns-in-Err : goal.returns-in-Err
 returns-in-Err g c = λ s n before x.
-    let now = c.loop-next.invariant.1 s n before x in
-    let stop = c.in-Err.ensures s n now.0 now.1 in
-    rw (← c.loop-next.invariant.0) stop
+    let now = c.loop-next.invariant s n before x in
+    let stop = c.in-Err.ensures s n (before ++ now.0) now.2 in
+    (begun_earlier g.H.Handler.handles g.H.Handler.stops_at before now.0 _ _ now.1 s _ n _ stop.0, replays_earlier g.H.Handler.handles g.H.Handler.stops_at before now.0 _ _ now.1 s _ n _ stop.1)

@@ -1,0 +1,26 @@
+//! What a replay puts its frames through.
+ghost use Rattle.std.specs.Prelude.{◌≤◌, ◌^◌, IfOk, IfErr};
+ghost use Rattle.vg_pcap.specs.Arrivals.{Arrival};
+ghost use Rattle.vg_replay.specs.Outputs.{Handled};
+ghost use Rattle.vg_replay.specs.View.{arrival_of, handled_as};
+
+use crate::handled::{Frame, Outcome};
+
+/// What a replay puts its frames through, one after another. It may change with each.
+pub trait Handler: Drop {
+    /// Why it stops.
+    type Stop: Drop;
+
+    /// In the first state a frame is handled so, and that leads to the second state.
+    ghost handles: { Self → Handled → Self → Type 0 };
+
+    /// In this state it stops at a frame for this reason.
+    ghost stops_at: { Self → Arrival → Self.Stop → Type 0 };
+
+    /// Handles a frame, or stops before it: then the replay ends, and the frame is neither written nor told in the log. A frame takes at most 2^31 steps, so
+    /// that those of all frames can be counted.
+    fn handle(&mut self, frame: &Frame<'_>) -> Result<Outcome, Self::Stop>
+        ensures handled { IfOk result (λ o. handles self.old (handled_as frame.now o) self.new) }
+        ensures few { IfOk result (λ o. o.steps ≤ 2 ^ 31) }
+        ensures stops { IfErr result (stops_at self.old (arrival_of frame.now)) };
+}
