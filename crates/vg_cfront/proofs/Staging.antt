@@ -70,3 +70,36 @@ pub types_fault : (text : List ℕ) (given : List Token) (tree : Syntax) (r : Re
 types_fault text given tree r f is are spells (inl none) = subst (λ (s : Result Typed CFault). IfErr s (λ e. (e ≡ Memory) ⊎ Refuses text e)) (sym is) (inl (ap of_types none))
 types_fault text given tree r f is are spells (inr first) =
     subst (λ (s : Result Typed CFault). IfErr s (λ e. (e ≡ Memory) ⊎ Refuses text e)) (sym is) (inr (inr (inr (given, are, tree, spells, f, first, refl))))
+
+-- ---- the fault that a text has is the one that is answered
+
+pub told : (r : Result Typed CFault) (x e : CFault) → r ≡ Err x → (x ≡ Memory) ⊎ (x ≡ e) → MatchResult r (λ _. ⊥) (λ f. (f ≡ Memory) ⊎ (f ≡ e))
+told r x e is h = subst (λ (s : Result Typed CFault). MatchResult s (λ _. ⊥) (λ f. (f ≡ Memory) ⊎ (f ≡ e))) (sym is) h
+
+-- where the bytes are no tokens
+pub bytes_told : (text : List ℕ) (g : TokFault) → ((f : TokFault) → texts.Refuses text f → (g ≡ tok.Memory) ⊎ (g ≡ f)) → ((ts : List Token) → AreTokens text ts → g ≡ tok.Memory)
+    → (e : CFault) → Refuses text e → (of_tokens g ≡ Memory) ⊎ (of_tokens g ≡ e)
+bytes_told text g first none e (inl (f, is, same)) = elim (first f is) [ inl m ↦ inl (ap of_tokens m) | inr s ↦ inr (ap of_tokens s ∙ sym same) ]
+bytes_told text g first none e (inr (inl (ts, are, f, is, same))) = inl (ap of_tokens (none ts are))
+bytes_told text g first none e (inr (inr (ts, are, tree, spells, f, is, same))) = inl (ap of_tokens (none ts are))
+
+module _ (text : List ℕ) (given : List Token) (one : (ts : List Token) → AreTokens text ts → given ≡ ts) (cut : (f : TokFault) → texts.Refuses text f → ⊥) where
+  -- where the tokens spell no tree
+  pub tokens_told : (g : ReadFault) → ((f : ReadFault) → trees.Refuses given f → (g ≡ read.Memory) ⊎ (g ≡ f)) → ((tree : Syntax) → Spells 64 given tree → g ≡ read.Memory)
+      → (e : CFault) → Refuses text e → (of_tree g ≡ Memory) ⊎ (of_tree g ≡ e)
+  tokens_told g first none e (inl (f, is, same)) = absurd (cut f is)
+  tokens_told g first none e (inr (inl (ts, are, f, is, same))) =
+      elim (first f (subst (λ l. trees.Refuses l f) (sym (one ts are)) is)) [ inl m ↦ inl (ap of_tree m) | inr s ↦ inr (ap of_tree s ∙ sym same) ]
+  tokens_told g first none e (inr (inr (ts, are, tree, spells, f, is, same))) = inl (ap of_tree (none tree (subst (λ l. Spells 64 l tree) (sym (one ts are)) spells)))
+
+  -- where the tree isn't well typed
+  pub tree_told : (tree : Syntax) → ((other : Syntax) → Spells 64 given other → tree ≡ other) → ((f : ReadFault) → trees.Refuses given f → ⊥)
+      → (g : TypeFault) → ((f : TypeFault) → IsFirstFault text tree f → (g ≡ types.Memory) ⊎ (g ≡ f))
+      → (e : CFault) → Refuses text e → (of_types g ≡ Memory) ⊎ (of_types g ≡ e)
+  tree_told tree spells whole g first e (inl (f, is, same)) = absurd (cut f is)
+  tree_told tree spells whole g first e (inr (inl (ts, are, f, is, same))) = absurd (whole f (subst (λ l. trees.Refuses l f) (sym (one ts are)) is))
+  tree_told tree spells whole g first e (inr (inr (ts, are, other, spelled_by, f, is, same))) =
+      elim (first f (subst (λ (t : Syntax). IsFirstFault text t f) (sym (spells other (subst (λ l. Spells 64 l other) (sym (one ts are)) spelled_by))) is)) [
+        | inl m ↦ inl (ap of_types m)
+        | inr s ↦ inr (ap of_types s ∙ sym same)
+      ]

@@ -1,5 +1,5 @@
 //! One call from a text to its typed unit.
-ghost use Rattle.std.specs.Prelude.{◌≡◌, ◌<◌, ◌^◌, ◌⊎◌, length, IfOk, IfErr, IsErr, MatchResult};
+ghost use Rattle.std.specs.Prelude.{◌≡◌, ◌<◌, ◌^◌, ◌⊎◌, length, IfOk, IfErr, MatchResult};
 ghost use Rattle.vg_core.specs.Units.{Typed};
 ghost use Rattle.vg_ctyper.specs.Names.{spelling};
 ghost use Rattle.vg_cfront.specs.Refusals.{Refuses};
@@ -16,14 +16,14 @@ use vg_ctyper::type_unit;
 
 /// The typed unit of a C text of less than 2^31 bytes: its tokens are cut, they are read as a tree, and the tree is typed.
 ///
-/// A fault is answered exactly where the text has one: of its bytes, or where they are tokens of these, or where these spell a
-/// tree of its types. `Memory` is answered where memory ran out.
+/// A fault is answered exactly where the text has one, and it is that one: of its bytes, or where they are tokens of these, or
+/// where these spell a tree of its types. `Memory` is answered where memory ran out.
 pub fn read_c(alloc: Global, text: &[u8]) -> Result<Unit, CFault>
     requires { length text.now < 2 ^ 31 }
     ensures unit { IfOk result (λ u. IsUnitOf text.now u) }
     ensures fault { IfErr result (λ e. (e ≡ faults.Memory) ⊎ Refuses text.now e) }
     ensures only_unit { (u : Typed) → IsUnitOf text.now u → MatchResult result (λ v. v ≡ u) (λ e. e ≡ faults.Memory) }
-    ensures refused { (e : CFault) → Refuses text.now e → IsErr result }
+    ensures only_fault { (e : CFault) → Refuses text.now e → MatchResult result (λ _. ⊥) (λ f. (f ≡ faults.Memory) ⊎ (f ≡ e)) }
 {
     let toks = tokens(alloc, text)?;
     let tree = read_unit(alloc, &toks)?;

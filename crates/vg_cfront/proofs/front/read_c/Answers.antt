@@ -3,7 +3,7 @@ use Rattle.vg_core.specs.Syntax.{Syntax}
 use Rattle.vg_ctok.specs.declared.kinds.Token.{Token}
 use Rattle.vg_cread.specs.Spelling.{Spells}
 use Rattle.vg_cfront.specs.Refusals.{of_tokens, of_tree, of_types}
-use Rattle.vg_cfront.proofs.Staging.{err_is, tokens_only, tree_only, type_only, unit_only, not_refused, types_fault}
+use Rattle.vg_cfront.proofs.Staging.{err_is, tokens_only, tree_only, type_only, unit_only, not_refused, types_fault, told, bytes_told, tokens_told, tree_told}
 use Rattle.vg_cfront.proofs.front.read_c.Goals as goal
 
 pub returns-in_err-toks-clause-only_unit : goal.returns-in_err-toks-clause-only_unit
@@ -43,8 +43,26 @@ returns-clause-only_unit c =
     unit_only c.args.text.now c.deref.result.now (λ ts are. c.deref.ensures.value ∙ c.in_ok-toks.ensures.only_tokens ts are) c.in_ok-tree.tree c.in_ok-tree.ensures.only_tree
     c.in_ok-type_unit.field-0 c.in_ok-type_unit.ensures.text c.in_ok-type_unit.ensures.tree c.in_ok-type_unit.ensures.only_typed
 
-pub returns-clause-refused : goal.returns-clause-refused
-returns-clause-refused c = λ e is.
-    absurd
-    (not_refused c.args.text.now c.deref.result.now (λ ts are. c.deref.ensures.value ∙ c.in_ok-toks.ensures.only_tokens ts are) c.in_ok-tree.tree c.in_ok-tree.ensures.only_tree
-    c.in_ok-toks.ensures.first_fault c.in_ok-tree.ensures.only_fault c.in_ok-type_unit.ensures.only_fault e is)
+pub returns-clause-only_fault : goal.returns-clause-only_fault
+returns-clause-only_fault c = λ e is.
+    not_refused c.args.text.now c.deref.result.now (λ ts are. c.deref.ensures.value ∙ c.in_ok-toks.ensures.only_tokens ts are) c.in_ok-tree.tree c.in_ok-tree.ensures.only_tree
+    c.in_ok-toks.ensures.first_fault c.in_ok-tree.ensures.only_fault c.in_ok-type_unit.ensures.only_fault e is
+
+pub returns-in_err-toks-clause-only_fault : goal.returns-in_err-toks-clause-only_fault
+returns-in_err-toks-clause-only_fault c = λ e is.
+    told c.from_residual.result (of_tokens c.in_err-toks.field-0.0) e (err_is c.from_residual.result (of_tokens c.in_err-toks.field-0.0) c.from_residual.ensures)
+    (bytes_told c.args.text.now c.in_err-toks.field-0.0 c.in_err-toks.ensures.first_fault c.in_err-toks.ensures.only_tokens e is)
+
+pub returns-in_err-tree-clause-only_fault : goal.returns-in_err-tree-clause-only_fault
+returns-in_err-tree-clause-only_fault c = λ e is.
+    told c.from_residual-in_err-tree.result (of_tree c.in_err-tree.field-0.0) e
+    (err_is c.from_residual-in_err-tree.result (of_tree c.in_err-tree.field-0.0) c.from_residual-in_err-tree.ensures)
+    (tokens_told c.args.text.now c.deref.result.now (λ ts are. c.deref.ensures.value ∙ c.in_ok-toks.ensures.only_tokens ts are) c.in_ok-toks.ensures.first_fault
+        c.in_err-tree.field-0.0 c.in_err-tree.ensures.only_fault c.in_err-tree.ensures.only_tree e is)
+
+pub returns-in_err-type_unit-clause-only_fault : goal.returns-in_err-type_unit-clause-only_fault
+returns-in_err-type_unit-clause-only_fault c = λ e is.
+    told c.from_residual-in_err-type_unit.result (of_types c.in_err-type_unit.field-0.0) e
+    (err_is c.from_residual-in_err-type_unit.result (of_types c.in_err-type_unit.field-0.0) c.from_residual-in_err-type_unit.ensures)
+    (tree_told c.args.text.now c.deref.result.now (λ ts are. c.deref.ensures.value ∙ c.in_ok-toks.ensures.only_tokens ts are) c.in_ok-toks.ensures.first_fault
+        c.in_ok-tree.tree c.in_ok-tree.ensures.only_tree c.in_ok-tree.ensures.only_fault c.in_err-type_unit.field-0.0 c.in_err-type_unit.ensures.only_fault e is)
