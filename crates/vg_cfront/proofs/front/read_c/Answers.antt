@@ -1,4 +1,4 @@
-use Rattle.std.proofs.Common.{◌≡◌, ◌∙◌, ℕ, List, sym, subst}
+use Rattle.std.proofs.Common.{◌∙◌, List, sym, subst}
 use Rattle.vg_core.specs.Syntax.{Syntax}
 use Rattle.vg_ctok.specs.declared.kinds.Token.{Token}
 use Rattle.vg_cread.specs.Spelling.{Spells}
@@ -58,11 +58,11 @@ returns-in_err-tree-clause-only_fault c = λ e is.
     told c.from_residual-in_err-tree.result (of_tree c.in_err-tree.field-0.0) e
     (err_is c.from_residual-in_err-tree.result (of_tree c.in_err-tree.field-0.0) c.from_residual-in_err-tree.ensures)
     (tokens_told c.args.text.now c.deref.result.now (λ ts are. c.deref.ensures.value ∙ c.in_ok-toks.ensures.only_tokens ts are) c.in_ok-toks.ensures.first_fault
-        c.in_err-tree.field-0.0 c.in_err-tree.ensures.only_fault c.in_err-tree.ensures.only_tree e is)
+    c.in_err-tree.field-0.0 c.in_err-tree.ensures.only_fault c.in_err-tree.ensures.only_tree e is)
 
 pub returns-in_err-type_unit-clause-only_fault : goal.returns-in_err-type_unit-clause-only_fault
 returns-in_err-type_unit-clause-only_fault c = λ e is.
     told c.from_residual-in_err-type_unit.result (of_types c.in_err-type_unit.field-0.0) e
     (err_is c.from_residual-in_err-type_unit.result (of_types c.in_err-type_unit.field-0.0) c.from_residual-in_err-type_unit.ensures)
     (tree_told c.args.text.now c.deref.result.now (λ ts are. c.deref.ensures.value ∙ c.in_ok-toks.ensures.only_tokens ts are) c.in_ok-toks.ensures.first_fault
-        c.in_ok-tree.tree c.in_ok-tree.ensures.only_tree c.in_ok-tree.ensures.only_fault c.in_err-type_unit.field-0.0 c.in_err-type_unit.ensures.only_fault e is)
+    c.in_ok-tree.tree c.in_ok-tree.ensures.only_tree c.in_ok-tree.ensures.only_fault c.in_err-type_unit.field-0.0 c.in_err-type_unit.ensures.only_fault e is)
