@@ -156,18 +156,18 @@ began_after : (s t : Disk) {n : Files} {Reason : List Arrival → Type 0} → ((
 began_after s t {n} first x =
     let came : arrivals_of (handled_by x.c x.frames) ≡ x.frames = arrivals_of-handled x.c x.frames in
     record {
-  c = x.c;
-  spec = x.spec;
-  verified = x.verified;
-  began = record {
-    frames = handled_by x.c x.frames;
-    history = rw came refl;
-    ports = x.ports;
-    first = λ told. rw came (first x.frames (x.handled told));
-    wrote = λ told. parts_of_all s t (handled_by x.c x.frames) (x.wrote told);
-  };
-  others = x.others;
-}
+      c = x.c;
+      spec = x.spec;
+      verified = x.verified;
+      began = record {
+        frames = handled_by x.c x.frames;
+        history = rw came refl;
+        ports = x.ports;
+        first = λ told. rw came (first x.frames (x.handled told));
+        wrote = λ told. parts_of_all s t (handled_by x.c x.frames) (x.wrote told);
+      };
+      others = x.others;
+    }
 
 pub outputs_after : {words : List (List ℕ)} (s t : Disk) {n : Files} (stop : Stop) → IsRun words n → Leaves s t n stop → Unwritten s t ⊎ RunsOn words (BeganReplay s t)
 outputs_after s t Read run (_, inl none) = inl none
