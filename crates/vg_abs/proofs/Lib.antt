@@ -2,4 +2,5 @@ pub mod TableLaws
 pub mod Evaluations
 pub mod Starting
 pub mod OpeningLaws
+pub mod OpeningIsLawful
 pub mod Forgetting

@@ -11,17 +11,17 @@ use Rattle.vg_abs.specs.Opening.{zero_cells, opening_link, LinkOpensLawful}
 use Rattle.vg_abs.proofs.Starting.{same_test}
 
 -- nothing is nothing
-no_some : {X : Type 0} (found : Option X) (x : X) → found ≡ None → found ≡ Some x → ⊥
+pub no_some : {X : Type 0} (found : Option X) (x : X) → found ≡ None → found ≡ Some x → ⊥
 no_some found x none some = absurd (cc)
 
 -- what stands at a number after one cell more
-one_more : (count bytes index : ℕ) → get (zero_cells (suc count) bytes) index ≡ cond (count == index) (Some (replicate bytes 0)) (get (zero_cells count bytes) index)
+pub one_more : (count bytes index : ℕ) → get (zero_cells (suc count) bytes) index ≡ cond (count == index) (Some (replicate bytes 0)) (get (zero_cells count bytes) index)
 one_more count bytes index =
     get-insert nat_cmp_total (zero_cells count bytes) count (replicate bytes 0) index
     ∙ ap (λ b. cond b (Some (replicate bytes 0)) (get (zero_cells count bytes) index)) (same_test index count)
 
 -- each cell is there
-zero_there : (count bytes index : ℕ) → index < count → IsSome (get (zero_cells count bytes) index)
+pub zero_there : (count bytes index : ℕ) → index < count → IsSome (get (zero_cells count bytes) index)
 zero_there zero bytes index less = absurd (omega arith)
 zero_there (suc count) bytes index less = elim (cases_eq count index) [
   | inl same ↦ subst (λ (found : Option (List ℕ)). IsSome found) (sym (one_more count bytes index ∙ ap (λ b. cond b (Some (replicate bytes 0)) (get (zero_cells count bytes) index)) (eq-eqb count index same))) refl
@@ -30,7 +30,7 @@ zero_there (suc count) bytes index less = elim (cases_eq count index) [
 ]
 
 -- and no other
-zero_none : (count bytes index : ℕ) (cell : List ℕ) → get (zero_cells count bytes) index ≡ Some cell → index < count
+pub zero_none : (count bytes index : ℕ) (cell : List ℕ) → get (zero_cells count bytes) index ≡ Some cell → index < count
 zero_none zero bytes index cell found = absurd (no_some (get (empty {X = List ℕ} {R = nat_cmp}) index) cell (get-empty nat_cmp index) found)
 zero_none (suc count) bytes index cell found = elim (cases_eq count index) [
   | inl same ↦ omega arith

@@ -21,7 +21,7 @@ use Rattle.vg_abs.specs.State.{State}
 use Rattle.vg_abs.specs.Fields.{with_field}
 use Rattle.vg_abs.specs.Expressions.{PremiseHolds}
 use Rattle.vg_abs.specs.Shape.{size_of}
-use Rattle.vg_abs.specs.Lawful.{Holds, IsLawfulLink}
+use Rattle.vg_abs.specs.Lawful.{Holds, IsLawful, IsLawfulLink}
 
 -- so many cells of so many zeros
 abbrev pub zero_cells : ℕ → ℕ → CellTable
@@ -132,3 +132,7 @@ pub record IsValid (spec : Specification) (config : Configuration) : Type 0 wher
 -- a link is lawful at the start
 abbrev pub LinkOpensLawful : Type 0
 LinkOpensLawful = (capacity key_length : ℕ) → IsLawfulLink 0 (opening_link capacity key_length)
+
+-- the state that a valid configuration opens with is lawful at the time 0
+abbrev pub StateOpensLawful : Type 0
+StateOpensLawful = (spec : Specification) (config : Configuration) → IsValid spec config → IsLawful spec config.numbers 0 (opening spec config)

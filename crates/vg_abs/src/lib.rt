@@ -16,7 +16,9 @@ mod tests;
 pub use bytes::Bytes;
 pub use evaluation::{Scope, operate, value};
 pub use keyed::Keyed;
-pub use laws::{an_opening_link_is_lawful, only_what_goes_is_forgotten};
+pub use laws::{
+    an_opening_link_is_lawful, an_opening_state_is_lawful, only_what_goes_is_forgotten,
+};
 pub use library::Lib;
 pub use numbered::Numbered;
 pub use object::{LinkTable, Object, PrefixTable, VectorTable};

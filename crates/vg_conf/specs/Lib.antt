@@ -1,0 +1,5 @@
+pub mod Pieces
+pub mod Numbers
+pub mod Named
+pub mod Given
+pub mod Lines
