@@ -8,7 +8,7 @@ use Rattle.vg_pcap.specs.declared.faults.CaptureFault.TheVariants as faults
 use Rattle.vg_pcap.specs.declared.merge.MergeFault.{MergeFault}
 use Rattle.vg_pcap.specs.Frames.{Stream}
 use Rattle.vg_pcap.specs.Arrivals.{Arrival, AllCome}
-use Rattle.vg_pcap.specs.Merge.{IsNext, Comes}
+use Rattle.vg_pcap.specs.Merge.{IsNext, IsChanged, Comes}
 use Rattle.vg_replay.specs.declared.stop.RunStop.{RunStop}
 use Rattle.vg_replay.specs.declared.stop.RunStop.TheVariants as stops
 use Rattle.vg_replay.specs.Replays.{ReplayFiles, KeepsOthers, StopsBegun}
@@ -38,9 +38,13 @@ pub record HasEnded (t : Disk) (r : Replaying) : Type 0 where
   pub none_waits : All (λ input. input.waits ≡ false) r.inputs
   pub all : (streams : List Stream) (past : List Arrival) → Comes t r.inputs streams past → AllCome streams past
 
--- a frame with which this was done
-abbrev pub handled_with : Arrival → Outcome → Handled
-handled_with a outcome = record { arrival = a; verdict = outcome.verdict; steps = outcome.steps }
+-- a frame that was left with these bytes, and with which this was done
+abbrev pub handled_with : Arrival → List ℕ → Outcome → Handled
+handled_with a left outcome = record { arrival = a; bytes = left; verdict = outcome.verdict; steps = outcome.steps; handed = outcome.handed.items }
+
+-- nothing changed but the bytes of a frame, and those in place
+abbrev pub HasChanged : Replaying → Replaying → Arrival → Type 0
+HasChanged old new a = IsChanged old.inputs new.inputs a × (new ≡ record old { inputs = new.inputs })
 
 module _ {H S : Type 0} (Handles : H → Handled → H → Type 0) (Stops : H → Arrival → S → Type 0) where
   -- the next frame was handled; or none was left, and nothing was done; or the replay stopped
@@ -52,11 +56,11 @@ module _ {H S : Type 0} (Handles : H → Handled → H → Type 0) (Stops : H �
   -- The next frame was handled and written; or it was handled, and a fault was counted as it was written; or the handler stopped, and nothing was touched.
   abbrev pub HandlesFrame : Disk → Disk → ReplayOf H → ReplayOf H → Arrival → Result Outcome (RunStop S) → Type 0
   HandlesFrame s t old new a (Ok outcome) =
-      Handles old.handler (handled_with a outcome) new.handler × (outcome.steps ≤ 2 ^ 31)
-      × WritesFrame s t old.files.outs old.files.log (old.files.totals.frames + 1) (handled_with a outcome) (Ok tt)
+      (left : List ℕ) × Handles old.handler (handled_with a left outcome) new.handler × (outcome.steps ≤ 2 ^ 31)
+      × WritesFrame s t old.files.outs old.files.log (old.files.totals.frames + 1) (handled_with a left outcome) (Ok tt)
   HandlesFrame s t old new a (Err stops.Write) =
-      (outcome : Outcome) × Handles old.handler (handled_with a outcome) new.handler
-      × WritesFrame s t old.files.outs old.files.log (old.files.totals.frames + 1) (handled_with a outcome) (Err (record {}))
+      (left : List ℕ) × (outcome : Outcome) × Handles old.handler (handled_with a left outcome) new.handler
+      × WritesFrame s t old.files.outs old.files.log (old.files.totals.frames + 1) (handled_with a left outcome) (Err (record {}))
   HandlesFrame s t old new a (Err (stops.Handler reason)) = Stops old.handler a reason × (t ≡ s)
   HandlesFrame s t old new a (Err _) = ⊥
 

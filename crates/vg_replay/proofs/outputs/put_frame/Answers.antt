@@ -8,10 +8,10 @@ pub returns-in_err-send_to-clause-puts : goal.returns-in_err-send_to-clause-puts
 returns-in_err-send_to-clause-puts g c =
     let before = c.loop-port.invariant in
     let at : slice_get c.args.captures.now.items c.loop-port.port ≡ Some c.index_mut.result.now = rw (← before.0) (slice_get_read c.loop-port.captures.items (length c.loop-port.captures.items) c.loop-port.port c.index_mut.result.now refl (search rules) c.index_mut.ensures.value) in
-    rw (failed_is c.from_residual.result c.from_residual.ensures.0) (Puts-stops (length c.args.captures.now.items) (Puts-next _ at before.1 c.in_err-send_to.ensures.writes))
+    λ came. rw (failed_is c.from_residual.result c.from_residual.ensures.0) (Puts-stops (length c.args.captures.now.items) (Puts-next _ at (before.1 came) (c.in_err-send_to.ensures.writes came)))
 
 pub loop-port-preserved : goal.loop-port-preserved
 loop-port-preserved g c =
     let before = c.loop-port.invariant in
     let at : slice_get c.args.captures.now.items c.loop-port.port ≡ Some c.index_mut.result.now = rw (← before.0) (slice_get_read c.loop-port.captures.items (length c.loop-port.captures.items) c.loop-port.port c.index_mut.result.now refl (search rules) c.index_mut.ensures.value) in
-    (rw (before.0, c.in_ok-send_to.ensures.same) (set_same c.args.captures.now.items c.loop-port.port c.index_mut.result.now at), Puts-next _ at before.1 c.in_ok-send_to.ensures.writes)
+    (rw (before.0, c.in_ok-send_to.ensures.same) (set_same c.args.captures.now.items c.loop-port.port c.index_mut.result.now at), λ came. Puts-next _ at (before.1 came) (c.in_ok-send_to.ensures.writes came))
