@@ -27,19 +27,28 @@ fn verdict_text(verdict: Verdict) -> ArrayString<60>
     text
 }
 
+// Adds an index that was handed out to the line.
+fn push_index(line: &mut ArrayString<2000>, i: Handed)
+    requires room { length line.old.bytes ≤ 1950 }
+    ensures bytes { line.new.bytes ≡ line.old.bytes ++ handed_text i }
+    ensures short { length line.new.bytes ≤ length line.old.bytes + 26 }
+{
+    let mut digits = Buffer::new();
+    line.push_str(" new ");
+    line.push_str(digits.format(i.chain));
+    line.push_str(":");
+    line.push_str(digits.format(i.index));
+}
+
 // Adds the indices that were handed out to the line.
 fn push_handed(line: &mut ArrayString<2000>, handed: &[Handed])
-    requires short { length line.old.bytes ≤ 300 }
+    requires short { length line.old.bytes ≤ 200 }
     requires few { length handed.now ≤ 64 }
     ensures bytes { line.new.bytes ≡ line.old.bytes ++ flat_map handed_text handed.now }
     ensures short { length line.new.bytes ≤ 1900 }
 {
     for i in handed {
-        let mut digits = Buffer::new();
-        line.push_str(" new ");
-        line.push_str(digits.format(i.chain));
-        line.push_str(":");
-        line.push_str(digits.format(i.index));
+        push_index(line, *i);
     }
 }
 
