@@ -111,7 +111,7 @@ pub record ReadsInputs (s t : Disk) (old new : List Input) (result : Result (Uni
   pub open_count : t.open_count ≡ s.open_count
   pub ports : length new ≡ length old
 
--- the next record of a port is refused, behind these frames, or there is a fault at reading
+-- the next record of a port is refused, after these frames, or there is a fault at reading
 abbrev pub RefusesRecord : List Stream → List Arrival → MergeFault → Type 0
 RefusesRecord streams past e =
     (e.fault ≡ faults.Read)

@@ -154,7 +154,8 @@ impl Merge {
         requires { IsNextAt self.old port }
         ensures* writes_back { sem 𝓛 (LendsNext self.entry result) }
         ensures value { (a : Arrival) → IsNext self.old a → result.now ≡ a.frame.bytes }
-        ensures written { (a : Arrival) (bytes : List ℕ) → IsNext self.old a → length bytes ≡ length a.frame.bytes → IsWritten self.old (over_next self.old bytes) a bytes }
+        ensures written { (a : Arrival) (bytes : List ℕ) → IsNext self.old a → length bytes ≡ length a.frame.bytes →
+            IsWritten self.old (over_next self.old bytes) a bytes }
     {
         let next = &mut self.inputs[port as usize];
         next.frame_mut()

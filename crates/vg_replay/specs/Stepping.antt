@@ -28,7 +28,8 @@ abbrev pub stop_of : {S : Type 0} → MergeFault → RunStop S
 stop_of e = stop_at e.port e.fault
 
 -- a replay has stopped, and its files are still open
-pub record HasStopped {S : Type 0} (s t : Disk) (n : ReplayFiles) (r : Replaying) (IsHistory : List Handled → Type 0) (StopsAt : List Handled → Arrival → S → Type 0) (stop : RunStop S) : Type 0 where
+pub record HasStopped {S : Type 0} (s t : Disk) (n : ReplayFiles) (r : Replaying) (IsHistory : List Handled → Type 0)
+    (StopsAt : List Handled → Arrival → S → Type 0) (stop : RunStop S) : Type 0 where
   pub opened : HasOpened s t n r
   pub others : IsTrue s.tells_made → KeepsOthers s t n
   pub stops : StopsBegun s t n IsHistory StopsAt stop
@@ -49,7 +50,8 @@ HasChanged old new a = IsChanged old.inputs new.inputs a × (new ≡ record old 
 module _ {H S : Type 0} (Handles : H → Handled → H → Type 0) (Stops : H → Arrival → S → Type 0) where
   -- the next frame was handled; or none was left, and nothing was done; or the replay stopped
   abbrev pub Steps : Disk → Disk → Disk → ReplayFiles → ReplayOf H → ReplayOf H → List Handled → Result Bool (RunStop S) → Type 0
-  Steps s t u n old new past (Ok true) = (h : Handled) × Handles old.handler h new.handler × IsNext old.files.inputs h.arrival × Going s u n new.files (past ++ h ∷ [])
+  Steps s t u n old new past (Ok true) =
+      (h : Handled) × Handles old.handler h new.handler × IsNext old.files.inputs h.arrival × Going s u n new.files (past ++ h ∷ [])
   Steps s t u n old new past (Ok false) = (new ≡ old) × (u ≡ t) × HasEnded u new.files
   Steps s t u n old new past (Err stop) = HasStopped s u n new.files (HandledAfter Handles past old.handler) (StopsAfter Handles Stops past old.handler) stop
 

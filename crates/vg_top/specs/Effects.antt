@@ -67,7 +67,7 @@ pub record StopsWith (s t : Disk) (n : Files) (stop : Stop) : Type 0 where
 
 -- The replay came to an end before the frames did, for a reason that holds of the frames that were handled: the outputs are exactly theirs. A fault in
 -- closing an output then is counted, and changes nothing.
-pub record StopsAfter (s t : Disk) (n : Files) (Reason : List Arrival → Type 0) : Type 0 where
+pub record StopsInReplay (s t : Disk) (n : Files) (Reason : List Arrival → Type 0) : Type 0 where
   pub c : Small
   pub spec : Small
   pub verified : AreVerified s n c spec
@@ -84,8 +84,8 @@ abbrev pub Leaves : Disk → Disk → Files → Stop → Type 0
 Leaves s t n Read = Rose s.read_faults t.read_faults × (Unwritten s t ⊎ BeganReplay s t n)
 Leaves s t n Write = Rose s.write_faults t.write_faults × (t.read_faults ≡ s.read_faults) × BeganReplay s t n
 Leaves s t n Memory = Unwritten s t × (t.read_faults ≡ s.read_faults)
-Leaves s t n (Capture port (Record number why)) = StopsAfter s t n (λ frames. AreUpTo s n.ins frames port number why)
-Leaves s t n Frames = StopsAfter s t n (λ frames. AreTooMany s n.ins frames)
+Leaves s t n (Capture port (Record number why)) = StopsInReplay s t n (λ frames. AreUpTo s n.ins frames port number why)
+Leaves s t n Frames = StopsInReplay s t n (λ frames. AreTooMany s n.ins frames)
 Leaves s t n stop = StopsWith s t n stop
 
 -- ---- the words

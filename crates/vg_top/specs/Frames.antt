@@ -27,5 +27,5 @@ abbrev pub AreHandledBy : Small → List Handled → Type 0
 AreHandledBy f handled = handled ≡ handled_by f (arrivals_of handled)
 
 -- no frame takes more steps than this
-abbrev pub TakesFewSteps : Small → Type 0
-TakesFewSteps f = (port : ℕ) → steps_at f.tests port ≤ 2 ^ 31
+abbrev pub AlwaysTakesFewSteps : Small → Type 0
+AlwaysTakesFewSteps f = (port : ℕ) → steps_at f.tests port ≤ 2 ^ 31

@@ -1,5 +1,5 @@
 //! Frames put through a small function.
-ghost use Rattle.vg_top.specs.Frames.{TakesFewSteps};
+ghost use Rattle.vg_top.specs.Frames.{AlwaysTakesFewSteps};
 
 use arrayvec::ArrayVec;
 use std::convert::Infallible;
@@ -10,7 +10,7 @@ use vg_small::Small;
 #[derive(Drop)]
 pub struct SmallHandler {
     pub function: Small,
-    pub ghost few: { TakesFewSteps function },
+    pub ghost few: { AlwaysTakesFewSteps function },
 }
 
 impl Handler for SmallHandler {

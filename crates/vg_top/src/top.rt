@@ -109,7 +109,7 @@ pub fn run<F: Files, O: Sink>(alloc: Global, words: &[String], files: &mut F, ou
         (ending : Ending) → ComesTo (F.disk files.old) (words_in words.now) ending →
         (result.0 ≡ status_at ending) ⊎ IsFaultOrMemory result.0 }
 
-    // Whatever the status: each output was left as it was or holds no more than first bytes of what it should, and what can be read stays.
+    // Whatever the status: each output is untouched or a prefix of the correct one, and what can be read stays.
     ensures outputs { Unwritten (F.disk files.old) (F.disk files.new)
         ⊎ RunsOn (words_in words.now) (BeganReplay (F.disk files.old) (F.disk files.new)) }
     ensures held { SameHeld (F.disk files.old) (F.disk files.new) }
