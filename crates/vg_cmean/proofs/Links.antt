@@ -17,7 +17,7 @@ use Rattle.vg_core.specs.declared.types.CType.{CType}
 use Rattle.vg_core.specs.declared.reason.Reason.{Reason}
 use Rattle.vg_cmean.specs.Values.{read, of_result, binary, is_true, word_of}
 use Rattle.vg_cmean.specs.Places.{indexed, member, element, element_at, element_of, index_tests, start_under}
-use Rattle.vg_cmean.specs.Outcomes.{Outcome, Next, Gives, Wrong, and_then, or_wrong, full, tick}
+use Rattle.vg_cmean.specs.Outcomes.{Outcome, Next, Gives, Wrong, Untold, and_then, or_wrong, full, tick}
 use Rattle.vg_cmean.specs.Typings.{kind_at, place_at, type_at, element_size}
 use Rattle.vg_cmean.specs.Meaning.{Parts_mean, Meaning, meaning, meaning_below, expression, statement, operated, is_truth, value, taken, branch}
 use Rattle.vg_cmean.specs.Chains.{first_of, link, link_at, IsLink, IsChain, gives_above, IsElseIf, branched_at}
@@ -27,6 +27,7 @@ and_then_twice : (o : Outcome) (f g : Datum → State → Outcome) → and_then 
 and_then_twice (Next s) f g = refl
 and_then_twice (Gives d s) f g = refl
 and_then_twice (Wrong at reason s) f g = refl
+and_then_twice (Untold s) f g = refl
 
 -- a node of a chain means what its first part does, and then the link
 pub by_link : (u : Typed) (part : Parts_mean) (n first : ℕ) (kind : Kind) (s : State) → first_of kind ≡ Some first →
@@ -56,6 +57,7 @@ valued_bind : (o : Outcome) (f : Datum → State → Outcome) → ((d : Datum) (
 valued_bind (Next s) f h = h data_of.Nothing s
 valued_bind (Gives d s) f h = h d s
 valued_bind (Wrong at reason s) f h = refl
+valued_bind (Untold s) f h = refl
 
 valued_if : (b : Bool) (one other : Outcome) → IsValued one → IsValued other → IsValued (if b then one else other)
 valued_if true one other h i = h

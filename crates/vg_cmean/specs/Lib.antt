@@ -1,4 +1,5 @@
 pub mod Outcomes
+pub mod Views
 pub mod Typings
 pub mod Values
 pub mod Places

@@ -1,6 +1,6 @@
 -- The meaning of each node of a typed C text: what it gives as an expression (C11 6.5), and what it does as a statement (6.8), by what its parts mean.
 -- Operands are evaluated left first, arguments too, and `&&`, `||` and `?:` evaluate only what they need.
-use Rattle.std.specs.Prelude.{ℕ, zero, suc, ◌+◌, ◌%◌, ◌^◌, nat_eq, Bool, true, false, List, [], ◌∷◌, length, Option, Some, None, Result, Ok, Err, if◌then◌else◌}
+use Rattle.std.specs.Prelude.{ℕ, zero, suc, ◌+◌, ◌-◌, ◌%◌, ◌^◌, nat_eq, nat_le, Bool, true, false, List, [], ◌∷◌, ◌++◌, length, slice_get, Option, Some, None, Result, Ok, Err, if◌then◌else◌}
 use Rattle.vg_core.specs.Syntax.{listed}
 use Rattle.vg_core.specs.Units.{Typed}
 use Rattle.vg_core.specs.declared.reason.Reason.{Reason}
@@ -22,9 +22,12 @@ use Rattle.vg_cint.specs.Expressions.{binary_of}
 use Rattle.vg_cint.specs.declared.value.Value.{Value}
 use Rattle.vg_cmemory.specs.State.{Own, State, declare, end_life}
 use Rattle.vg_cmemory.specs.Loans.{borrow, give_back, start_of_loan}
+use Rattle.vg_cmemory.specs.FrameCalls.{call_in_row}
+use Rattle.vg_cmemory.specs.declared.frame_calls.FrameCall.{FrameCall}
+use Rattle.vg_cmemory.specs.declared.frame_calls.FrameCall.TheVariants as calls
 use Rattle.vg_cmean.specs.declared.datum.Datum.{Datum}
 use Rattle.vg_cmean.specs.declared.datum.Datum.TheVariants as data_of
-use Rattle.vg_cmean.specs.Outcomes.{Outcome, Next, Gives, Wrong, and_then, after, or_wrong, on_own, tick}
+use Rattle.vg_cmean.specs.Outcomes.{Outcome, Next, Gives, Wrong, Untold, and_then, after, or_wrong, on_own, tick}
 use Rattle.vg_cmean.specs.Typings.{kind_at, place_at, type_at, constant_at, referent_at, element_size}
 use Rattle.vg_cmean.specs.Values.{word_of, pointer_of, integer_of, converted_to, as_type, is_true, of_bool, read, write, binary, unary, number}
 use Rattle.vg_cmean.specs.Places.{named, declared, indexed, element, member, pointed_to, address}
@@ -108,6 +111,7 @@ abbrev pub closing : List ℕ → Outcome → Outcome
 closing ns (Next s) = Next (on_own (ended ns) s)
 closing ns (Gives d s) = Gives d (on_own (ended ns) s)
 closing ns (Wrong at reason s) = Wrong at reason s
+closing ns (Untold s) = Untold s
 
 abbrev pub end_of : Kind → ℕ
 end_of (nodes.Block statements end) = end
@@ -119,6 +123,7 @@ answer_as None end o = and_then o (λ d s. Gives data_of.Nothing s)
 answer_as (Some type) end (Next s) = Wrong end reasons.Unset s
 answer_as (Some type) end (Gives d s) = Gives (data_of.Word (converted_to (integers.integer_of type) (word_of d))) s
 answer_as (Some type) end (Wrong at reason s) = Wrong at reason s
+answer_as (Some type) end (Untold s) = Untold s
 
 abbrev pub function_called : Typed → Parts_mean → (arguments : List ℕ) → Option IntType → (params : List ℕ) → (body : ℕ) → State → Outcome
 function_called u part arguments answer params body s =
@@ -144,16 +149,38 @@ packet_borrow at d s =
 abbrev pub packet_return : (at : ℕ) → Datum → State → Outcome
 packet_return at d s = or_wrong (give_back s.own (pointer_of d)) at s (λ own. Gives data_of.Nothing (record s { own = own }))
 
--- by the number of its row. The rows behind these need objects of the library, which no text without externs has
-abbrev pub library_on : (row at : ℕ) → Datum → State → Outcome
-library_on row at d s = if nat_eq row 2 then packet_borrow at d s else if nat_eq row 3 then packet_return at d s else Gives data_of.Nothing s
+-- an argument of a call. Typing has made sure of their number
+abbrev pub or_nothing : Option Datum → Datum
+or_nothing None = data_of.Nothing
+or_nothing (Some d) = d
 
-abbrev pub library_alone : (row : ℕ) → State → Outcome
-library_alone row s = if nat_eq row 1 then packet_length (tick s) else Gives data_of.Nothing s
+abbrev pub argument_at : List Datum → ℕ → Datum
+argument_at arguments k = or_nothing (slice_get arguments k)
 
+-- a row of the library, by its arguments
+abbrev pub frame_row : FrameCall → (at : ℕ) → (arguments : List Datum) → State → Outcome
+frame_row calls.Length at arguments s = packet_length s
+frame_row calls.Borrow at arguments s = packet_borrow at (argument_at arguments 0) s
+frame_row calls.Return at arguments s = packet_return at (argument_at arguments 0) s
+
+-- all arguments are evaluated, left first, each behind those before it; then the call itself, which is a step; then its row
+abbrev pub frame_call : Parts_mean → FrameCall → (at : ℕ) → (before : List Datum) → (arguments : List ℕ) → State → Outcome
+frame_call part row at before [] s = frame_row row at before (tick s)
+frame_call part row at before (argument ∷ arguments) s =
+    and_then (value (part argument) s) (λ d t. frame_call part row at (before ++ d ∷ []) arguments t)
+
+-- no row takes more
+abbrev pub most_arguments : ℕ
+most_arguments = 4
+
+abbrev pub library_row : Parts_mean → Option FrameCall → (at : ℕ) → (arguments : List ℕ) → State → Outcome
+library_row part None at arguments s = Gives data_of.Nothing s
+library_row part (Some row) at arguments s =
+    if nat_le (length arguments) most_arguments then frame_call part row at [] arguments s else Gives data_of.Nothing s
+
+-- by the number of its row. Those that aren't for the frame need objects of the library, which no text without externs has
 abbrev pub library : Parts_mean → (row at : ℕ) → (arguments : List ℕ) → State → Outcome
-library part row at [] s = library_alone row s
-library part row at (argument ∷ arguments) s = and_then (value (part argument) s) (λ d t. library_on row at d (tick t))
+library part row at arguments s = library_row part (call_in_row row) at arguments s
 
 abbrev pub call : Typed → Parts_mean → (at : ℕ) → (arguments : List ℕ) → Option Referent → State → Outcome
 call u part at arguments None s = Gives data_of.Nothing s
@@ -216,7 +243,7 @@ abbrev pub returned : Parts_mean → Option ℕ → State → Outcome
 returned part None s = Gives data_of.Nothing s
 returned part (Some v) s = value (part v) s
 
--- ---- loops (6.8.5.3). The counter is stepped by the loop alone, within its type, and a loop has at most 4,096 turns: typing makes sure of it
+-- ---- loops (6.8.5.3). The counter is stepped by the loop alone
 
 abbrev pub is_ok_true : Result Value Reason → Bool
 is_ok_true (Ok v) = truth v.of v.word
@@ -235,7 +262,7 @@ counted u n counter s = write (declared u n (place_at u n) s.own) (data_of.Word 
 abbrev pub turn : Typed → ℕ → Meaning → Value → State → Outcome
 turn u n body counter s = after (counted u n counter (tick s)) body.does
 
--- so many turns are left. Typing keeps every loop below the 4,096 that a loop begins with
+-- so many turns are left
 unfoldable pub turns : Typed → (left : ℕ) → (n : ℕ) → Meaning → (counter bound : Value) → (step : ℕ) → State → Outcome
 turns u zero n body counter bound step s = Next s
 turns u (suc left) n body counter bound step s =
@@ -252,9 +279,13 @@ step_of u (Some step) = constant_at u step
 abbrev pub first_of : Typed → IntType → (start : ℕ) → Value
 first_of u type start = converted_to (integers.integer_of type) (constant u start)
 
+-- a counter that comes to its bound does so in fewer turns than a word of 64 bits counts. One that never does, which typing lets no loop have, ends so
+abbrev pub most_turns : ℕ
+most_turns = 2 ^ 64 - 1
+
 abbrev pub loop_of : Typed → Parts_mean → ℕ → IntType → (start bound : ℕ) → Option ℕ → ℕ → State → Outcome
 loop_of u part n type start bound step body s =
-    turns u 4096 n (part body) (first_of u type start) (constant u bound) (step_of u step) (on_own (declare n) s)
+    turns u most_turns n (part body) (first_of u type start) (constant u bound) (step_of u step) (on_own (declare n) s)
 
 -- ---- what a node does as a statement. Each but a block and a declaration is a step, and so is each tested condition. A call as a statement goes on
 -- behind the call, whatever it gave

@@ -14,18 +14,22 @@ pub data Outcome : Type 0 where
   Gives : Datum → State → Outcome
   -- nothing has a meaning from here on; the state is the last one that had
   Wrong : (at : ℕ) → Reason → State → Outcome
+  -- a partial library was asked what it doesn't tell. No library is partial yet, so nothing comes to this
+  Untold : State → Outcome
 
 -- evaluate, and then go on with what it gave
 abbrev pub and_then : Outcome → (Datum → State → Outcome) → Outcome
 and_then (Next s) go = go data_of.Nothing s
 and_then (Gives d s) go = go d s
 and_then (Wrong at reason s) go = Wrong at reason s
+and_then (Untold s) go = Untold s
 
 -- run a statement, and then the next one, where it doesn't return
 abbrev pub after : Outcome → (State → Outcome) → Outcome
 after (Next s) go = go s
 after (Gives d s) go = Gives d s
 after (Wrong at reason s) go = Wrong at reason s
+after (Untold s) go = Untold s
 
 -- what can be refused goes wrong there
 abbrev pub or_wrong : {A : Type 0} → Result A Reason → (at : ℕ) → State → (A → Outcome) → Outcome

@@ -17,7 +17,7 @@ use Rattle.vg_cmean.specs.declared.datum.Datum.{Datum}
 use Rattle.vg_cmean.specs.declared.datum.Datum.TheVariants as data_of
 use Rattle.vg_cmean.specs.declared.machine.Done.{Done}
 use Rattle.vg_cmean.specs.declared.machine.Done.TheVariants as ends
-use Rattle.vg_cmean.specs.Outcomes.{Outcome, Next, Gives, Wrong, after, full}
+use Rattle.vg_cmean.specs.Outcomes.{Outcome, Next, Gives, Wrong, Untold, after, full}
 use Rattle.vg_cmean.specs.Typings.{kind_at, type_at}
 use Rattle.vg_cmean.specs.Values.{word_of, number}
 use Rattle.vg_cmean.specs.Meaning.{meaning, parameter, answer_as, closing, end_of}
@@ -109,13 +109,16 @@ int_of word = reading int word
 abbrev pub returned_with : Datum → State → Done
 returned_with d s = ends.Ret (int_of (word_of d).word) s.own.steps (length s.own.chunks)
 
-abbrev pub done_of : Outcome → Done
-done_of (Next s) = returned_with data_of.Nothing s
-done_of (Gives d s) = returned_with d s
-done_of (Wrong at reason s) = ends.Wrong at reason
+-- nothing is told of a run that asks what isn't told
+abbrev pub done_of : Outcome → Option Done
+done_of (Next s) = Some (returned_with data_of.Nothing s)
+done_of (Gives d s) = Some (returned_with d s)
+done_of (Wrong at reason s) = Some (ends.Wrong at reason)
+done_of (Untold s) = None
 
 -- the frame after a run; after a wrong one as the run left it
 abbrev pub frame_of : Outcome → List ℕ
 frame_of (Next s) = s.frame
 frame_of (Gives d s) = s.frame
 frame_of (Wrong at reason s) = s.frame
+frame_of (Untold s) = s.frame

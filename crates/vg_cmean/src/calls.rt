@@ -1,6 +1,7 @@
 //! What calls do before and behind the body of what is called (C11 6.5.2.2), and the library's calls for the frame.
-ghost use Rattle.std.specs.Prelude.{◌≡◌, ◌<◌, ◌^◌, List, ℕ, length};
-ghost use Rattle.vg_cmean.specs.Outcomes.{gives, does, goes, full};
+ghost use Rattle.std.specs.Prelude.{◌≡◌, Ok};
+ghost use Rattle.vg_cmean.specs.Outcomes.{gives, does, goes};
+ghost use Rattle.vg_cmean.specs.Views.{seen, IsShort, IsSame};
 ghost use Rattle.vg_cmean.specs.Meaning as meaning;
 ghost use Rattle.vg_cmemory.specs.State.{State, sizes};
 
@@ -9,8 +10,9 @@ use crate::fault::{Fault, or_wrong};
 use crate::places::declared;
 use crate::typings::{kind_at, place_at};
 use crate::values::{converted_to, number, pointer_of, word_of, write};
+use crate::world::World;
 use vg_cint::integer_of;
-use vg_cmemory::FrameMemory;
+use vg_cmemory::{FrameCall, FrameMemory};
 use vg_core::{IntType, Integer, Kind, Reason, Unit};
 
 const UNSIGNED_32: Integer = Integer {
@@ -19,19 +21,13 @@ const UNSIGNED_32: Integer = Integer {
 };
 
 /// A parameter is a new variable with its argument.
-pub fn parameter(
-    memory: &mut FrameMemory,
-    frame: &mut [u8],
-    unit: &Unit,
-    p: u32,
-    argument: Datum,
-) -> Result<(), Fault>
-    ensures value { goes result (full memory.new frame.new) ≡ meaning.parameter unit.now p argument (full memory.old frame.old) }
-    ensures sizes { sizes memory.new ≡ sizes memory.old }
+pub fn parameter(world: &mut World, unit: &Unit, p: u32, argument: Datum) -> Result<(), Fault>
+    ensures value { goes result (seen world.new) ≡ meaning.parameter unit.now p argument (seen world.old) }
+    ensures same { IsSame world.old world.new }
 {
-    memory.declare(p);
-    let variable = declared(memory, unit, p, place_at(unit, p));
-    write(memory, frame, variable, argument)
+    world.memory.declare(p);
+    let variable = declared(world.memory, unit, p, place_at(unit, p));
+    write(world, variable, argument)
 }
 
 /// What these nodes declare lives no longer.
@@ -70,58 +66,59 @@ pub fn answer_as(answer: Option<IntType>, end: u32, returned: Option<Datum>) -> 
     }
 }
 
-fn packet_borrow(
-    memory: &mut FrameMemory,
-    frame: &[u8],
-    at: u32,
-    count: Datum,
-) -> Result<Datum, Fault>
-    requires size { length frame.now < 2 ^ 32 }
-    ensures value { gives result (full memory.new frame.now) ≡ meaning.packet_borrow at count (full memory.old frame.now) }
-    ensures sizes { sizes memory.new ≡ sizes memory.old }
+// `packet_length`
+fn packet_length(world: &World) -> Datum
+    ensures { gives (Ok result) (seen world.now) ≡ meaning.packet_length (seen world.now) }
+{
+    Datum::Word(number(UNSIGNED_32, world.frame.len() as u64))
+}
+
+// `packet_borrow`
+fn packet_borrow(world: &mut World, at: u32, count: Datum) -> Result<Datum, Fault>
+    requires size { IsShort world.old }
+    ensures value { gives result (seen world.new) ≡ meaning.packet_borrow at count (seen world.old) }
+    ensures same { IsSame world.old world.new }
 {
     let bytes = converted_to(UNSIGNED_32, word_of(count)).word;
-    let start = or_wrong(memory.borrow(frame.len() as u32, bytes), at)?;
+    let start = or_wrong(world.memory.borrow(world.frame.len() as u32, bytes), at)?;
     Ok(Datum::Address(start))
 }
 
-fn packet_return(memory: &mut FrameMemory, at: u32, chunk: Datum) -> Result<Datum, Fault>
-    ensures value { (frame : List ℕ) → gives result (full memory.new frame) ≡ meaning.packet_return at chunk (full memory.old frame) }
-    ensures sizes { sizes memory.new ≡ sizes memory.old }
+// `packet_return`
+fn packet_return(world: &mut World, at: u32, chunk: Datum) -> Result<Datum, Fault>
+    ensures value { gives result (seen world.new) ≡ meaning.packet_return at chunk (seen world.old) }
+    ensures same { IsSame world.old world.new }
 {
-    or_wrong(memory.give_back(pointer_of(chunk)), at)?;
+    or_wrong(world.memory.give_back(pointer_of(chunk)), at)?;
     Ok(Datum::Nothing)
 }
 
-/// A call of the library without an argument, by the number of its row.
-pub fn library_alone(memory: &mut FrameMemory, frame: &[u8], row: u8) -> Datum
-    ensures value { gives (Ok result) (full memory.new frame.now) ≡ meaning.library_alone row (full memory.old frame.now) }
-    ensures sizes { sizes memory.new ≡ sizes memory.old }
+// An argument of a call. Typing has made sure of their number.
+fn argument_at(arguments: &[Datum], k: usize) -> Datum
+    ensures { result ≡ meaning.argument_at arguments.now k }
 {
-    if row != 1 {
-        return Datum::Nothing;
+    match arguments.get(k) {
+        Some(argument) => *argument,
+        None => Datum::Nothing,
     }
-    memory.tick();
-    Datum::Word(number(UNSIGNED_32, frame.len() as u64))
 }
 
-/// A call of the library with an argument, by the number of its row.
+/// A call of the library for the frame, by its arguments.
 ///
 /// `Before(2)`: the bytes can't be borrowed. `Before(3)`: the pointer isn't the start of the chunk that was lent last.
-pub fn library_on(
-    memory: &mut FrameMemory,
-    frame: &[u8],
-    row: u8,
+pub fn frame_row(
+    world: &mut World,
+    row: FrameCall,
     at: u32,
-    argument: Datum,
+    arguments: &[Datum],
 ) -> Result<Datum, Fault>
-    requires size { length frame.now < 2 ^ 32 }
-    ensures value { gives result (full memory.new frame.now) ≡ meaning.library_on row at argument (full memory.old frame.now) }
-    ensures sizes { sizes memory.new ≡ sizes memory.old }
+    requires size { IsShort world.old }
+    ensures value { gives result (seen world.new) ≡ meaning.frame_row row at arguments.now (seen world.old) }
+    ensures same { IsSame world.old world.new }
 {
     match row {
-        2 => packet_borrow(memory, frame, at, argument),
-        3 => packet_return(memory, at, argument),
-        _ => Ok(Datum::Nothing),
+        FrameCall::Length => Ok(packet_length(world)),
+        FrameCall::Borrow => packet_borrow(world, at, argument_at(arguments, 0)),
+        FrameCall::Return => packet_return(world, at, argument_at(arguments, 0)),
     }
 }

@@ -4,18 +4,10 @@ ghost use Rattle.vg_cmean.specs.Chains as chains;
 ghost use Rattle.vg_cmean.specs.Chains.{IsLink, IsChain, IsElseIf};
 
 use crate::typings::kind_at;
+use crate::world::Env;
 use std::alloc::Global;
 use vg_core::{Kind, Unit, erase};
 use vg_parts::Memory;
-
-/// What a run of a text goes by.
-#[derive(Clone, Copy)]
-pub struct Env<'a> {
-    /// The typed text.
-    pub unit: &'a Unit,
-    /// For each node that another goes on from, as `a` in `a + b` and in `a.b`, the number of the other.
-    pub above: &'a [u32],
-}
 
 /// An `if` with its parts.
 #[derive(Clone, Copy)]

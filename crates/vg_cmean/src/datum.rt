@@ -21,9 +21,10 @@ pub struct Lvalue {
 }
 
 /// What an expression gives.
-#[derive(Clone, Copy, Debug, PartialEq, Eq)]
+#[derive(Clone, Copy, Debug, Default, PartialEq, Eq)]
 pub enum Datum {
     /// Nothing, as a call of a `void` function.
+    #[default]
     Nothing,
     /// An integer.
     Word(Value),

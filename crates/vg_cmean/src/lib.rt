@@ -12,5 +12,6 @@ mod places;
 mod run;
 pub mod typings;
 mod values;
+mod world;
 
 pub use machine::{Done, Machine, has_externs};

@@ -1,20 +1,22 @@
 //! Runs of `nf_process` on frames.
-ghost use Rattle.std.specs.Prelude.{◌≡◌, ◌≤◌, ◌<◌, ◌^◌, [], false, List, ℕ, IfOk, OnOk, None, length, replicate};
+ghost use Rattle.std.specs.Prelude.{◌≡◌, ◌≤◌, ◌<◌, ◌^◌, [], false, List, ℕ, IfOk, OnOk, Some, None, length, replicate};
 ghost use Rattle.vg_cmean.specs.Outcomes.{gives, goes, full};
 ghost use Rattle.vg_cmean.specs.Runs as runs;
 ghost use Rattle.vg_cmean.specs.Runs.{has_extern, IsMadeFor, run, run_at, done_of, frame_of, sizes_below};
 ghost use Rattle.vg_cmean.specs.Nesting.{nesting};
 ghost use Rattle.vg_cmean.specs.Typings as typings;
+ghost use Rattle.vg_cmean.specs.Views.{seen, IsShort, IsSame};
 ghost use Rattle.vg_cmemory.specs.State.{sizes};
 
 use crate::calls::{answer_as, end_all, end_of, parameter};
-use crate::chains::{Env, chains_of};
+use crate::chains::chains_of;
 use crate::datum::Datum;
 use crate::fault::Fault;
 use crate::nesting::{MOST_NESTED, depth, depths};
 use crate::run::statement;
 use crate::typings::{is_pointer, kind_at, size_of_type, type_at};
 use crate::values::{number, word_of};
+use crate::world::{Env, World};
 use std::alloc::Global;
 use std::marker::Model;
 use vg_cint::{INT, reading};
@@ -106,7 +108,7 @@ impl Machine {
         requires made_for { IsMadeFor self.old unit.now }
         requires no_externs { has_extern unit.now.tree.nodes ≡ false }
         requires size { length frame.old ≤ 262144 }
-        ensures runs { result ≡ done_of (run unit.now port now frame.old) }
+        ensures runs { done_of (run unit.now port now frame.old) ≡ Some result }
         ensures frame { frame.new ≡ frame_of (run unit.now port now frame.old) }
         ensures made_for { IsMadeFor self.new unit.now }
         ensures taken_back { self.new.chunks ≡ [] }
@@ -116,7 +118,11 @@ impl Machine {
             unit,
             above: self.above.as_slice(),
         };
-        let answer = process(&mut self.memory, frame, &env, port, now);
+        let mut world = World {
+            memory: &mut self.memory,
+            frame,
+        };
+        let answer = process(&mut world, &env, port, now);
         let done = told(&self.memory, answer);
         self.memory.take_back_all();
         done
@@ -199,20 +205,19 @@ fn unsigned(bits: u8, word: u64) -> Datum
 
 // The parameters of `nf_process`: the port and the time.
 fn arguments(
-    memory: &mut FrameMemory,
-    frame: &mut [u8],
+    world: &mut World,
     unit: &Unit,
     params: &[u32],
     port: u16,
     now: u64,
 ) -> Result<(), Fault>
-    ensures value { goes result (full memory.new frame.new) ≡ runs.arguments unit.now params.now port now (full memory.old frame.old) }
-    ensures sizes { sizes memory.new ≡ sizes memory.old }
+    ensures value { goes result (seen world.new) ≡ runs.arguments unit.now params.now port now (seen world.old) }
+    ensures same { IsSame world.old world.new }
 {
     match params {
         [first, second] => {
-            parameter(memory, frame, unit, *first, unsigned(16, u64::from(port)))?;
-            parameter(memory, frame, unit, *second, unsigned(64, now))
+            parameter(world, unit, *first, unsigned(16, u64::from(port)))?;
+            parameter(world, unit, *second, unsigned(64, now))
         }
         _ => Ok(()),
     }
@@ -220,16 +225,10 @@ fn arguments(
 
 // What `nf_process` answers for a frame.
 #[tactic(auto, using(crate::proofs::Closing::closing_ok))]
-fn process(
-    memory: &mut FrameMemory,
-    frame: &mut [u8],
-    env: &Env,
-    port: u16,
-    now: u64,
-) -> Result<Datum, Fault>
-    requires size { length frame.old < 2 ^ 32 }
-    ensures value { gives result (full memory.new frame.new) ≡ run_at env.now.unit.now (runs.process_of env.now.unit.now) port now (full memory.old frame.old) }
-    ensures sizes { sizes memory.new ≡ sizes memory.old }
+fn process(world: &mut World, env: &Env, port: u16, now: u64) -> Result<Datum, Fault>
+    requires size { IsShort world.old }
+    ensures value { gives result (seen world.new) ≡ run_at env.now.unit.now (runs.process_of env.now.unit.now) port now (seen world.old) }
+    ensures same { IsSame world.old world.new }
 {
     let Some(function) = process_of(env.unit) else {
         return Err(NOTHING_TO_RUN);
@@ -242,9 +241,9 @@ fn process(
             ..
         } => {
             let params = erase(env.unit).listed(params);
-            arguments(memory, frame, env.unit, params, port, now)?;
-            let returned = statement(memory, frame, env, body)?;
-            end_all(memory, params);
+            arguments(world, env.unit, params, port, now)?;
+            let returned = statement(world, env, body)?;
+            end_all(world.memory, params);
             answer_as(answer, end_of(kind_at(env.unit, body)), returned)
         }
         _ => Err(NOTHING_TO_RUN),
@@ -270,7 +269,7 @@ fn int_of(word: u64) -> i32
 }
 
 fn told(memory: &FrameMemory, answer: Result<Datum, Fault>) -> Done
-    ensures { (frame : List ℕ) → result ≡ done_of (gives answer (full memory.now frame)) }
+    ensures { (frame : List ℕ) → done_of (gives answer (full memory.now frame)) ≡ Some result }
 {
     match answer {
         Ok(datum) => Done::Ret {

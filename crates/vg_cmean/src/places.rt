@@ -1,6 +1,7 @@
 //! The lvalues that expressions name (C11 6.5.1, 6.5.2.1, 6.5.2.3, 6.5.3.2).
 ghost use Rattle.std.specs.Prelude.{◌≡◌};
-ghost use Rattle.vg_cmean.specs.Outcomes.{gives, full};
+ghost use Rattle.vg_cmean.specs.Outcomes.{gives};
+ghost use Rattle.vg_cmean.specs.Views.{seen};
 ghost use Rattle.vg_cint.specs.Tests.{tested};
 ghost use Rattle.vg_cmean.specs.Places as places;
 ghost use Rattle.vg_cmean.specs.Typings as typings;
@@ -12,6 +13,7 @@ use crate::typings::{
     is_array, is_packed, is_pointer, offset_at, place_at, referent_at, size_of_type, type_at,
 };
 use crate::values::{pointer_of, read, word_of};
+use crate::world::World;
 use vg_cint::{Value, converted, reading};
 use vg_cmemory::{FrameMemory, Pointer, Room, lies_in};
 use vg_core::{CType, Integer, Reason, Referent, Unit};
@@ -84,18 +86,18 @@ fn is_loose(datum: Datum) -> bool
 }
 
 /// What is indexed: an array where it stands, else a pointer.
-pub fn indexed(memory: &FrameMemory, frame: &[u8], datum: Datum) -> Result<Datum, Fault>
-    ensures { gives result (full memory.now frame.now) ≡ places.indexed datum (full memory.now frame.now) }
+pub fn indexed(world: &World, datum: Datum) -> Result<Datum, Fault>
+    ensures { gives result (seen world.now) ≡ places.indexed datum (seen world.now) }
 {
     match datum {
         Datum::Lvalue(place) => {
             if is_array(place.of) {
                 Ok(datum)
             } else {
-                read(memory, frame, datum)
+                read(world, datum)
             }
         }
-        _ => read(memory, frame, datum),
+        _ => read(world, datum),
     }
 }
 
@@ -243,23 +245,18 @@ pub fn pointed_to(of: CType, at: u32, datum: Datum) -> Datum
     Datum::Lvalue(lvalue_at(pointer_of(datum), of, at))
 }
 
-fn may_be_pointed_to(memory: &FrameMemory, frame: &[u8], size: u64, place: Lvalue) -> bool
-    ensures { result ≡ places.may_be_pointed_to size place (full memory.now frame.now) }
+fn may_be_pointed_to(world: &World, size: u64, place: Lvalue) -> bool
+    ensures { result ≡ places.may_be_pointed_to size place (seen world.now) }
 {
     lies_in(place.room, place.pointer.offset, size)
-        || (place.past && memory.ends_at(frame, place.pointer))
+        || (place.past && world.memory.ends_at(world.frame, place.pointer))
 }
 
 // The address of an lvalue, or the first reason against it.
-fn address_of(
-    memory: &FrameMemory,
-    frame: &[u8],
-    size: u64,
-    place: Lvalue,
-) -> Result<Pointer, Reason>
-    ensures { result ≡ tested (places.address_tests size place (full memory.now frame.now)) place.pointer }
+fn address_of(world: &World, size: u64, place: Lvalue) -> Result<Pointer, Reason>
+    ensures { result ≡ tested (places.address_tests size place (seen world.now)) place.pointer }
 {
-    if may_be_pointed_to(memory, frame, size, place) {
+    if may_be_pointed_to(world, size, place) {
         Ok(place.pointer)
     } else {
         Err(Reason::OutOfObject)
@@ -270,18 +267,13 @@ fn address_of(
 ///
 /// `OutOfObject`, at the lvalue: it doesn't lie in the arrays that its path names, nor is it the element just past the last of an array with which its
 /// object ends.
-pub fn address(
-    memory: &FrameMemory,
-    frame: &[u8],
-    unit: &Unit,
-    datum: Datum,
-) -> Result<Datum, Fault>
-    ensures { gives result (full memory.now frame.now) ≡ places.address unit.now datum (full memory.now frame.now) }
+pub fn address(world: &World, unit: &Unit, datum: Datum) -> Result<Datum, Fault>
+    ensures { gives result (seen world.now) ≡ places.address unit.now datum (seen world.now) }
 {
     match datum {
         Datum::Lvalue(place) => {
             let size = size_of_type(unit, place.of);
-            let pointer = or_wrong(address_of(memory, frame, size, place), place.at)?;
+            let pointer = or_wrong(address_of(world, size, place), place.at)?;
             Ok(Datum::Address(pointer))
         }
         _ => Ok(Datum::Address(pointer_of(datum))),

@@ -1,13 +1,15 @@
 //! Conversions, reads and writes (C11 6.3).
 ghost use Rattle.std.specs.Prelude.{◌≡◌, ◌<◌, ◌≤◌};
-ghost use Rattle.vg_cmean.specs.Outcomes.{gives, goes, full};
+ghost use Rattle.vg_cmean.specs.Outcomes.{gives, goes};
 ghost use Rattle.vg_cmean.specs.Values as values;
-ghost use Rattle.vg_cmemory.specs.State.{State, sizes};
+ghost use Rattle.vg_cmean.specs.Views.{seen, IsSame};
+ghost use Rattle.vg_cmemory.specs.State.{State};
 
 use crate::datum::{Datum, Lvalue};
 use crate::fault::{Fault, or_wrong};
+use crate::world::World;
 use vg_cint::{INT, Value, converted, truth, width};
-use vg_cmemory::{FrameMemory, Object, Pointer};
+use vg_cmemory::{Object, Pointer};
 use vg_core::{CType, Integer, Reason};
 
 /// The integer that typing has made sure of.
@@ -106,28 +108,25 @@ fn align_of(loose: bool, of: Integer) -> u32
     if loose { 1 } else { size_of(of) }
 }
 
-fn read_integer(
-    memory: &FrameMemory,
-    frame: &[u8],
-    of: Integer,
-    place: Lvalue,
-) -> Result<Datum, Fault>
-    ensures { gives result (full memory.now frame.now) ≡ values.read_integer of place (full memory.now frame.now) }
+fn read_integer(world: &World, of: Integer, place: Lvalue) -> Result<Datum, Fault>
+    ensures { gives result (seen world.now) ≡ values.read_integer of place (seen world.now) }
 {
     let size = size_of(of);
     let align = align_of(place.loose, of);
     let word = or_wrong(
-        memory.load(frame, place.pointer, place.room, size, align),
+        world
+            .memory
+            .load(world.frame, place.pointer, place.room, size, align),
         place.at,
     )?;
     Ok(Datum::Word(Value { of, word }))
 }
 
-fn read_lvalue(memory: &FrameMemory, frame: &[u8], place: Lvalue) -> Result<Datum, Fault>
-    ensures { gives result (full memory.now frame.now) ≡ values.read_lvalue place.of place (full memory.now frame.now) }
+fn read_lvalue(world: &World, place: Lvalue) -> Result<Datum, Fault>
+    ensures { gives result (seen world.now) ≡ values.read_lvalue place.of place (seen world.now) }
 {
     match place.of {
-        CType::Int { bits, signed } => read_integer(memory, frame, Integer { bits, signed }, place),
+        CType::Int { bits, signed } => read_integer(world, Integer { bits, signed }, place),
         CType::Array(..) => Ok(Datum::Address(place.pointer)),
         _ => Ok(Datum::Nothing),
     }
@@ -148,51 +147,42 @@ fn read_pointer(pointer: Option<Pointer>, at: u32) -> Result<Datum, Fault>
 /// The value of what an expression gave: an lvalue is read (C11 6.3.2.1).
 ///
 /// The faults of a read stand at the lvalue; `Unset` also at a pointer variable that isn't set.
-pub fn read(memory: &FrameMemory, frame: &[u8], datum: Datum) -> Result<Datum, Fault>
-    ensures { gives result (full memory.now frame.now) ≡ values.read datum (full memory.now frame.now) }
+pub fn read(world: &World, datum: Datum) -> Result<Datum, Fault>
+    ensures { gives result (seen world.now) ≡ values.read datum (seen world.now) }
 {
     match datum {
-        Datum::Lvalue(place) => read_lvalue(memory, frame, place),
-        Datum::PointerVariable { node, at } => read_pointer(memory.held(node), at),
+        Datum::Lvalue(place) => read_lvalue(world, place),
+        Datum::PointerVariable { node, at } => read_pointer(world.memory.held(node), at),
         _ => Ok(datum),
     }
 }
 
-fn write_integer(
-    memory: &mut FrameMemory,
-    frame: &mut [u8],
-    of: Integer,
-    place: Lvalue,
-    value: Value,
-) -> Result<(), Fault>
-    ensures value { goes result (full memory.new frame.new) ≡ values.write_integer of place value (full memory.old frame.old) }
-    ensures sizes { sizes memory.new ≡ sizes memory.old }
+fn write_integer(world: &mut World, of: Integer, place: Lvalue, value: Value) -> Result<(), Fault>
+    ensures value { goes result (seen world.new) ≡ values.write_integer of place value (seen world.old) }
+    ensures same { IsSame world.old world.new }
 {
     let size = size_of(of);
     let align = align_of(place.loose, of);
     let word = converted(of, value.of, value.word);
     or_wrong(
-        memory.store(frame, place.pointer, place.room, size, align, word),
+        world
+            .memory
+            .store(world.frame, place.pointer, place.room, size, align, word),
         place.at,
     )
 }
 
 /// Writes to an lvalue what an expression gave, converted to its type (C11 6.5.16.1). The faults of a write stand at the lvalue.
-pub fn write(
-    memory: &mut FrameMemory,
-    frame: &mut [u8],
-    to: Datum,
-    datum: Datum,
-) -> Result<(), Fault>
-    ensures value { goes result (full memory.new frame.new) ≡ values.write to datum (full memory.old frame.old) }
-    ensures sizes { sizes memory.new ≡ sizes memory.old }
+pub fn write(world: &mut World, to: Datum, datum: Datum) -> Result<(), Fault>
+    ensures value { goes result (seen world.new) ≡ values.write to datum (seen world.old) }
+    ensures same { IsSame world.old world.new }
 {
     match to {
         Datum::Lvalue(place) => {
-            write_integer(memory, frame, integer_of(place.of), place, word_of(datum))
+            write_integer(world, integer_of(place.of), place, word_of(datum))
         }
         Datum::PointerVariable { node, .. } => {
-            memory.hold(node, pointer_of(datum));
+            world.memory.hold(node, pointer_of(datum));
             Ok(())
         }
         _ => Ok(()),

@@ -1,5 +1,8 @@
 -- What the definitions come to: an object is touched through its own name alone, and one that is gone stays so.
-use Rattle.std.specs.Prelude.{◌≡◌, ◌≢◌, ℕ, ◌+◌, ◌<◌, ◌≤◌, List, [], ◌∷◌, length, map, AllPairs, Option, Some, None, IfOk, ◌⊎◌}
+use Rattle.std.specs.Prelude.{◌≡◌, ◌≢◌, ℕ, codes, ◌+◌, ◌<◌, ◌≤◌, List, [], ◌∷◌, length, map, AllPairs, Option, Some, None, IfOk, ◌⊎◌}
+use Rattle.vg_core.specs.Library.{row_named}
+use Rattle.vg_cmemory.specs.FrameCalls.{row_of}
+use Rattle.vg_cmemory.specs.declared.frame_calls.FrameCall.TheVariants as calls
 use Rattle.vg_cmemory.specs.declared.object.Object.{Object}
 use Rattle.vg_cmemory.specs.declared.object.Object.TheVariants as objects
 use Rattle.vg_cmemory.specs.declared.object.Pointer.{Pointer}
@@ -77,3 +80,11 @@ StaysGoneAtLoans = (own : Own) (count : ℕ) (object : Object) → number_of_nam
 
 abbrev pub EndsLife : Type 0
 EndsLife = (own : Own) (node number : ℕ) → content (end_life node own) (objects.Declared node number) ≡ Gone
+
+-- ---- the library's table
+
+abbrev pub RowsAreNamed : Type 0
+RowsAreNamed =
+    (row_named (codes "packet_length") ≡ Some (row_of calls.Length))
+    × (row_named (codes "packet_borrow") ≡ Some (row_of calls.Borrow))
+    × (row_named (codes "packet_return") ≡ Some (row_of calls.Return))

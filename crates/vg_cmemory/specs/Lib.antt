@@ -1,4 +1,5 @@
 pub mod State
+pub mod FrameCalls
 pub mod Kept
 pub mod Access
 pub mod Loans

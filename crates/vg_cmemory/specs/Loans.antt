@@ -2,12 +2,14 @@
 use Rattle.std.specs.Prelude.{ℕ, ◌+◌, ◌-◌, nat_lt, nat_le, nat_eq, Bool, false, ◌&&◌, List, [], ◌∷◌, ◌++◌, length, take, slice_get, Option, Some, None, Result}
 use Rattle.vg_core.specs.declared.reason.Reason.{Reason}
 use Rattle.vg_core.specs.declared.reason.Reason.TheVariants as reasons
+use Rattle.vg_cmemory.specs.declared.frame_calls.FrameCall.TheVariants as calls
 use Rattle.vg_cmemory.specs.declared.object.Object.{Object}
 use Rattle.vg_cmemory.specs.declared.object.Object.TheVariants as objects
 use Rattle.vg_cmemory.specs.declared.object.Pointer.{Pointer}
 use Rattle.vg_cmemory.specs.declared.object.Chunk.{Chunk}
 use Rattle.vg_cint.specs.Tests.{Test, test, tested}
 use Rattle.vg_cmemory.specs.State.{Own, next_number}
+use Rattle.vg_cmemory.specs.FrameCalls.{row_of}
 
 -- the chunk of the next bytes of the frame
 abbrev pub next_chunk : Own → ℕ → Chunk
@@ -39,9 +41,9 @@ without_loan own = record own { chunks = take (length own.chunks - 1) own.chunks
 -- at least one byte, no more than are left of the frame, and fewer than 16 chunks lent
 abbrev pub borrow_tests : Own → (frame_length count : ℕ) → List Test
 borrow_tests own frame_length count =
-    test (reasons.Before 2) (nat_lt 0 count)
-    ∷ test (reasons.Before 2) (nat_le (own.lent + count) frame_length)
-    ∷ test (reasons.Before 2) (nat_lt (length own.chunks) 16)
+    test (reasons.Before (row_of calls.Borrow)) (nat_lt 0 count)
+    ∷ test (reasons.Before (row_of calls.Borrow)) (nat_le (own.lent + count) frame_length)
+    ∷ test (reasons.Before (row_of calls.Borrow)) (nat_lt (length own.chunks) 16)
     ∷ []
 
 -- `packet_borrow`
@@ -52,7 +54,7 @@ abbrev pub start_of_loan : Own → Pointer
 start_of_loan own = record { object = objects.Chunk own.born; offset = 0 }
 
 abbrev pub return_tests : Own → Pointer → List Test
-return_tests own p = test (reasons.Before 3) (is_start p (last_chunk own)) ∷ []
+return_tests own p = test (reasons.Before (row_of calls.Return)) (is_start p (last_chunk own)) ∷ []
 
 -- `packet_return`
 abbrev pub give_back : Own → Pointer → Result Own Reason

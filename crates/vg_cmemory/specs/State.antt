@@ -1,5 +1,5 @@
 -- Memory while a C function runs on a frame: a finite list of objects, and how they come and go (C11 6.2.4, 6.7.9).
-use Rattle.std.specs.Prelude.{ℕ, ◌+◌, ◌%◌, ◌^◌, List, [], ◌∷◌, ◌++◌, replicate, slice_index_or, slice_set, Option, Some, None}
+use Rattle.std.specs.Prelude.{ℕ, ◌+◌, ◌-◌, ◌%◌, ◌^◌, min, List, [], ◌∷◌, ◌++◌, replicate, slice_index_or, slice_set, Option, Some, None}
 use Rattle.vg_cmemory.specs.declared.object.Object.TheVariants as objects
 use Rattle.vg_cmemory.specs.declared.object.Pointer.{Pointer}
 use Rattle.vg_cmemory.specs.declared.object.Chunk.{Chunk}
@@ -49,9 +49,13 @@ with_node size own = record own { slots = own.slots ++ record { size = size; lif
 abbrev pub take_back_all : Own → Own
 take_back_all own = record own { chunks = []; lent = 0 }
 
--- one step more. Steps are counted in 32 bits: typing keeps a run far below
+-- steps are counted up to this number, so a count below it is the true one
+abbrev pub most_steps : ℕ
+most_steps = 2 ^ 32 - 1
+
+-- one step more
 abbrev pub tick : Own → Own
-tick own = record own { steps = (own.steps + 1) % 2 ^ 32 }
+tick own = record own { steps = min (own.steps + 1) most_steps }
 
 -- objects are numbered as they are made, in 64 bits: no run makes so many
 abbrev pub next_number : ℕ → ℕ

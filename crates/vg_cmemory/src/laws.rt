@@ -1,5 +1,5 @@
 //! Laws of the memory's definitions, each as the contract of a function that does nothing.
-ghost use Rattle.vg_cmemory.specs.Laws.{WritesAreSeen, WritesAreSeenThereAlone, WritesStayInside, FrameWritesStayInside, StartsStacked, StaysStacked, ChunksAreApart, StaysGone, StaysGoneAtLoans, EndsLife};
+ghost use Rattle.vg_cmemory.specs.Laws.{RowsAreNamed, WritesAreSeen, WritesAreSeenThereAlone, WritesStayInside, FrameWritesStayInside, StartsStacked, StaysStacked, ChunksAreApart, StaysGone, StaysGoneAtLoans, EndsLife};
 
 /// A write is seen in its own object, and changes no other.
 pub fn writes_stay_inside()
@@ -21,4 +21,9 @@ pub fn gone_stays_gone()
     ensures stays { StaysGone }
     ensures stays_at_loans { StaysGoneAtLoans }
     ensures ends { EndsLife }
+{}
+
+/// The rows of the library's calls for the frame are those with their names.
+pub fn rows_are_named()
+    ensures { RowsAreNamed }
 {}

@@ -3,6 +3,7 @@
 
 mod access;
 mod bytes;
+mod frame_calls;
 mod laws;
 mod loans;
 mod local;
@@ -11,7 +12,8 @@ mod object;
 mod runs;
 
 pub use access::lies_in;
-pub use laws::{chunks_are_apart, gone_stays_gone, writes_stay_inside};
+pub use frame_calls::{FrameCall, call_in_row, row_of};
+pub use laws::{chunks_are_apart, gone_stays_gone, rows_are_named, writes_stay_inside};
 pub use memory::FrameMemory;
 pub use object::{Chunk, Object, Pointer, Room};
 

@@ -6,6 +6,7 @@ ghost use Rattle.vg_cmemory.specs.State.{sizes};
 ghost use Rattle.vg_cmemory.specs.Loans as loans;
 ghost use Rattle.vg_cmemory.specs.Loans.{start_of_loan, is_start, last_chunk};
 
+use crate::frame_calls::{FrameCall, row_of};
 use crate::memory::FrameMemory;
 use crate::object::{Chunk, Object, Pointer};
 use vg_core::Reason;
@@ -28,15 +29,15 @@ impl FrameMemory {
         ensures few { OnOk result (length self.now.chunks < 16) }
     {
         if count == 0 {
-            return Err(Reason::Before(2));
+            return Err(Reason::Before(row_of(FrameCall::Borrow)));
         }
         if self.next > frame_length || u64::from(frame_length - self.next) < count {
-            return Err(Reason::Before(2));
+            return Err(Reason::Before(row_of(FrameCall::Borrow)));
         }
         if self.chunk_list.len() < 16 {
             Ok(())
         } else {
-            Err(Reason::Before(2))
+            Err(Reason::Before(row_of(FrameCall::Borrow)))
         }
     }
 
@@ -84,7 +85,7 @@ impl FrameMemory {
     {
         let last = self.last_chunk();
         if !is_start(pointer, last) {
-            return Err(Reason::Before(3));
+            return Err(Reason::Before(row_of(FrameCall::Return)));
         }
         if let Some(chunk) = self.chunk_list.pop() {
             self.next = chunk.from;

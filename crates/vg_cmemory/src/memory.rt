@@ -96,13 +96,15 @@ impl FrameMemory {
         self.next = 0;
     }
 
-    /// Counts a step.
+    /// Counts a step, up to the greatest number of 32 bits.
     #[tactic(auto, unfolding(crate::specs::State::sizes))]
     pub fn tick(&mut self)
         ensures value { self.new ≡ tick self.old }
         ensures sizes { sizes self.new ≡ sizes self.old }
     {
-        self.taken = self.taken.wrapping_add(1);
+        if self.taken < u32::MAX {
+            self.taken += 1;
+        }
     }
 
     /// How many steps were taken.

@@ -19,7 +19,7 @@ expression-returns-in_err-datum-clause-value t c =
 
 pub expression-loop-link-init : goal.expression-loop-link-init
 expression-loop-link-init t c =
-    (c.in_ok-datum.ensures.sizes, begins_chain _ _ _ _ _ c.foot_of-node.ensures, begins _ _ _ _ _ _ _ _ c.foot_of-node.ensures c.in_ok-datum.ensures.value)
+    (search rules, begins_chain _ _ _ _ _ c.foot_of-node.ensures, begins _ _ _ _ _ _ _ _ c.foot_of-node.ensures c.in_ok-datum.ensures.value)
 
 pub expression-link-requires : goal.expression-link-requires
 expression-link-requires t c =
@@ -31,7 +31,7 @@ expression-returns-in_err-datum-2-clause-value t c =
 
 pub expression-loop-link-preserved : goal.expression-loop-link-preserved
 expression-loop-link-preserved t c = (
-  c.in_ok-datum-2.ensures.sizes ∙ c.loop-link.invariant.0,
+  search rules,
   step_chain _ _ _ _ _ _ _ c.loop-link.invariant.1 c.loop-link-test.true c.above-at.ensures,
   step_gives _ _ _ _ _ _ _ _ _ _ _ c.loop-link-test.true c.above-at.ensures c.loop-link.invariant.2 c.in_ok-datum-2.ensures.value,
 )
@@ -42,7 +42,7 @@ pub branch-loop-branch-preserved : goal.branch-loop-branch-preserved
 branch-loop-branch-preserved t c =
     let before = c.in-Some.ensures.before in
     let within = c.loop-branch.invariant.1 in (
-      c.tick-in-loop-branch.ensures.sizes ∙ c.in_ok-condition.ensures.sizes ∙ c.tick.ensures.sizes ∙ c.loop-branch.invariant.0,
+      search rules,
       omega arith,
       branch_next _ _ _ _ _ _ _ _ _ _ c.in-Some.ensures (sym c.is_true.ensures ∙ c.if-is_true.false) c.tick.ensures.value c.in_ok-condition.ensures.value c.tick-in-loop-branch.ensures.value
           ∙ c.loop-branch.invariant.2,

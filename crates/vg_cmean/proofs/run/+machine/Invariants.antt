@@ -1,6 +1,6 @@
-use Rattle.std.proofs.Common.{◌≡◌, ◌≤◌, ◌+◌, ◌-◌, ◌*◌, ◌^◌, length, drop}
-use Rattle.vg_cmean.specs.Outcomes.{full}
-use Rattle.vg_cmemory.specs.State.{sizes}
+use Rattle.std.proofs.Common.{◌≡◌, ◌≤◌, ◌+◌, ◌-◌, ◌*◌, ◌^◌, [], length, drop}
+use Rattle.vg_cmean.specs.Views.{seen, IsSame}
+use Rattle.vg_cmean.specs.Typings.{place_at}
 use Rattle.vg_cmean.specs.Meaning as meaning
 use Rattle.vg_cmean.specs.Meaning.{meaning_below}
 use Rattle.vg_cmean.specs.Chains.{IsChain, gives_above, branched_at}
@@ -80,21 +80,31 @@ decreases-part_value l = 2 ^ 33 * (3 * l.n) + 1
 
 abbrev pub invariant-run_all-loop-p : goal.invariant-run_all-loop-p
 invariant-run_all-loop-p l =
-    (sizes l.memory ≡ sizes l.initial.memory) × (meaning.run_all (meaning_below l.env.unit.now l.n) (drop l.p-index l.list) (full l.memory l.frame) ≡ meaning.run_all (meaning_below l.env.unit.now l.n) l.list (full l.initial.memory l.initial.frame))
+    IsSame l.initial.world l.world × (meaning.run_all (meaning_below l.env.unit.now l.n) (drop l.p-index l.list) (seen l.world) ≡ meaning.run_all (meaning_below l.env.unit.now l.n) l.list (seen l.initial.world))
 
 abbrev pub invariant-turns-loop-turn : goal.invariant-turns-loop-turn
 invariant-turns-loop-turn l =
-    (sizes l.memory ≡ sizes l.initial.memory) × (meaning.turns l.env.unit.now (4096 - l._turn) l.n (meaning_below l.env.unit.now l.n l.body) l.counter l.bound l.step (full l.memory l.frame)
-    ≡ meaning.turns l.env.unit.now 4096 l.n (meaning_below l.env.unit.now l.n l.body) l.fn.first l.bound l.step (full l.initial.memory l.initial.frame))
+    IsSame l.initial.world l.world × (meaning.turns l.env.unit.now (meaning.most_turns - l._turn) l.n (meaning_below l.env.unit.now l.n l.body) l.counter l.bound l.step (seen l.world)
+    ≡ meaning.turns l.env.unit.now meaning.most_turns l.n (meaning_below l.env.unit.now l.n l.body) l.fn.first l.bound l.step (seen l.initial.world))
 
 abbrev pub invariant-expression-loop-link : goal.invariant-expression-loop-link
 invariant-expression-loop-link l =
-    (sizes l.memory ≡ sizes l.fn.memory)
+    IsSame l.fn.world l.world
     × IsChain l.env.unit.now l.env.above.now l.n (l.links - l._link) l.at
-    × (gives_above l.env.unit.now l.env.above.now (l.links - l._link) l.at l.datum (full l.memory l.frame) ≡ (meaning.meaning l.env.unit.now l.n).gives (full l.fn.memory l.fn.frame))
+    × (gives_above l.env.unit.now l.env.above.now (l.links - l._link) l.at l.datum (seen l.world) ≡ (meaning.meaning l.env.unit.now l.n).gives (seen l.fn.world))
 
 abbrev pub invariant-branch-loop-branch : goal.invariant-branch-loop-branch
 invariant-branch-loop-branch l =
-    (sizes l.memory ≡ sizes l.fn.memory)
+    IsSame l.fn.world l.world
     × (l.branch.node ≤ l.fn.first.node)
-    × (branched_at l.env.unit.now l.branch (full l.memory l.frame) ≡ branched_at l.env.unit.now l.fn.first (full l.fn.memory l.fn.frame))
+    × (branched_at l.env.unit.now l.branch (seen l.world) ≡ branched_at l.env.unit.now l.fn.first (seen l.fn.world))
+
+abbrev pub decreases-frame_call : goal.decreases-frame_call
+decreases-frame_call l = 2 ^ 33 * (3 * l.n + 1) + 4
+
+abbrev pub invariant-frame_call-loop-argument : goal.invariant-frame_call-loop-argument
+invariant-frame_call-loop-argument l =
+    IsSame l.fn.world l.world
+    × (length l.data.items ≤ l.argument-index)
+    × (meaning.frame_call (meaning_below l.env.unit.now l.n) l.row (place_at l.env.unit.now l.n) l.data.items (drop l.argument-index l.arguments) (seen l.world)
+    ≡ meaning.frame_call (meaning_below l.env.unit.now l.n) l.row (place_at l.env.unit.now l.n) [] l.arguments (seen l.fn.world))
