@@ -31,7 +31,10 @@ fn main(rt: HostRuntime) -> io::Result<()> {
     for line in rt.lines(rt.alloc()) {
         let line = line?;
         count = count.wrapping_add(1);
-        let (label, row) = line.as_str().split_once('\t').unwrap_or((line.as_str(), ""));
+        let (label, row) = line
+            .as_str()
+            .split_once('\t')
+            .unwrap_or((line.as_str(), ""));
         for way in [Way::Make, Way::Build] {
             if let Some(difference) = difference(rt.alloc(), way, row)? {
                 println!(rt; "{label}: {difference}")?;
