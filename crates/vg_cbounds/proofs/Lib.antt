@@ -1,0 +1,12 @@
+pub mod Spent
+pub mod Sums
+pub mod Operands
+pub mod Statements
+pub mod Nodes
+pub mod Ties
+pub mod Whole
+pub mod Counters
+pub mod Readings
+pub mod Signs
+pub mod Loops
+pub mod Bounding
