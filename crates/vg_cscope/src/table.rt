@@ -220,9 +220,7 @@ impl Table {
     {
         match wanted_name(wanted) {
             Some(name)
-                if self.top() == walk.seen_at(n)
-                    && self.stack.len() <= walk.tree.nodes().len() =>
-            {
+                if self.top() == walk.seen_at(n) && self.stack.len() <= walk.tree.nodes().len() => {
                 self.nearest(walk, wanted, name)
             }
             _ => walk.found(wanted, n),
