@@ -141,7 +141,9 @@ impl Given<'_> {
     {
         match kind {
             Kind::Function { body, .. } => self.steps_at(body),
-            Kind::Block { statements, .. } => self.sum_of_steps(self.scopes.tree.listed(statements)),
+            Kind::Block { statements, .. } => self.sum_of_steps(
+                self.scopes.tree.listed(statements),
+            ),
             Kind::Declare { value, .. } => self.optional_steps(value),
             Kind::Empty => 1,
             Kind::Evaluate { value: part }
