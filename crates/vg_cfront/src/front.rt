@@ -1,7 +1,7 @@
 //! One call from a text to its typed unit.
 ghost use Rattle.std.specs.Prelude.{◌≡◌, ◌<◌, ◌^◌, ◌⊎◌, length, IfOk, IfErr, MatchResult};
 ghost use Rattle.vg_core.specs.Units.{Typed};
-ghost use Rattle.vg_ctyper.specs.Names.{spelling};
+ghost use Rattle.vg_cscope.specs.Names.{spelling};
 ghost use Rattle.vg_cfront.specs.Refusals.{Refuses};
 ghost use Rattle.vg_cfront.specs.Units.{IsUnitOf};
 ghost use Rattle.vg_cfront.specs.declared.fault.CFault.{CFault};

@@ -6,9 +6,9 @@ use Rattle.vg_core.specs.Syntax.{Syntax, IsOrdered, IsUsedOnce}
 use Rattle.vg_core.specs.Units.{Typed}
 use Rattle.vg_core.specs.declared.unit.Note.{Note}
 use Rattle.vg_ctyper.specs.declared.fault.TypeFault.{TypeFault}
-use Rattle.vg_ctyper.specs.declared.standing.Standing.{Standing}
+use Rattle.vg_cscope.specs.declared.standing.Standing.{Standing}
 use Rattle.vg_ctyper.specs.Faults.{rank, is_before}
-use Rattle.vg_ctyper.specs.Scopes.{kind_at, standings_of}
+use Rattle.vg_cscope.specs.Scopes.{kind_at, standings_of}
 use Rattle.vg_ctyper.specs.Names.{Known}
 use Rattle.vg_ctyper.specs.Rules.{broken}
 use Rattle.vg_ctyper.specs.Notes.{note_of, note_unless, locals_behind, whole_fault, or_else}

@@ -2,9 +2,7 @@ pub mod Deciding
 pub mod Earliest
 pub mod Growing
 pub mod Laws
-pub mod Looking
 pub mod Ranking
 pub mod Rounding
 pub mod Sizing
-pub mod Telling
 pub mod Unwrapping

@@ -26,8 +26,8 @@ use Rattle.vg_core.specs.declared.unit.Referent.{Referent}
 use Rattle.vg_core.specs.declared.unit.Referent.TheVariants as referents
 use Rattle.vg_cint.specs.Types.{int, integer_of, promoted, greater, mixed, usual, common, is_test, is_apart, type_of_binary}
 use Rattle.vg_ctyper.specs.declared.fault.TypeFault.{TypeFault}
-use Rattle.vg_ctyper.specs.declared.given.Wanted.TheVariants as wanted
-use Rattle.vg_ctyper.specs.Scopes.{kind_at}
+use Rattle.vg_cscope.specs.declared.names.Wanted.TheVariants as wanted
+use Rattle.vg_cscope.specs.Scopes.{kind_at}
 use Rattle.vg_ctyper.specs.Names.{Known, found, callee}
 use Rattle.vg_ctyper.specs.Types.{◌>>=◌, noted, type_at, of_integer, as_integer, of_target, pointee, pointed, address, integer_at, laid_out, base_target, length_at, array_of, is_small, if_small, object_type, declared_type, answer_type, type_declared, type_of_referent, cast_type, referent, unary_type, expression_type}
 use Rattle.vg_ctyper.specs.Fields.{layout_at, fields_before}

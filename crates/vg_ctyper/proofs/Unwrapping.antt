@@ -4,7 +4,7 @@ use Rattle.std.proofs.Math.Seq.{drop-cons}
 use Rattle.vg_core.specs.Syntax.{Syntax}
 use Rattle.vg_core.specs.declared.tree.Node.{Node}
 use Rattle.vg_core.specs.declared.tree.Kind.TheVariants as nodes
-use Rattle.vg_ctyper.specs.Scopes.{kind_at}
+use Rattle.vg_cscope.specs.Scopes.{kind_at}
 use Rattle.vg_ctyper.specs.Demands.{inner, unwrapped}
 
 abbrev blank : Node

@@ -17,10 +17,11 @@ use Rattle.vg_ctyper.specs.declared.demands.Demand.TheVariants as demands
 use Rattle.vg_ctyper.specs.declared.fault.Rule.TheVariants as rules
 use Rattle.vg_ctyper.specs.declared.fault.TypeFault.{TypeFault}
 use Rattle.vg_ctyper.specs.declared.fault.TypeFault.TheVariants as type_faults
-use Rattle.vg_ctyper.specs.declared.given.Wanted.TheVariants as wanted
+use Rattle.vg_cscope.specs.declared.names.Wanted.TheVariants as wanted
 use Rattle.vg_ctyper.specs.Faults.{sooner}
-use Rattle.vg_ctyper.specs.Scopes.{kind_at}
-use Rattle.vg_ctyper.specs.Names.{Known, spelling, found}
+use Rattle.vg_cscope.specs.Scopes.{kind_at}
+use Rattle.vg_cscope.specs.Names.{spelling}
+use Rattle.vg_ctyper.specs.Names.{Known, found}
 use Rattle.vg_ctyper.specs.Types.{◌>>=◌, base_target, length_at, of_target, sized, is_small, type_declared}
 use Rattle.vg_ctyper.specs.Demands.{is_spelled, fault_at, unless, used, wants, assigned, same_bool}
 use Rattle.vg_ctyper.specs.ExpressionRules.{base_fault}

@@ -19,10 +19,11 @@ use Rattle.vg_ctyper.specs.declared.fault.Rule.{Rule}
 use Rattle.vg_ctyper.specs.declared.fault.Rule.TheVariants as rules
 use Rattle.vg_ctyper.specs.declared.fault.TypeFault.{TypeFault}
 use Rattle.vg_ctyper.specs.declared.fault.TypeFault.TheVariants as type_faults
-use Rattle.vg_ctyper.specs.declared.given.Wanted.TheVariants as wanted
+use Rattle.vg_cscope.specs.declared.names.Wanted.TheVariants as wanted
 use Rattle.vg_ctyper.specs.Faults.{sooner}
-use Rattle.vg_ctyper.specs.Scopes.{kind_at}
-use Rattle.vg_ctyper.specs.Names.{Known, spelling, found}
+use Rattle.vg_cscope.specs.Scopes.{kind_at}
+use Rattle.vg_cscope.specs.Names.{spelling}
+use Rattle.vg_ctyper.specs.Names.{Known, found}
 use Rattle.vg_ctyper.specs.Types.{◌>>=◌, type_at, as_integer, pointee, pointed}
 
 -- ---- places

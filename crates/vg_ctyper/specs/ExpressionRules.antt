@@ -21,10 +21,11 @@ use Rattle.vg_ctyper.specs.declared.fault.Rule.{Rule}
 use Rattle.vg_ctyper.specs.declared.fault.Rule.TheVariants as rules
 use Rattle.vg_ctyper.specs.declared.fault.TypeFault.{TypeFault}
 use Rattle.vg_ctyper.specs.declared.fault.TypeFault.TheVariants as type_faults
-use Rattle.vg_ctyper.specs.declared.given.Wanted.TheVariants as wanted
+use Rattle.vg_cscope.specs.declared.names.Wanted.TheVariants as wanted
 use Rattle.vg_ctyper.specs.Faults.{sooner}
-use Rattle.vg_ctyper.specs.Scopes.{kind_at}
-use Rattle.vg_ctyper.specs.Names.{Known, spelling, found, variable, is_function}
+use Rattle.vg_cscope.specs.Scopes.{kind_at}
+use Rattle.vg_cscope.specs.Names.{spelling, is_function}
+use Rattle.vg_ctyper.specs.Names.{Known, found, variable}
 use Rattle.vg_ctyper.specs.Types.{◌>>=◌, type_at, number_at, base_target, pointee, address, cast_type, field_of, referent}
 use Rattle.vg_ctyper.specs.Demands.{is_spelled, place, fault_at, unless, used, value_at, wants, object_fault, is_passed}
 

@@ -5,8 +5,8 @@ use Rattle.vg_core.specs.declared.tree.Kind.{Kind}
 use Rattle.vg_core.specs.declared.tree.Kind.TheVariants as nodes
 use Rattle.vg_core.specs.declared.types.CType.{CType}
 use Rattle.vg_core.specs.declared.types.Layout.{Layout}
-use Rattle.vg_ctyper.specs.declared.standing.Standing.{Standing}
-use Rattle.vg_ctyper.specs.Scopes.{kind_at, seen_at}
+use Rattle.vg_cscope.specs.declared.standing.Standing.{Standing}
+use Rattle.vg_cscope.specs.Scopes.{kind_at, seen_at}
 use Rattle.vg_ctyper.specs.Names.{Known}
 use Rattle.vg_ctyper.specs.Types.{noted}
 

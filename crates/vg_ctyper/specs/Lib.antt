@@ -7,7 +7,6 @@ pub mod Names
 pub mod Notes
 pub mod Passes
 pub mod Rules
-pub mod Scopes
 pub mod Small
 pub mod StatementRules
 pub mod Types

@@ -15,7 +15,7 @@ use Rattle.vg_core.specs.declared.unit.Referent.{Referent}
 use Rattle.vg_core.specs.declared.unit.Referent.TheVariants as referents
 use Rattle.vg_ctyper.specs.declared.fault.TypeFault.{TypeFault}
 use Rattle.vg_ctyper.specs.declared.fault.TypeFault.TheVariants as type_faults
-use Rattle.vg_ctyper.specs.Scopes.{kind_at}
+use Rattle.vg_cscope.specs.Scopes.{kind_at}
 use Rattle.vg_ctyper.specs.Names.{Known, callee}
 use Rattle.vg_ctyper.specs.Types.{◌>>=◌, below_2_32, type_declared, expression_type, constant_word, referent}
 use Rattle.vg_ctyper.specs.Fields.{layout_at, fields_before, field_align, field_offset, rounded_up}

@@ -7,7 +7,7 @@ use Rattle.vg_ctyper.specs.declared.demands.Demand.TheVariants as demands
 use Rattle.vg_ctyper.specs.declared.fault.Rule.TheVariants as rules
 use Rattle.vg_ctyper.specs.declared.fault.TypeFault.{TypeFault}
 use Rattle.vg_ctyper.specs.Faults.{sooner}
-use Rattle.vg_ctyper.specs.Scopes.{kind_at}
+use Rattle.vg_cscope.specs.Scopes.{kind_at}
 use Rattle.vg_ctyper.specs.Names.{Known}
 use Rattle.vg_ctyper.specs.Demands.{wants}
 use Rattle.vg_ctyper.specs.ExpressionRules.{expression_fault}

@@ -17,9 +17,9 @@ use Rattle.vg_ctyper.specs.declared.fault.Rule.{Rule}
 use Rattle.vg_ctyper.specs.declared.fault.Rule.TheVariants as rules
 use Rattle.vg_ctyper.specs.declared.fault.TypeFault.{TypeFault}
 use Rattle.vg_ctyper.specs.declared.fault.TypeFault.TheVariants as type_faults
-use Rattle.vg_ctyper.specs.declared.given.Wanted.TheVariants as wanted
+use Rattle.vg_cscope.specs.declared.names.Wanted.TheVariants as wanted
 use Rattle.vg_ctyper.specs.Faults.{sooner}
-use Rattle.vg_ctyper.specs.Scopes.{kind_at}
+use Rattle.vg_cscope.specs.Scopes.{kind_at}
 use Rattle.vg_ctyper.specs.Names.{Known, is_same, found}
 use Rattle.vg_ctyper.specs.Types.{◌>>=◌, type_at, integer_at, number_at, unsigned_64}
 use Rattle.vg_ctyper.specs.Demands.{place, fault_at, unless, used, value_at, wants, object_fault, assigned, used_as, meets}

@@ -28,8 +28,8 @@ use Rattle.vg_cint.specs.Values.{converted}
 use Rattle.vg_cint.specs.Operators.{less}
 use Rattle.vg_cint.specs.Expressions.{binary_of}
 use Rattle.vg_cint.specs.declared.value.Value.{Value}
-use Rattle.vg_ctyper.specs.declared.given.Wanted.TheVariants as wanted
-use Rattle.vg_ctyper.specs.Scopes.{kind_at}
+use Rattle.vg_cscope.specs.declared.names.Wanted.TheVariants as wanted
+use Rattle.vg_cscope.specs.Scopes.{kind_at}
 use Rattle.vg_ctyper.specs.Names.{Known, found, variable, callee, field_named}
 
 infixl 10 ◌>>=◌

@@ -5,9 +5,10 @@ ghost use Rattle.vg_ctyper.specs.Views.{known};
 
 use crate::demands::{Demand, same_bool};
 use crate::fault::{Rule, TypeFault, sooner};
-use crate::given::{Given, Wanted, spelling};
+use crate::given::Given;
 use crate::kinds::of_target;
 use vg_core::{Base, CType, IntType, Kind, Layout, Name, Target, library_row};
+use vg_cscope::{Wanted, spelling};
 
 /// Whether a declaration stands in a function.
 fn is_local(kind: Kind) -> bool
@@ -111,7 +112,7 @@ impl Given<'_> {
     fn is_row(&self, name: Name) -> bool
         ensures { result ≡ rules.is_row (known self.now) name }
     {
-        library_row(spelling(self.text, name)).is_some()
+        library_row(spelling(self.scopes.text, name)).is_some()
     }
 
     /// The fault of a name that is declared twice, or is that of a call of the library.
@@ -403,7 +404,7 @@ impl Given<'_> {
                 ..
             } => {
                 self.is_spelled(name, b"nf_process")
-                    && self.are_frame_params(self.tree.listed(params))
+                    && self.are_frame_params(self.scopes.tree.listed(params))
             }
             _ => false,
         }

@@ -4,9 +4,10 @@ ghost use Rattle.vg_ctyper.specs.Demands as demands;
 ghost use Rattle.vg_ctyper.specs.Views.{known};
 
 use crate::fault::{Rule, TypeFault, sooner};
-use crate::given::{Given, Wanted, spelling};
+use crate::given::Given;
 use crate::kinds::{as_integer, pointed, pointee};
 use vg_core::{CType, HandleKind, Kind, Name, Target, UnaryOp};
+use vg_cscope::{Wanted, spelling};
 
 /// What an operator wants of an operand's type.
 #[derive(Clone, Copy)]
@@ -145,7 +146,7 @@ impl Given<'_> {
     pub fn place(&self, n: u32) -> u32
         ensures { result ≡ demands.place (known self.now) n }
     {
-        match self.tree.nodes().get(n as usize) {
+        match self.scopes.tree.nodes().get(n as usize) {
             Some(node) => node.at,
             None => 0,
         }
@@ -167,7 +168,7 @@ impl Given<'_> {
     pub fn is_spelled(&self, name: Name, bytes: &[u8]) -> bool
         ensures { result ≡ demands.is_spelled (known self.now) name bytes.now }
     {
-        spelling(self.text, name) == bytes
+        spelling(self.scopes.text, name) == bytes
     }
 
     /// The fault of a part that stands as a value, which is that of the part itself where it is none.
@@ -212,7 +213,7 @@ impl Given<'_> {
         ensures { result ≡ demands.without_parens (known self.now) n }
     {
         let mut part = n;
-        for _node in self.tree.nodes() {
+        for _node in self.scopes.tree.nodes() {
             match inner(self.kind(part)) {
                 Some(wrapped) => part = wrapped,
                 None => return part,
@@ -222,7 +223,7 @@ impl Given<'_> {
     }
 
     fn kind_found(&self, declaration: Option<u32>) -> Kind
-        ensures { result ≡ demands.kind_found self.now.tree.now declaration }
+        ensures { result ≡ demands.kind_found self.now.scopes.now.tree.now declaration }
     {
         match declaration {
             Some(declaration) => self.kind(declaration),

@@ -5,11 +5,12 @@ ghost use Rattle.vg_ctyper.specs.Views.{known};
 
 use crate::demands::{Demand, is_passed};
 use crate::fault::{Rule, TypeFault, sooner};
-use crate::given::{Given, Wanted, is_function, spelling};
+use crate::given::Given;
 use crate::kinds::{address, cast_type, pointee};
 use vg_core::{
     Base, BinaryOp, CType, Kind, Name, Referent, Target, UnaryOp, library_row, library_takes,
 };
+use vg_cscope::{Wanted, is_function, spelling};
 
 /// By which rule the operands of an operator are integers.
 pub(crate) fn operand_rule(op: BinaryOp) -> Rule
@@ -196,7 +197,7 @@ impl Given<'_> {
     fn row_named(&self, name: Name) -> Option<Referent>
         ensures { result ≡ rules.row_of (known self.now) name }
     {
-        Some(Referent::Library(library_row(spelling(self.text, name))?))
+        Some(Referent::Library(library_row(spelling(self.scopes.text, name))?))
     }
 
     /// What a name that is called stands for, also where it is a function that isn't whole yet.
@@ -219,7 +220,7 @@ impl Given<'_> {
         ensures { result.now ≡ rules.params_of (known self.now) kind }
     {
         match kind {
-            Kind::Function { params, .. } => self.tree.listed(params),
+            Kind::Function { params, .. } => self.scopes.tree.listed(params),
             _ => &[],
         }
     }
@@ -401,7 +402,7 @@ impl Given<'_> {
             Kind::Member { whole, field } => self.member_fault(n, whole, field),
             Kind::Arrow { pointer, field } => self.arrow_fault(n, pointer, field),
             Kind::Call { name, arguments } => {
-                self.call_fault(n, name, self.tree.listed(arguments))
+                self.call_fault(n, name, self.scopes.tree.listed(arguments))
             }
             _ => None,
         }

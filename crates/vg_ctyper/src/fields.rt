@@ -5,7 +5,6 @@ ghost use Rattle.vg_ctyper.specs.Fields as fields;
 ghost use Rattle.vg_ctyper.specs.Views.{known};
 
 use crate::given::Given;
-use crate::standing::seen_at;
 use vg_core::{CType, Kind, Layout, Target, target_layout};
 
 /// The size and alignment of no fields.
@@ -35,7 +34,7 @@ impl Given<'_> {
     pub fn within(&self, n: u32) -> u32
         ensures { result ≡ fields.within (known self.now) n }
     {
-        match self.standings.get(n as usize) {
+        match self.scopes.standings.get(n as usize) {
             Some(standing) => standing.within,
             None => 0,
         }
@@ -67,7 +66,7 @@ impl Given<'_> {
     pub fn fields_before(&self, n: u32) -> Option<Layout>
         ensures { result ≡ fields.fields_before (known self.now) n }
     {
-        match seen_at(self.standings, n) {
+        match self.scopes.seen_at(n) {
             Some(declaration) => self.layout_behind(declaration, self.kind(declaration)),
             None => Some(NO_FIELDS),
         }

@@ -10,7 +10,6 @@ mod given;
 mod kinds;
 mod notes;
 mod rules;
-mod standing;
 mod statement_rules;
 mod typed;
 mod typing;

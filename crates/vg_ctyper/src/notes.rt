@@ -121,7 +121,7 @@ impl Given<'_> {
     fn call_steps(&self, n: u32, name: Name, arguments: Parts) -> u32
         ensures { result ≡ notes.call_steps (known self.now) n name arguments }
     {
-        let arguments = self.sum_of_steps(self.tree.listed(arguments));
+        let arguments = self.sum_of_steps(self.scopes.tree.listed(arguments));
         let callee = self.callee_steps(self.callee(n, name));
         capped(1 + u64::from(arguments) + u64::from(callee))
     }
@@ -141,7 +141,9 @@ impl Given<'_> {
     {
         match kind {
             Kind::Function { body, .. } => self.steps_at(body),
-            Kind::Block { statements, .. } => self.sum_of_steps(self.tree.listed(statements)),
+            Kind::Block { statements, .. } => self.sum_of_steps(
+                self.scopes.tree.listed(statements),
+            ),
             Kind::Declare { value, .. } => self.optional_steps(value),
             Kind::Empty => 1,
             Kind::Evaluate { value: part }
@@ -220,7 +222,7 @@ impl Given<'_> {
                 self.behind_field(n, of, self.fields_before(n)?)
             }
             Kind::Struct { fields, .. } => {
-                whole_struct(self.layout_at(last_of(self.tree.listed(fields))?)?)
+                whole_struct(self.layout_at(last_of(self.scopes.tree.listed(fields))?)?)
             }
             _ => None,
         }

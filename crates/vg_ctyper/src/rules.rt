@@ -37,12 +37,12 @@ impl Given<'_> {
         ensures { result ≡ rules.item_fault (known self.now) n kind }
     {
         match kind {
-            Kind::Unit { items } => self.unit_fault(self.tree.listed(items)),
+            Kind::Unit { items } => self.unit_fault(self.scopes.tree.listed(items)),
             Kind::Struct {
                 tag,
                 fields,
                 attribute,
-            } => self.struct_fault(n, tag, self.tree.listed(fields), attribute),
+            } => self.struct_fault(n, tag, self.scopes.tree.listed(fields), attribute),
             Kind::Field { base, name, length } => self.field_fault(n, kind, base, name, length),
             Kind::ExternHandle { name, .. } => self.name_fault(n, kind, name),
             Kind::ExternNumber { name, .. } => self.name_fault(n, kind, name),

@@ -7,10 +7,11 @@ ghost use Rattle.vg_cint.specs.Types.{integer_of};
 use crate::demands::{Demand, meets};
 use crate::expression_rules::operand_rule;
 use crate::fault::{Rule, TypeFault, sooner};
-use crate::given::{Given, Wanted};
+use crate::given::Given;
 use crate::kinds::UNSIGNED_64;
 use vg_cint::{common, converted, integer_of, less};
 use vg_core::{BinaryOp, CType, IntType, Integer, Kind, Name};
+use vg_cscope::Wanted;
 
 fn is_call(kind: Kind) -> bool
     ensures { result ≡ rules.is_call kind }

@@ -4,7 +4,7 @@ ghost use Rattle.vg_core.specs.Layouts.{layout};
 ghost use Rattle.vg_ctyper.specs.Types as types;
 ghost use Rattle.vg_ctyper.specs.Views.{known};
 
-use crate::given::{Given, Wanted};
+use crate::given::Given;
 use crate::kinds::{
     UNSIGNED_64, address, answer_type, as_integer, as_length, as_struct, cast_type, is_constant_op,
     number, of_integer, of_target, pointee,
@@ -14,6 +14,7 @@ use vg_core::{
     Base, BinaryOp, CType, Integer, Kind, Name, Parts, Referent, Target, UnaryOp, library_answer,
     target_layout,
 };
+use vg_cscope::Wanted;
 
 impl Given<'_> {
     /// The type of a node before.
@@ -253,7 +254,7 @@ impl Given<'_> {
     fn call_type(&self, n: u32, name: Name, arguments: Parts) -> Option<CType>
         ensures { result ≡ types.call_type (known self.now) n name arguments }
     {
-        if self.are_typed(self.tree.listed(arguments)) {
+        if self.are_typed(self.scopes.tree.listed(arguments)) {
             self.type_of_referent(self.callee(n, name)?)
         } else {
             None

@@ -3,6 +3,7 @@ ghost use Rattle.std.specs.Prelude.{◌≡◌, ◌⊎◌, ℕ, List, length, IfO
 ghost use Rattle.vg_core.specs.Syntax.{Syntax, IsOrdered, IsUsedOnce};
 ghost use Rattle.vg_core.specs.Units.{Typed};
 ghost use Rattle.vg_core.specs.declared.unit.Note.{Note};
+ghost use Rattle.vg_cscope.specs.Scopes.{standings_of};
 ghost use Rattle.vg_ctyper.specs.Notes as notes;
 ghost use Rattle.vg_ctyper.specs.Passes as passes;
 ghost use Rattle.vg_ctyper.specs.Small.{AreSmall};
@@ -15,9 +16,9 @@ use crate::declaration_rules::last_of;
 use crate::fault::{TypeFault, sooner};
 use crate::given::Given;
 use crate::notes::BLANK;
-use crate::standing::{Standing, kind_at, standings_of};
 use std::alloc::{AllocError, Global};
 use vg_core::{Kind, Note, Tree, Unit};
+use vg_cscope::{Scopes, kind_at};
 
 /// What is known behind some nodes: notes on them, the bytes of the variables that blocks declare, up to 65,537, and the first fault.
 #[derive(Drop)]
@@ -60,8 +61,7 @@ fn typed(alloc: Global, text: &[u8], tree: Tree) -> Result<Unit, TypeFault>
     ensures typed { IfOk result (λ u. passes.typed text.now tree ≡ Ok u) }
     ensures fault { IfErr result (λ e. (e ≡ type_faults.Memory) ⊎ (passes.typed text.now tree ≡ Err e)) }
 {
-    let standings = standings_of(alloc, &tree)?;
-    let progress = type_nodes(alloc, text, &tree, &standings)?;
+    let progress = progress_of(alloc, text, &tree)?;
     match or_whole(&tree, &progress) {
         Some(fault) => Err(fault),
         None => {
@@ -72,40 +72,35 @@ fn typed(alloc: Global, text: &[u8], tree: Tree) -> Result<Unit, TypeFault>
     }
 }
 
+/// Notes on all nodes of a text, and the first fault.
+fn progress_of(alloc: Global, text: &[u8], tree: &Tree) -> Result<Progress, AllocError>
+    ensures { IfOk result (λ p. seen p ≡ passes.typed_below text.now tree.now (standings_of tree.now) (length tree.now.nodes)) }
+{
+    let scopes = Scopes::of(alloc, text, tree)?;
+    type_nodes(alloc, &scopes)
+}
+
 /// Notes on all nodes, and the first fault.
-fn type_nodes(
-    alloc: Global,
-    text: &[u8],
-    tree: &Tree,
-    standings: &[Standing],
-) -> Result<Progress, AllocError>
-    ensures { IfOk result (λ p. seen p ≡ passes.typed_below text.now tree.now standings.now (length tree.now.nodes)) }
+fn type_nodes(alloc: Global, scopes: &Scopes) -> Result<Progress, AllocError>
+    ensures { IfOk result (λ p. seen p ≡ passes.typed_below scopes.now.text.now scopes.now.tree.now scopes.now.standings.items (length scopes.now.tree.now.nodes)) }
 {
     let mut progress = Progress {
         notes: Vec::new(alloc),
         locals: 0,
         first: None,
     };
-    for n in 0..tree.nodes().len() as u32 {
-        type_node(text, tree, standings, &mut progress, n)?;
+    for n in 0..scopes.tree.nodes().len() as u32 {
+        type_node(scopes, &mut progress, n)?;
     }
     Ok(progress)
 }
 
 /// One node further.
-fn type_node(
-    text: &[u8],
-    tree: &Tree,
-    standings: &[Standing],
-    progress: &mut Progress,
-    n: u32,
-) -> Result<(), AllocError>
-    ensures { OnOk result (seen progress.new ≡ passes.node_typed (passes.known_behind text.now tree.now standings.now progress.old.notes.items) n (seen progress.old)) }
+fn type_node(scopes: &Scopes, progress: &mut Progress, n: u32) -> Result<(), AllocError>
+    ensures { OnOk result (seen progress.new ≡ passes.node_typed (passes.known_behind scopes.now.text.now scopes.now.tree.now scopes.now.standings.items progress.old.notes.items) n (seen progress.old)) }
 {
     let given = Given {
-        text,
-        tree,
-        standings,
+        scopes,
         notes: &progress.notes,
     };
     let kind = given.kind(n);

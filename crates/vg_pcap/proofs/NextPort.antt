@@ -8,10 +8,10 @@ use Rattle.vg_base.specs.Files.{Disk}
 use Rattle.vg_pcap.specs.Frames.{Framed}
 use Rattle.vg_pcap.specs.Arrivals.{Arrival, Precedes}
 use Rattle.vg_pcap.specs.Reader.{IsReadable}
-use Rattle.vg_pcap.specs.Merge.{Input, AreReadable, IsNext, IsChanged, waiting_at}
+use Rattle.vg_pcap.specs.Merge.{Input, AreReadable, IsNext, IsChanged, ids_of, waiting_at}
 use Rattle.vg_pcap.specs.Inputs.{AreInputs, IsSound}
 use Rattle.vg_pcap.specs.Lending.{over, over_input, Waiting, first_of, next_from, over_waiting, over_next, IsWritten}
-use Rattle.vg_pcap.proofs.Arriving.{slice_get-set_same, slice_get-set_other, All-at_place, All-from_places}
+use Rattle.vg_pcap.proofs.Arriving.{slice_get-set_same, slice_get-set_other, All-at_place, All-from_places, filter_map-same}
 use Rattle.vg_pcap.proofs.Ports.{apart-set}
 use Rattle.vg_pcap.proofs.Lent.{over_whole, length-over}
 use Rattle.vg_pcap.proofs.Merging.{one_next, still_next}
@@ -183,4 +183,19 @@ readable_changed s {came} {now} {a} changed readable =
     let is = same_Some _ x (sym (changed.bytes input changed.next.at).2 ∙ there) in
     subst (λ (i : Input). IsReadable s i.reader.id) is (All-at_place (λ (i : Input). IsReadable s i.reader.id) came a.port input readable changed.next.at))
     (λ (ne : port ≢ a.port). All-at_place (λ (i : Input). IsReadable s i.reader.id) came port x readable (sym (changed.others port ne) ∙ at))
+    (cases_eq port a.port))
+
+-- and so are their ids
+pub ids_changed : {came now : List Input} {a : Arrival} → IsChanged came now a → ids_of now ≡ ids_of came
+ids_changed {came} {now} {a} changed =
+    filter_map-same (λ (i : Input). i.reader.id) now came changed.ports
+    (λ port x y at_now at_came. ⊎_elim
+    (λ (e : port ≡ a.port).
+    let input = changed.next.input in
+    let there : slice_get now a.port ≡ Some x = ap (λ k. slice_get now k) (sym e) ∙ at_now in
+    let before : slice_get came a.port ≡ Some y = ap (λ k. slice_get came k) (sym e) ∙ at_came in
+    let is = same_Some _ x (sym (changed.bytes input changed.next.at).2 ∙ there) in
+    let was : input ≡ y = same_Some input y (sym changed.next.at ∙ before) in
+    sym (ap (λ (i : Input). i.reader.id) is) ∙ ap (λ (i : Input). i.reader.id) was)
+    (λ (ne : port ≢ a.port). ap (λ (i : Input). i.reader.id) (same_Some x y (sym at_now ∙ (changed.others port ne ∙ at_came))))
     (cases_eq port a.port))

@@ -60,7 +60,7 @@ link_bytes encoding = number_bytes encoding.order 4 1
 unfoldable pub header_bytes : Encoding → List ℕ → List ℕ
 header_bytes encoding ignored = magic_bytes encoding ++ version_bytes encoding ++ ignored ++ link_bytes encoding
 
--- the file begins with a header, and these bytes stand behind it
+-- the file begins with a header, and these bytes stand after it
 pub record HasHeader (encoding : Encoding) (file behind : List ℕ) : Type 0 where
   pub ignored : List ℕ
   pub ignored_size : length ignored ≡ 12
@@ -113,13 +113,14 @@ pub record IsGood (encoding : Encoding) (r : Record) : Type 0 where
 -- a record begins with four numbers of 32 bits
 unfoldable pub head_bytes : Encoding → RecordHead → List ℕ
 head_bytes encoding h =
-    number_bytes encoding.order 4 h.seconds ++ number_bytes encoding.order 4 h.fraction ++ number_bytes encoding.order 4 h.size ++ number_bytes encoding.order 4 h.original
+    number_bytes encoding.order 4 h.seconds ++ number_bytes encoding.order 4 h.fraction
+    ++ number_bytes encoding.order 4 h.size ++ number_bytes encoding.order 4 h.original
 
 -- a record's bytes
 abbrev pub record_bytes : Encoding → Record → List ℕ
 record_bytes encoding r = head_bytes encoding (head_of r) ++ r.captured
 
--- the bytes begin with these numbers, and others stand behind them
+-- the bytes begin with these numbers, and others stand after them
 pub record HasHead (encoding : Encoding) (bytes : List ℕ) (h : RecordHead) (behind : List ℕ) : Type 0 where
   pub seconds : h.seconds < 2 ^ 32
   pub fraction : h.fraction < 2 ^ 32
@@ -148,7 +149,7 @@ pub data CaptureEnd : Type 0 where
   Whole : CaptureEnd
   Refused : Damage → CaptureEnd
 
--- what stands behind the good records
+-- what stands after the good records
 abbrev pub EndsWith : Encoding → List ℕ → CaptureEnd → Type 0
 EndsWith encoding rest Whole = rest ≡ []
 EndsWith encoding rest (Refused damage) = IsDamaged encoding rest damage

@@ -17,7 +17,7 @@ time_of encoding r = r.seconds * 1000000000 + r.fraction * nanoseconds_per_unit 
 abbrev pub frame_of : Encoding → ℕ → Record → Framed
 frame_of encoding latest r = record { time = max latest (time_of encoding r); original = r.original; bytes = r.captured }
 
--- the frames of records that stand behind others: a frame's time is the latest time of a record so far, since the format
+-- the frames of records that stand after others: a frame's time is the latest time of a record so far, since the format
 -- doesn't promise that times rise
 abbrev pub frames_after : Encoding → ℕ → List Record → List Framed
 frames_after encoding latest [] = []

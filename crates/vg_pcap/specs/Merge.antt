@@ -39,6 +39,10 @@ pub record IsNext (inputs : List Input) (a : Arrival) : Type 0 where
   pub frame : a.frame ≡ input.reader.frame
   pub least : (port : ℕ) (other : Input) → slice_get inputs port ≡ Some other → other.waits ≡ true → Precedes a (waiting_at port other)
 
+-- the frame that waits at this port is next
+abbrev pub IsNextAt : List Input → ℕ → Type 0
+IsNextAt inputs port = (frame : Framed) × IsNext inputs (record { port = port; frame = frame })
+
 -- ---- what is still to come
 
 -- this stream is still to come at a port: the frame that waits, and then the reader's; where none waits, all have come
@@ -107,7 +111,7 @@ pub record ReadsInputs (s t : Disk) (old new : List Input) (result : Result (Uni
   pub open_count : t.open_count ≡ s.open_count
   pub ports : length new ≡ length old
 
--- the next record of a port is refused, behind these frames, or there is a fault at reading
+-- the next record of a port is refused, after these frames, or there is a fault at reading
 abbrev pub RefusesRecord : List Stream → List Arrival → MergeFault → Type 0
 RefusesRecord streams past e =
     (e.fault ≡ faults.Read)
@@ -133,7 +137,7 @@ pub record IsChanged (came now : List Input) (a : Arrival) : Type 0 where
   pub bytes : (input : Input) → slice_get came a.port ≡ Some input → (changed : List ℕ) × (length changed ≡ length a.frame.bytes)
       × (slice_get now a.port ≡ Some (record input { reader = record input.reader { frame = record a.frame { bytes = changed } } }))
 
--- the record behind the next frame was read, or it is refused
+-- the record after the next frame was read, or it is refused
 pub record Advances (s t : Disk) (old new : List Input) (result : Result (Unit {0}) MergeFault) : Type 0 where
   pub reads : ReadsInputs s t old new result
   pub comes : (came : List Input) (streams : List Stream) (past : List Arrival) (a : Arrival) → IsChanged came old a → Comes s came streams past →

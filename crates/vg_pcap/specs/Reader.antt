@@ -52,7 +52,7 @@ pub record HasReadCause {A : Type 0} (s t : Disk) (result : Result A CaptureFaul
   pub same_else : IfErr result (λ e. e ≢ faults.Read → t.read_faults ≡ s.read_faults)
   pub rises : s.read_faults ≤ t.read_faults
 
--- the number of the record behind so many; it doesn't pass the greatest of its type
+-- the number of the record after so many; it doesn't pass the greatest of its type
 abbrev pub number_after : ℕ → ℕ
 number_after count = min (count + 1) (2 ^ 64 - 1)
 

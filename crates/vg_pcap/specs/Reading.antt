@@ -51,12 +51,12 @@ pub record HasGoodHead (encoding : Encoding) (bytes : List ℕ) (h : RecordHead)
 abbrev pub nanoseconds_of : Encoding → RecordHead → ℕ
 nanoseconds_of encoding h = h.seconds * 1000000000 + h.fraction * nanoseconds_per_unit encoding.resolution
 
--- the bytes begin with this good record, and others stand behind it
+-- the bytes begin with this good record, and others stand after it
 pub record HasRecord (encoding : Encoding) (bytes : List ℕ) (r : Record) (behind : List ℕ) : Type 0 where
   pub good : IsGood encoding r
   pub whole : bytes ≡ record_bytes encoding r ++ behind
 
--- the record of a head and of the bytes behind it
+-- the record of a head and of the bytes after it
 abbrev pub record_of_head : RecordHead → List ℕ → Record
 record_of_head h bytes = record { seconds = h.seconds; fraction = h.fraction; original = h.original; captured = take h.size bytes }
 

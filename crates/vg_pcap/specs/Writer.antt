@@ -4,7 +4,7 @@ use Rattle.vg_base.specs.declared.faults.Failed.{Failed}
 use Rattle.vg_base.specs.Files.{Disk, Writes, writing, Counts, SameHeld, SameIds, OpensOne}
 use Rattle.vg_pcap.specs.Frames.{header}
 
--- a file was left as it was, or it was created and holds first bytes of these
+-- a file is untouched, or it was created and holds a prefix of these bytes
 abbrev pub IsBegun : Disk → Disk → List ℕ → List ℕ → Type 0
 IsBegun s t name whole = (t.made name ≡ s.made name) ⊎ ((n : ℕ) × (n ≤ length whole) × (t.made name ≡ Some (take n whole)))
 

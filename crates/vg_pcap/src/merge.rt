@@ -4,7 +4,7 @@ ghost use Rattle.vg_base.specs.Files.{Disk};
 ghost use Rattle.vg_pcap.specs.Frames.{Framed, Stream, Fits};
 ghost use Rattle.vg_pcap.specs.Arrivals.{Arrival, AllCome, ComeFirst};
 ghost use Rattle.vg_pcap.specs.Reader.{IsReadable};
-ghost use Rattle.vg_pcap.specs.Merge.{Input, AreReadable, IsNext, IsChanged, Comes, StartsMerge, Fills, Advances, ClosesInputs};
+ghost use Rattle.vg_pcap.specs.Merge.{Input, AreReadable, IsNext, IsNextAt, IsChanged, Comes, StartsMerge, Fills, Advances, ClosesInputs};
 ghost use Rattle.vg_pcap.specs.Inputs.{AreApart, IsLeastBelow, Refills, RefillsAt, OpensPort};
 
 use crate::faults::CaptureFault;
@@ -127,7 +127,7 @@ impl Merge {
 
     /// The port of the next frame, or nothing where every capture has ended.
     pub fn next_port(&self) -> Option<u16>
-        ensures next { IfSome result (λ port. (frame : Framed) × IsNext self.now (record { port = port; frame = frame })) }
+        ensures next { IfSome result (IsNextAt self.now) }
         ensures fits { (a : Arrival) → IsNext self.now a → Fits a.frame }
         ensures first { (a : Arrival) → IsNext self.now a → (s : Disk) (streams : List Stream) (past : List Arrival) → Comes s self.now streams past →
             (left : List Stream) × ComeFirst streams (past ++ a ∷ []) left }
@@ -141,53 +141,49 @@ impl Merge {
         next
     }
 
-    /// The bytes of the next frame.
-    pub fn frame(&self) -> &[u8]
-        requires { (a : Arrival) × IsNext self.now a }
+    /// The bytes of the next frame, which came in at this port.
+    pub fn frame(&self, port: u16) -> &[u8]
+        requires { IsNextAt self.now port }
         ensures { (a : Arrival) → IsNext self.now a → result.now ≡ a.frame.bytes }
     {
-        self.next_input().reader.frame()
+        self.next_input(port).reader.frame()
     }
 
-    /// The bytes of the next frame, to be changed in place. It keeps its length and its time, and is still the next.
-    pub fn frame_mut(&mut self) -> &mut [u8]
-        requires { (a : Arrival) × IsNext self.old a }
+    /// The bytes of the next frame, which came in at this port, to be changed in place. It keeps its length and its time, and is still the next.
+    pub fn frame_mut(&mut self, port: u16) -> &mut [u8]
+        requires { IsNextAt self.old port }
         ensures* writes_back { sem 𝓛 (LendsNext self.entry result) }
         ensures value { (a : Arrival) → IsNext self.old a → result.now ≡ a.frame.bytes }
-        ensures written { (a : Arrival) (bytes : List ℕ) → IsNext self.old a → length bytes ≡ length a.frame.bytes → IsWritten self.old (over_next self.old bytes) a bytes }
+        ensures written { (a : Arrival) (bytes : List ℕ) → IsNext self.old a → length bytes ≡ length a.frame.bytes →
+            IsWritten self.old (over_next self.old bytes) a bytes }
     {
-        let Some(port) = self.next_port() else {
-            unreachable!()
-        };
         let next = &mut self.inputs[port as usize];
         next.frame_mut()
     }
 
-    /// When the next frame came, in nanoseconds.
-    pub fn time(&self) -> u64
-        requires { (a : Arrival) × IsNext self.now a }
+    /// When the next frame, which came in at this port, came: in nanoseconds.
+    pub fn time(&self, port: u16) -> u64
+        requires { IsNextAt self.now port }
         ensures { (a : Arrival) → IsNext self.now a → result ≡ a.frame.time }
     {
-        self.next_input().reader.time()
+        self.next_input(port).reader.time()
     }
 
-    /// How long the next frame was, in bytes, before it was cut to what was captured.
-    pub fn original(&self) -> u32
-        requires { (a : Arrival) × IsNext self.now a }
+    /// How long the next frame, which came in at this port, was, in bytes, before it was cut to what was captured.
+    pub fn original(&self, port: u16) -> u32
+        requires { IsNextAt self.now port }
         ensures { (a : Arrival) → IsNext self.now a → result ≡ a.frame.original }
     {
-        self.next_input().reader.original()
+        self.next_input(port).reader.original()
     }
 
-    /// Reads the record behind the next frame, which has been handled then. After a refusal the merge can only be closed. It takes no memory.
-    pub fn advance<F: Files>(&mut self, files: &mut F) -> Result<(), MergeFault>
+    /// Reads the record after the next frame, which came in at this port and has been handled then. After a refusal the merge can only be closed. It takes
+    /// no memory.
+    pub fn advance<F: Files>(&mut self, files: &mut F, port: u16) -> Result<(), MergeFault>
         requires readable { AreReadable (F.disk files.old) self.old }
-        requires next { (a : Arrival) × IsNext self.old a }
+        requires next { IsNextAt self.old port }
         ensures { Advances (F.disk files.old) (F.disk files.new) self.old self.new result }
     {
-        let Some(port) = self.next_port() else {
-            unreachable!()
-        };
         match self.refill(files, port) {
             Ok(()) => Ok(()),
             Err(fault) => Err(MergeFault { port, fault }),
@@ -203,14 +199,11 @@ impl Merge {
         close_all(files, inputs)
     }
 
-    // The input whose frame is next.
-    fn next_input(&self) -> &PortInput
-        requires { (a : Arrival) × IsNext self.now a }
+    // The input whose frame is next, at this port.
+    fn next_input(&self, port: u16) -> &PortInput
+        requires { IsNextAt self.now port }
         ensures { (a : Arrival) → IsNext self.now a → slice_get self.now a.port ≡ Some result.now }
     {
-        let Some(port) = self.next_port() else {
-            unreachable!()
-        };
         &self.inputs[port as usize]
     }
 

@@ -12,7 +12,7 @@ use crate::headers::read_header;
 use crate::records::{RecordHead, read_head};
 use vg_base::Files;
 
-// The header, which tells how the numbers behind it are written.
+// The header, which tells how the numbers after it are written.
 pub(crate) fn take_header<F: Files>(
     source: &mut Buffered,
     files: &mut F,

@@ -39,7 +39,7 @@ impl RecordHead {
     }
 }
 
-// The numbers in the 16 bytes that a record begins with, or why it is refused whatever stands behind them.
+// The numbers in the 16 bytes that a record begins with, or why it is refused whatever stands after them.
 pub(crate) fn read_head(encoding: Encoding, bytes: &[u8]) -> Result<RecordHead, Damage>
     requires { length bytes.now ≡ 16 }
     ensures good { IfOk result (λ head. HasGoodHead (encoding_view encoding) bytes.now (head_view head)) }

@@ -32,7 +32,7 @@ fn header(alloc: Global, big: bool, magic: u32) -> Result<Vec<u8>, AllocError> {
     Ok(bytes)
 }
 
-// Puts a record behind others: seconds, fraction, captured and original length, and so many bytes 9.
+// Puts a record after others: seconds, fraction, captured and original length, and so many bytes 9.
 fn add_record(
     bytes: &mut Vec<u8>,
     big: bool,
@@ -266,7 +266,7 @@ fn a_fault_is_told(rt: HostRuntime) -> Result<(), Fail> {
     let mut bytes = header(alloc, false, NANOSECONDS)?;
     add_record(&mut bytes, false, [1, 2, 3, 3], 3)?;
     add_record(&mut bytes, false, [1, 2, 70_000, 70_000], 70_000)?;
-    // The third call, behind opening and one read, reads more than is ahead.
+    // The third call, after opening and one read, reads more than is ahead.
     let mut files = file(alloc, bytes.as_slice(), &[3])?;
     let mut reader = CaptureReader::start(alloc, &mut files, "in")?;
     assert_eq!(rt; reader.next(&mut files), Ok(true));

@@ -42,7 +42,7 @@ impl CaptureWriter {
         Ok(CaptureWriter { id })
     }
 
-    /// Writes a frame behind those before: when it came, in nanoseconds, below 2 to the 32 seconds; how long it was, in bytes, before it was cut; and its
+    /// Writes a frame after those before: when it came, in nanoseconds, below 2 to the 32 seconds; how long it was, in bytes, before it was cut; and its
     /// bytes, at most `MAX_CAPTURED`. Write frames in the order of their times. A small frame goes out in one write.
     ///
     /// `Failed` comes from the file; some first bytes of the frame may be written then.

@@ -6,10 +6,10 @@ use Rattle.vg_base.specs.declared.faults.Failed.{Failed}
 use Rattle.vg_base.specs.Files.{Disk, WriteKeeps}
 use Rattle.vg_pcap.specs.declared.merge.MergeFault.{MergeFault}
 use Rattle.vg_pcap.proofs.Staying.{SameReading-writes, Comes-stays}
-use Rattle.vg_pcap.proofs.Merging.{IsChanged-same}
+use Rattle.vg_pcap.proofs.NextPort.{readable_changed, ids_changed}
 use Rattle.vg_pcap.specs.Frames.{Stream}
 use Rattle.vg_pcap.specs.Arrivals.{Arrival, ComeFirst}
-use Rattle.vg_pcap.specs.Merge.{Input, IsNext, Comes, Advances}
+use Rattle.vg_pcap.specs.Merge.{Input, IsNext, IsChanged, Comes, Advances}
 use Rattle.vg_replay.specs.declared.stop.RunStop.{RunStop}
 use Rattle.vg_replay.specs.declared.stop.RunStop.TheVariants as stops
 use Rattle.vg_replay.specs.declared.totals.Totals.{Totals}
@@ -21,7 +21,7 @@ use Rattle.vg_replay.specs.Counts.{AreFew, counted}
 use Rattle.vg_replay.specs.Outputs.{Handled, arrivals_of}
 use Rattle.vg_replay.specs.Handler.{HandlesAll, HandledAfter, StopsAfter}
 use Rattle.vg_replay.specs.Replays.{ReplayFiles, Replays, StopsBegun, AreFirst, HavePorts, most_frames}
-use Rattle.vg_replay.specs.UnderWay.{Replaying, TakesFewSteps, HaveCome, Going}
+use Rattle.vg_replay.specs.UnderWay.{Replaying, TakesFewSteps, IsSound, HasOpened, HaveCome, Going}
 use Rattle.vg_replay.specs.Writing.{WritesFrame}
 use Rattle.vg_replay.specs.Stepping.{stop_of, HasStopped, HasEnded, ClosesAll}
 
@@ -55,11 +55,33 @@ ports_more : {s t : Disk} {n : ReplayFiles} {r : Replaying} {past : List Handled
 ports_more {n = n} {r = r} {past = past} h x next =
     All-push (λ (x : Handled). x.arrival.port < length n.ins) past h x.ports (let within = slice_get_within r.inputs h.arrival.port next.input next.at in omega (arith, within, x.sound.inputs))
 
+-- ---- a frame whose bytes were changed in place
+
+-- the files stay open
+opened_changed : {s t : Disk} {n : ReplayFiles} {r : Replaying} {mid : List Input} {a : Arrival} → IsChanged r.inputs mid a → HasOpened s t n r → HasOpened s t n (record r { inputs = mid })
+opened_changed {s} {t} {n} {r} {mid} changed o =
+    let ids = ids_changed changed in
+    record {
+      held = o.held;
+      opens = record {
+        closed = rw ids o.opens.closed;
+        others = λ id none. o.opens.others id (rw ids at none);
+        count = rw ids o.opens.count;
+      };
+      readable = readable_changed t changed o.readable;
+      writable = o.writable;
+      outs_named = o.outs_named;
+      log_named = o.log_named;
+    }
+
+sound_changed : {n : ReplayFiles} {r : Replaying} {mid : List Input} {a : Arrival} → IsChanged r.inputs mid a → IsSound n r → IsSound n (record r { inputs = mid })
+sound_changed changed sound = record { names = sound.names; inputs = changed.ports ∙ sound.inputs; outs = sound.outs; few = sound.few }
+
 -- the handler stopped, and nothing was written
-pub handler_stops : {S : Type 0} {I : List Handled → Type 0} {A : List Handled → Arrival → S → Type 0} {s t : Disk} {n : ReplayFiles} {r : Replaying} {past : List Handled} (a : Arrival) (reason : S) → I past → A past a reason
-    → Going s t n r past → r.totals.frames ≢ most_frames → IsFirstLeft r.inputs a → HasStopped s t n r I A (stops.Handler reason)
-handler_stops {past = past} a reason history halts x not first = record {
-  opened = x.opened;
+pub handler_stops : {S : Type 0} {I : List Handled → Type 0} {A : List Handled → Arrival → S → Type 0} {s t : Disk} {n : ReplayFiles} {r : Replaying} {past : List Handled} {mid : List Input} (a : Arrival) (reason : S) → I past → A past a reason
+    → Going s t n r past → r.totals.frames ≢ most_frames → IsChanged r.inputs mid a → IsFirstLeft r.inputs a → HasStopped s t n (record r { inputs = mid }) I A (stops.Handler reason)
+handler_stops {past = past} a reason history halts x not changed first = record {
+  opened = opened_changed changed x.opened;
   others = x.others;
   stops = record {
     frames = past;
@@ -73,17 +95,17 @@ handler_stops {past = past} a reason history halts x not first = record {
   };
 }
 
--- a frame was written, and the record behind it is read now
-pub frame_written : {s t u : Disk} {n : ReplayFiles} {r : Replaying} {past : List Handled} (h : Handled) → Going s t n r past → r.totals.frames ≢ most_frames → IsNext r.inputs h.arrival → IsFirstLeft r.inputs h.arrival → TakesFewSteps h
-    → WritesFrame t u r.outs r.log (r.totals.frames + 1) h (Ok tt) → IsRead s u n r (past ++ h ∷ [])
-frame_written {past = past} h x not next first steps writes =
+-- a frame was written, and the record after it is read now
+pub frame_written : {s t u : Disk} {n : ReplayFiles} {r : Replaying} {past : List Handled} {mid : List Input} (h : Handled) → Going s t n r past → r.totals.frames ≢ most_frames → IsChanged r.inputs mid h.arrival → IsFirstLeft r.inputs h.arrival
+    → TakesFewSteps h → WritesFrame t u r.outs r.log (r.totals.frames + 1) h (Ok tt) → IsRead s u n (record r { inputs = mid }) (past ++ h ∷ [])
+frame_written {past = past} h x not changed first steps writes =
     let keeps = frame_keeps (Ok tt) writes in
     let number = ap (λ k. k + 1) (past_number x) in
     record {
-      sound = x.sound;
-      opened = opened_writes x.opened keeps;
+      sound = sound_changed changed x.sound;
+      opened = opened_changed changed (opened_writes x.opened keeps);
       no_fault = record { read_faults = keeps.read_faults ∙ x.no_fault.read_faults; write_faults = frame_same writes ∙ x.no_fault.write_faults };
-      ports = ports_more h x next;
+      ports = ports_more h x changed.next;
       first = first_more h x not first;
       wrote = λ told. wrote_more h x.sound x.opened told (x.wrote told) number writes;
       others = λ told. others_more (Ok tt) x.sound x.opened told (x.others told) writes;
@@ -92,13 +114,13 @@ frame_written {past = past} h x not next first steps writes =
     }
 
 -- a frame couldn't be written
-pub frame_fails : {S : Type 0} {I : List Handled → Type 0} {A : List Handled → Arrival → S → Type 0} {s t u : Disk} {n : ReplayFiles} {r : Replaying} {past : List Handled} {e : Failed} (h : Handled) → I (past ++ h ∷ []) → Going s t n r past → r.totals.frames ≢ most_frames
-    → IsNext r.inputs h.arrival → IsFirstLeft r.inputs h.arrival → WritesFrame t u r.outs r.log (r.totals.frames + 1) h (Err e) → HasStopped s u n r I A stops.Write
-frame_fails {past = past} {e = e} h history x not next first writes =
+pub frame_fails : {S : Type 0} {I : List Handled → Type 0} {A : List Handled → Arrival → S → Type 0} {s t u : Disk} {n : ReplayFiles} {r : Replaying} {past : List Handled} {mid : List Input} {e : Failed} (h : Handled) → I (past ++ h ∷ []) → Going s t n r past → r.totals.frames ≢ most_frames
+    → IsChanged r.inputs mid h.arrival → IsFirstLeft r.inputs h.arrival → WritesFrame t u r.outs r.log (r.totals.frames + 1) h (Err e) → HasStopped s u n (record r { inputs = mid }) I A stops.Write
+frame_fails {past = past} {e = e} h history x not changed first writes =
     let keeps = frame_keeps (Err e) writes in
     let number = ap (λ k. k + 1) (past_number x) in
     record {
-      opened = opened_writes x.opened keeps;
+      opened = opened_changed changed (opened_writes x.opened keeps);
       others = λ told. others_more (Err e) x.sound x.opened told (x.others told) writes;
       stops = (
         rw x.no_fault.write_faults at (frame_rose writes),
@@ -106,7 +128,7 @@ frame_fails {past = past} {e = e} h history x not next first writes =
         record {
           frames = past ++ h ∷ [];
           history = history;
-          ports = ports_more h x next;
+          ports = ports_more h x changed.next;
           first = first_more h x not first;
           wrote = λ told. wrote_parts h x.sound x.opened told (x.wrote told) number writes;
         },
@@ -118,22 +140,22 @@ come_after : {s t u : Disk} {n : ReplayFiles} {r : Replaying} {past : List Handl
 come_after {r = r} x keeps told = let come = x.come told in (come.0, come.1, Comes-stays (SameReading-writes r.inputs keeps) come.2)
 
 -- the frame was handled
-pub frame_handled : {s t u v : Disk} {n : ReplayFiles} {r : Replaying} {past : List Handled} {new : List Input} (h : Handled) → Going s t n r past → r.totals.frames ≢ most_frames → IsNext r.inputs h.arrival → IsFirstLeft r.inputs h.arrival
-    → TakesFewSteps h → WritesFrame t u r.outs r.log (r.totals.frames + 1) h (Ok tt) → Advances u v r.inputs new (Ok tt) → Going s v n (with_inputs r new (counted r.totals h.verdict h.steps)) (past ++ h ∷ [])
-frame_handled {r = r} {past = past} h x not next first steps writes advances =
+pub frame_handled : {s t u v : Disk} {n : ReplayFiles} {r : Replaying} {past : List Handled} {mid new : List Input} (h : Handled) → Going s t n r past → r.totals.frames ≢ most_frames → IsChanged r.inputs mid h.arrival → IsFirstLeft r.inputs h.arrival
+    → TakesFewSteps h → WritesFrame t u r.outs r.log (r.totals.frames + 1) h (Ok tt) → Advances u v mid new (Ok tt) → Going s v n (with_inputs r new (counted r.totals h.verdict h.steps)) (past ++ h ∷ [])
+frame_handled {r = r} {past = past} h x not changed first steps writes advances =
     let counts = ap (λ (t : Totals). counted t h.verdict h.steps) x.totals_are ∙ sym (totals_of-more past h) in
-    read_goes (frame_written h x not next first steps writes) advances.reads counts (λ told.
+    read_goes (frame_written h x not changed first steps writes) advances.reads counts (λ told.
     let come = come_after x (frame_keeps (Ok tt) writes) told in
-    rw (arrivals_of-more past h) (come.0, come.1, advances.comes r.inputs come.0 (arrivals_of past) h.arrival (IsChanged-same next) come.2))
+    rw (arrivals_of-more past h) (come.0, come.1, advances.comes r.inputs come.0 (arrivals_of past) h.arrival changed come.2))
 
--- the record behind the frame is refused
-pub frame_last : {S : Type 0} {I : List Handled → Type 0} {A : List Handled → Arrival → S → Type 0} {s t u v : Disk} {n : ReplayFiles} {r : Replaying} {past : List Handled} {new : List Input} {e : MergeFault} (totals : Totals) (h : Handled) → I (past ++ h ∷ []) → Going s t n r past
-    → r.totals.frames ≢ most_frames → IsNext r.inputs h.arrival → IsFirstLeft r.inputs h.arrival → TakesFewSteps h → WritesFrame t u r.outs r.log (r.totals.frames + 1) h (Ok tt) → Advances u v r.inputs new (Err e)
+-- the record after the frame is refused
+pub frame_last : {S : Type 0} {I : List Handled → Type 0} {A : List Handled → Arrival → S → Type 0} {s t u v : Disk} {n : ReplayFiles} {r : Replaying} {past : List Handled} {mid new : List Input} {e : MergeFault} (totals : Totals) (h : Handled) → I (past ++ h ∷ []) → Going s t n r past
+    → r.totals.frames ≢ most_frames → IsChanged r.inputs mid h.arrival → IsFirstLeft r.inputs h.arrival → TakesFewSteps h → WritesFrame t u r.outs r.log (r.totals.frames + 1) h (Ok tt) → Advances u v mid new (Err e)
     → HasStopped s v n (with_inputs r new totals) I A (stop_of e)
-frame_last {r = r} {past = past} totals h history x not next first steps writes advances =
-    read_stops totals history (frame_written h x not next first steps writes) advances.reads advances.fault (λ told.
+frame_last {r = r} {past = past} totals h history x not changed first steps writes advances =
+    read_stops totals history (frame_written h x not changed first steps writes) advances.reads advances.fault (λ told.
     let come = come_after x (frame_keeps (Ok tt) writes) told in
-    rw (arrivals_of-more past h) (come.0, come.1, advances.refused r.inputs come.0 (arrivals_of past) h.arrival (IsChanged-same next) come.2))
+    rw (arrivals_of-more past h) (come.0, come.1, advances.refused r.inputs come.0 (arrivals_of past) h.arrival changed come.2))
 
 -- ---- the end
 

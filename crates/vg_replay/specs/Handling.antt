@@ -33,7 +33,8 @@ module _ {H S : Type 0} (Handles : H → Handled → H → Type 0) (Stops : H �
   -- A replay that began at s and handled these frames has handled the next one; or none was left, and it ended; or it stopped. Its start alone
   -- takes memory and reads headers.
   abbrev pub HandlesNext : Disk → Disk → ReplayFiles → ReplayOf H → List Handled → Result (Next H) (RunStop S) → Type 0
-  HandlesNext s t n r past (Ok (nexts.Again next)) = (h : Handled) × Handles r.handler h next.handler × IsNext r.files.inputs h.arrival × Going s t n next.files (past ++ h ∷ [])
+  HandlesNext s t n r past (Ok (nexts.Again next)) =
+      (h : Handled) × Handles r.handler h next.handler × IsNext r.files.inputs h.arrival × Going s t n next.files (past ++ h ∷ [])
   HandlesNext s t n r past (Ok (nexts.End totals)) = All (λ input. input.waits ≡ false) r.files.inputs × ReplaysOn s t n r past (Ok totals)
   HandlesNext s t n r past (Err stop) = StopsOn s t n r past stop × ReplaysOn s t n r past (Err stop)
 

@@ -3,15 +3,23 @@ use Rattle.std.specs.Prelude.{ℕ, ◌+◌, List, [], ◌∷◌, ◌++◌, codes
 use Rattle.std.specs.List.{flat_map}
 use Rattle.vg_core.specs.declared.verdict.Verdict.{Verdict}
 use Rattle.vg_core.specs.declared.verdict.Verdict.TheVariants.{Drop, Send, Flood}
-use Rattle.vg_pcap.specs.Frames.{header, record_of}
+use Rattle.vg_pcap.specs.Frames.{Framed, header, record_of}
 use Rattle.vg_pcap.specs.Arrivals.{Arrival}
+use Rattle.vg_replay.specs.declared.handled.Handed.{Handed}
 use Rattle.vg_replay.specs.declared.totals.Totals.{Totals}
 
--- a frame with the port at which it came in, and what was done with it
+-- a frame as it came in, the bytes that it was left with, and what was done with it
 pub record Handled : Type 0 where
   pub arrival : Arrival
+  pub bytes : List ℕ
   pub verdict : Verdict
   pub steps : ℕ
+  -- the indices that were handed out, in order
+  pub handed : List Handed
+
+-- the frame as it goes out: as it came in, but for its bytes
+abbrev pub outgoing_frame : Handled → Framed
+outgoing_frame h = record h.arrival.frame { bytes = h.bytes }
 
 -- the frames as they came in
 abbrev pub arrivals_of : List Handled → List Arrival
@@ -25,7 +33,7 @@ goes_to Flood from to = if from == to then false else true
 
 -- what a frame puts into the capture of a port
 unfoldable pub piece_to : ℕ → Handled → List ℕ
-piece_to port h = if goes_to h.verdict h.arrival.port port then record_of h.arrival.frame else []
+piece_to port h = if goes_to h.verdict h.arrival.port port then record_of (outgoing_frame h) else []
 
 -- the capture of a port: a header, and the frames that went there
 unfoldable pub capture_to : ℕ → List Handled → List ℕ
@@ -37,10 +45,15 @@ verdict_text Drop = codes "drop"
 verdict_text (Send port) = codes "to " ++ decimal port
 verdict_text Flood = codes "flood"
 
+-- an index that was handed out, as the log has it
+abbrev pub handed_text : Handed → List ℕ
+handed_text i = codes " new " ++ decimal i.chain ++ codes ":" ++ decimal i.index
+
 -- the line of the log on frame n
 unfoldable pub line_of : ℕ → Handled → List ℕ
 line_of n h =
-    decimal n ++ codes " in " ++ decimal h.arrival.port ++ codes " " ++ verdict_text h.verdict ++ codes " steps " ++ decimal h.steps ++ codes "\n"
+    decimal n ++ codes " in " ++ decimal h.arrival.port ++ codes " " ++ verdict_text h.verdict ++ codes " steps " ++ decimal h.steps
+    ++ flat_map handed_text h.handed ++ codes "\n"
 
 -- the lines on these frames, the first of which is frame n
 abbrev pub lines_from : ℕ → List Handled → List ℕ

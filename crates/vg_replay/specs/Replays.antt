@@ -42,7 +42,7 @@ pub record WroteAll (s t : Disk) (n : ReplayFiles) (frames : List Handled) : Typ
   pub outs : (port : ℕ) (name : List ℕ) → slice_get n.outs port ≡ Some name → t.made name ≡ Some (capture_to port frames)
   pub log : t.made n.log ≡ Some (log_of frames)
 
--- a file was left as it was, or it was created and holds no more than first bytes of these
+-- a file is untouched, or it was created and holds a prefix of these bytes
 abbrev pub IsPart : Disk → Disk → List ℕ → List ℕ → Type 0
 IsPart s t name whole =
     (t.made name ≡ s.made name) ⊎ ((part : List ℕ) × (rest : List ℕ) × (t.made name ≡ Some part) × (whole ≡ part ++ rest))
@@ -55,7 +55,7 @@ Holds t name bytes = (more : List ℕ) × (t.made name ≡ Some (bytes ++ more))
 abbrev pub HoldCaptures : Disk → ReplayFiles → List Handled → Type 0
 HoldCaptures t n frames = (port : ℕ) (name : List ℕ) → slice_get n.outs port ≡ Some name → Holds t name (capture_to port frames)
 
--- Each output was left as it was or holds no more than first bytes of what it should of these frames. All of them were handled whole but at most the last
+-- Each output is untouched or a prefix of the correct one for these frames. All of them were handled whole but at most the last
 -- one: the captures have those frames, and the log their lines. The line of the last one was begun only where every capture has it.
 pub record WroteParts (s t : Disk) (n : ReplayFiles) (frames : List Handled) : Type 0 where
   pub outs : (port : ℕ) (name : List ℕ) → slice_get n.outs port ≡ Some name → IsPart s t name (capture_to port frames)
@@ -73,7 +73,7 @@ pub record WroteParts (s t : Disk) (n : ReplayFiles) (frames : List Handled) : T
 abbrev pub most_frames : ℕ
 most_frames = 2 ^ 32 - 1
 
--- the frames are first ones of what comes in under these names, in order, none of them behind a refused record, and no more than there may be
+-- the frames are first ones of what comes in under these names, in order, none of them after a refused record, and no more than there may be
 abbrev pub AreFirst : Disk → List (List ℕ) → List Arrival → Type 0
 AreFirst s ins frames =
     (streams : List Stream) × (left : List Stream) × AllComeIn s ins streams × ComeFirst streams frames left
@@ -142,7 +142,7 @@ pub record StopsAtMost (s t : Disk) (n : ReplayFiles) (IsHistory : List Handled 
   pub wrote : IsTrue s.tells_made → WroteAll s t n frames
   pub read_faults : t.read_faults ≡ s.read_faults
 
--- outputs were begun: each was left as it was, or holds no more than first bytes of what it should
+-- outputs were begun: each is untouched or a prefix of the correct one
 pub record Began (s t : Disk) (n : ReplayFiles) (IsHistory : List Handled → Type 0) : Type 0 where
   pub frames : List Handled
   pub history : IsHistory frames
@@ -151,7 +151,8 @@ pub record Began (s t : Disk) (n : ReplayFiles) (IsHistory : List Handled → Ty
   pub wrote : IsTrue s.tells_made → WroteParts s t n frames
 
 -- the handler stopped at a frame for this reason, and the outputs are those of the frames before it
-pub record StopsAtFrame {S : Type 0} (s t : Disk) (n : ReplayFiles) (IsHistory : List Handled → Type 0) (StopsAt : List Handled → Arrival → S → Type 0) (reason : S) : Type 0 where
+pub record StopsAtFrame {S : Type 0} (s t : Disk) (n : ReplayFiles) (IsHistory : List Handled → Type 0) (StopsAt : List Handled → Arrival → S → Type 0)
+    (reason : S) : Type 0 where
   pub frames : List Handled
   pub history : IsHistory frames
   pub ports : HavePorts n frames
@@ -165,7 +166,8 @@ pub record StopsAtFrame {S : Type 0} (s t : Disk) (n : ReplayFiles) (IsHistory :
 abbrev pub StopsReplay : {S : Type 0} → Disk → Disk → ReplayFiles → (List Handled → Type 0) → (List Handled → Arrival → S → Type 0) → RunStop S → Type 0
 StopsReplay s t n IsHistory StopsAt (stops.Capture port (Header field)) = StopsAtHeader s t n port field
 StopsReplay s t n IsHistory StopsAt (stops.Capture port (Record number why)) = StopsAtRecord s t n IsHistory port number why
-StopsReplay s t n IsHistory StopsAt stops.Read = Rose s.read_faults t.read_faults × (((t.made ≡ s.made) × (t.write_faults ≡ s.write_faults)) ⊎ Began s t n IsHistory)
+StopsReplay s t n IsHistory StopsAt stops.Read =
+    Rose s.read_faults t.read_faults × (((t.made ≡ s.made) × (t.write_faults ≡ s.write_faults)) ⊎ Began s t n IsHistory)
 StopsReplay s t n IsHistory StopsAt stops.Write = Rose s.write_faults t.write_faults × (t.read_faults ≡ s.read_faults) × Began s t n IsHistory
 StopsReplay s t n IsHistory StopsAt stops.Frames = StopsAtMost s t n IsHistory
 StopsReplay s t n IsHistory StopsAt (stops.Handler reason) = StopsAtFrame s t n IsHistory StopsAt reason
@@ -182,7 +184,8 @@ StopsBegun s t n IsHistory StopsAt (stops.Handler reason) = StopsAtFrame s t n I
 StopsBegun s t n IsHistory StopsAt stops.Memory = ⊥
 
 -- what comes in was replayed, or this stopped; whatever happened, no other file was changed, and no id is open that wasn't
-pub record Replays {S : Type 0} (s t : Disk) (n : ReplayFiles) (IsHistory : List Handled → Type 0) (StopsAt : List Handled → Arrival → S → Type 0) (result : Result Totals (RunStop S)) : Type 0 where
+pub record Replays {S : Type 0} (s t : Disk) (n : ReplayFiles) (IsHistory : List Handled → Type 0) (StopsAt : List Handled → Arrival → S → Type 0)
+    (result : Result Totals (RunStop S)) : Type 0 where
   pub held : SameHeld s t
   pub ids : SameIds s t
   pub others : IsTrue s.tells_made → KeepsOthers s t n

@@ -58,8 +58,10 @@ pub record HasCreated (s t : Disk) (names : List (List ℕ)) (ids : List ℕ) : 
   pub opens : DiffersBy s t ids
   pub writable : AreWritable t ids
   pub named : IsTrue s.tells_made → AreNamed t ids names
-  pub made : IsTrue s.tells_made → AllPairs ◌≢◌ names → (port : ℕ) (name : List ℕ) → port < length ids → slice_get names port ≡ Some name → t.made name ≡ Some header
-  pub rest : IsTrue s.tells_made → AllPairs ◌≢◌ names → (port : ℕ) (name : List ℕ) → length ids ≤ port → slice_get names port ≡ Some name → t.made name ≡ s.made name
+  pub made : IsTrue s.tells_made → AllPairs ◌≢◌ names → (port : ℕ) (name : List ℕ) → port < length ids → slice_get names port ≡ Some name →
+      t.made name ≡ Some header
+  pub rest : IsTrue s.tells_made → AllPairs ◌≢◌ names → (port : ℕ) (name : List ℕ) → length ids ≤ port → slice_get names port ≡ Some name →
+      t.made name ≡ s.made name
   pub others : IsTrue s.tells_made → (name : List ℕ) → IsNoneOf names name → t.made name ≡ s.made name
 
 -- captures of some first names were created, and the next couldn't be
@@ -94,7 +96,8 @@ pub record HasCreatedAll (s t : Disk) (outs : List (List ℕ)) (log : List ℕ) 
   pub writable : AreWritable t (ids ++ log_id ∷ [])
   pub named : IsTrue s.tells_made → AreNamed t ids outs
   pub log_named : IsTrue s.tells_made → t.opened log_id ≡ writing log
-  pub made : IsTrue s.tells_made → AllPairs ◌≢◌ outs → IsNoneOf outs log → (port : ℕ) (name : List ℕ) → slice_get outs port ≡ Some name → t.made name ≡ Some header
+  pub made : IsTrue s.tells_made → AllPairs ◌≢◌ outs → IsNoneOf outs log → (port : ℕ) (name : List ℕ) → slice_get outs port ≡ Some name →
+      t.made name ≡ Some header
   pub log_made : IsTrue s.tells_made → t.made log ≡ Some []
   pub others : IsTrue s.tells_made → (name : List ℕ) → IsNoneOf (log ∷ outs) name → t.made name ≡ s.made name
 

@@ -4,7 +4,7 @@ ghost use Rattle.vg_pcap.specs.Arrivals.{Arrival};
 ghost use Rattle.vg_replay.specs.Outputs.{Handled};
 ghost use Rattle.vg_replay.specs.View.{arrival_of, handled_as};
 
-use crate::handled::{Frame, Outcome};
+use crate::handled::{FrameHead, Outcome};
 
 /// What a replay puts its frames through, one after another. It may change with each.
 pub trait Handler: Drop {
@@ -17,10 +17,10 @@ pub trait Handler: Drop {
     /// In this state it stops at a frame for this reason.
     ghost stops_at: { Self → Arrival → Self.Stop → Type 0 };
 
-    /// Handles a frame, or stops before it: then the replay ends, and the frame is neither written nor told in the log. A frame takes at most 2^31 steps, so
-    /// that those of all frames can be counted.
-    fn handle(&mut self, frame: &Frame<'_>) -> Result<Outcome, Self::Stop>
-        ensures handled { IfOk result (λ o. handles self.old (handled_as frame.now o) self.new) }
+    /// Handles a frame, whose bytes it may change in place, or stops at it: then the replay ends, and the frame is neither written nor told in the log. A
+    /// frame takes at most 2^31 steps, so that those of all frames can be counted.
+    fn handle(&mut self, head: FrameHead, frame: &mut [u8]) -> Result<Outcome, Self::Stop>
+        ensures handled { IfOk result (λ o. handles self.old (handled_as head frame.old frame.new o) self.new) }
         ensures few { IfOk result (λ o. o.steps ≤ 2 ^ 31) }
-        ensures stops { IfErr result (stops_at self.old (arrival_of frame.now)) };
+        ensures stops { IfErr result (stops_at self.old (arrival_of head frame.old)) };
 }

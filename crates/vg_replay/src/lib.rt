@@ -12,7 +12,7 @@ mod tests;
 mod totals;
 mod under_way;
 
-pub use handled::{Frame, Outcome};
+pub use handled::{FrameHead, Handed, MAX_HANDED, Outcome};
 pub use handler::Handler;
 pub use replaying::replay;
 pub use stop::RunStop;

@@ -1,10 +1,10 @@
 //! The outputs of a replay: the captures, by port, and the log.
-ghost use Rattle.std.specs.Prelude.{◌≡◌, ◌+◌, ◌<◌, ◌≤◌, ◌++◌, [], ◌∷◌, length, map, string_bytes, vec_capacity, Result, Ok, Err, IfOk, OnErr};
+ghost use Rattle.std.specs.Prelude.{ℕ, List, ◌≡◌, ◌+◌, ◌<◌, ◌≤◌, ◌++◌, [], ◌∷◌, length, map, string_bytes, vec_capacity, Result, Ok, Err, IfOk, OnErr};
 ghost use Rattle.vg_base.specs.Files.{Writes, IsOpen, WritesAll};
 ghost use Rattle.vg_base.specs.Several.{AreOpen};
 ghost use Rattle.vg_pcap.specs.Frames.{Fits};
 ghost use Rattle.vg_replay.specs.Outputs.{goes_to, piece_to};
-ghost use Rattle.vg_replay.specs.View.{view};
+ghost use Rattle.vg_replay.specs.View.{view, outgoing};
 ghost use Rattle.vg_replay.specs.UnderWay.{AreWritable};
 ghost use Rattle.vg_replay.specs.Writing.{Puts, pieces_of, WritesFrame, CreatesCaptures, ClosesWritten, HasCreatedAll, HasFailedAll};
 
@@ -60,10 +60,11 @@ impl Outputs {
     ) -> Result<(), Failed>
         requires open { AreOpen (F.disk files.old) Writes (self.old.captures.items ++ self.old.log ∷ []) }
         requires few { length self.old.captures.items ≤ MAX_OPEN }
-        requires fits { Fits ((view frame.now).arrival.frame) }
+        requires fits { Fits (outgoing frame.now) }
         ensures same_captures { self.new.captures.items ≡ self.old.captures.items }
         ensures same_log { self.new.log ≡ self.old.log }
-        ensures writes { WritesFrame (F.disk files.old) (F.disk files.new) self.old.captures.items self.old.log number (view frame.now) result }
+        ensures writes { (came : List ℕ) →
+            WritesFrame (F.disk files.old) (F.disk files.new) self.old.captures.items self.old.log number (view frame.now came) result }
     {
         put_frame(files, &mut self.captures, frame)?;
         put_all(files, self.log, log_line(number, frame).as_str().as_bytes())
@@ -135,17 +136,12 @@ fn send_to<F: Files>(
     frame: &HandledFrame<'_>,
 ) -> Result<(), Failed>
     requires open { IsOpen Writes ((F.disk files.old).opened capture.old) }
-    requires fits { Fits ((view frame.now).arrival.frame) }
+    requires fits { Fits (outgoing frame.now) }
     ensures same { capture.new ≡ capture.old }
-    ensures writes { WritesAll (F.disk files.old) (F.disk files.new) capture.old (piece_to port (view frame.now)) result }
+    ensures writes { (came : List ℕ) → WritesAll (F.disk files.old) (F.disk files.new) capture.old (piece_to port (view frame.now came)) result }
 {
-    if goes_to(frame.outcome.verdict, frame.arrival.port, port) {
-        capture.put(
-            files,
-            frame.arrival.time,
-            frame.arrival.original,
-            frame.arrival.bytes,
-        )
+    if goes_to(frame.outcome.verdict, frame.head.port, port) {
+        capture.put(files, frame.head.time, frame.head.original, frame.bytes)
     } else {
         Ok(())
     }
@@ -159,9 +155,10 @@ fn put_frame<F: Files>(
 ) -> Result<(), Failed>
     requires open { AreOpen (F.disk files.old) Writes captures.old.items }
     requires few { length captures.old.items ≤ MAX_OPEN }
-    requires fits { Fits ((view frame.now).arrival.frame) }
+    requires fits { Fits (outgoing frame.now) }
     ensures same { captures.new.items ≡ captures.old.items }
-    ensures puts { Puts (F.disk files.old) (F.disk files.new) captures.old.items (pieces_of (view frame.now)) (length captures.old.items) result }
+    ensures puts { (came : List ℕ) →
+        Puts (F.disk files.old) (F.disk files.new) captures.old.items (pieces_of (view frame.now came)) (length captures.old.items) result }
 {
     for port in 0..captures.len() as u16 {
         send_to(files, &mut captures[port as usize], port, frame)?;

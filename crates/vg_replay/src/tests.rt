@@ -2,6 +2,7 @@ ghost use Rattle.std.specs.Prelude.{◌≡◌, ◌+◌, IfOk, [], ◌∷◌, map
 ghost use Rattle.vg_doubles.specs.Memory.{disk_of};
 
 use super::*;
+use arrayvec::ArrayVec;
 use std::alloc::{AllocError, Global};
 use std::test::Fail;
 use vg_base::Files;
@@ -25,14 +26,46 @@ impl Handler for ToTwo {
 
     ghost stops_at = { λ old a reason. old.left ≡ 0 };
 
-    fn handle(&mut self, frame: &Frame<'_>) -> Result<Outcome, Enough> {
+    fn handle(&mut self, head: FrameHead, frame: &mut [u8]) -> Result<Outcome, Enough> {
         if self.left == 0 {
             return Err(Enough);
         }
         self.left -= 1;
         Ok(Outcome {
-            verdict: Verdict::Send(if frame.port == 0 { 2 } else { 0 }),
+            verdict: Verdict::Send(if head.port == 0 { 2 } else { 0 }),
             steps: 3,
+            handed: ArrayVec::new(),
+        })
+    }
+}
+
+// Puts a byte over a frame's first one, hands out two indices, and sends the frame back.
+#[derive(Drop)]
+struct Marking {
+    byte: u8,
+}
+
+impl Handler for Marking {
+    type Stop = Enough;
+
+    ghost handles = { λ old h new. (new.byte ≡ old.byte) × (h.steps ≡ 1) };
+
+    ghost stops_at = { λ old a reason. ⊥ };
+
+    fn handle(&mut self, head: FrameHead, frame: &mut [u8]) -> Result<Outcome, Enough> {
+        if let Some(first) = frame.first_mut() {
+            *first = self.byte;
+        }
+        let mut handed = ArrayVec::new();
+        handed.push(Handed {
+            chain: 1,
+            index: 4_294_967_295,
+        });
+        handed.push(Handed { chain: 0, index: 5 });
+        Ok(Outcome {
+            verdict: Verdict::Send(head.port),
+            steps: 1,
+            handed,
         })
     }
 }
@@ -153,6 +186,23 @@ fn a_cut_record_ends_it(rt: HostRuntime) -> Result<(), Fail> {
         files.written("out2").ok_or("no out2")?,
         capture(alloc, &[5, 5])?.as_slice()
     );
+    Ok(())
+}
+
+// What goes out is the frame as the handler left it, and the log tells the indices that it handed out, in order.
+#[test]
+fn a_handler_changes_frames(rt: HostRuntime) -> Result<(), Fail> {
+    let alloc = rt.alloc();
+    let mut files = files_of(alloc, capture(alloc, &[5])?, capture(alloc, &[])?, &[])?;
+    let ins = three(alloc, "in0", "in1", "-")?;
+    let outs = three(alloc, "out0", "out1", "out2")?;
+    let replayed = replay(alloc, Marking { byte: 200 }, &mut files, "log", &ins, &outs);
+    assert!(rt; replayed.is_ok());
+    let mut marked = Vec::from_slice(alloc, &HEADER)?;
+    marked.extend_from_slice(&record(5, 200))?;
+    assert_eq!(rt; files.written("out0").ok_or("no out0")?, marked.as_slice());
+    let log = "1 in 0 to 0 steps 1 new 1:4294967295 new 0:5\n";
+    assert_eq!(rt; files.written("log").ok_or("no log")?, log.as_bytes());
     Ok(())
 }
 

@@ -18,9 +18,9 @@ impl Totals {
     ghost use Rattle.vg_replay.specs.Counts.{counted, AreFew};
 
     // One frame more, with which this was done.
-    pub(crate) fn counted(self, outcome: Outcome) -> Totals
-        requires { AreFew self outcome.steps }
-        ensures { result ≡ counted self outcome.verdict outcome.steps }
+    pub(crate) fn counted(self, outcome: &Outcome) -> Totals
+        requires { AreFew self outcome.now.steps }
+        ensures { result ≡ counted self outcome.now.verdict outcome.now.steps }
     {
         let mut totals = self;
         totals.frames += 1;

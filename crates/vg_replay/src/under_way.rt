@@ -8,9 +8,9 @@ ghost use Rattle.vg_replay.specs.Outputs.{Handled};
 ghost use Rattle.vg_replay.specs.Replays.{AreReplayFiles, ReplayFiles};
 ghost use Rattle.vg_replay.specs.UnderWay.{Replaying, output_ids, AreWritable, Going};
 ghost use Rattle.vg_replay.specs.Handling.{StartsReplay, HandlesNext, GoesOn};
-ghost use Rattle.vg_replay.specs.Stepping.{Steps, HandlesFrame, ClosesAll};
+ghost use Rattle.vg_replay.specs.Stepping.{Steps, HandlesFrame, HasChanged, ClosesAll};
 
-use crate::handled::{Frame, HandledFrame, Outcome};
+use crate::handled::{FrameHead, HandledFrame, Outcome};
 use crate::handler::Handler;
 use crate::outputs::Outputs;
 use crate::stop::{RunStop, stop_of};
@@ -94,7 +94,7 @@ impl<H: Handler> Replay<H> {
     }
 
     /// Handles the next frame: puts it through the handler, writes it into the captures that the verdict sends it to, in the order of ports, and then its
-    /// line into the log, and reads the record behind it. Where the handler stops, nothing of that frame is written.
+    /// line into the log, and reads the record after it. Where the handler stops, nothing of that frame is written.
     ///
     /// `End` comes where no frame was left before the call. Every file is closed before that and before a refusal. Where closing an output fails before
     /// `End`, it is `Write`.
@@ -149,8 +149,8 @@ impl<H: Handler> Replay<H> {
             return Err(RunStop::Frames);
         }
         let outcome = self.handle(files, port)?;
-        self.totals = self.totals.counted(outcome);
-        match self.merge.advance(files) {
+        self.totals = self.totals.counted(&outcome);
+        match self.merge.advance(files, port) {
             Ok(()) => Ok(true),
             Err(fault) => Err(stop_of(fault)),
         }
@@ -162,21 +162,25 @@ impl<H: Handler> Replay<H> {
         requires open { AreOpen (F.disk files.old) Writes (output_ids self.old.files) }
         requires few { length self.old.files.outs ≤ MAX_OPEN }
         requires number { self.old.files.totals.frames + 1 < 2 ^ 32 }
-        ensures same { self.new.files ≡ self.old.files }
+        ensures changed { (frame : Framed) → IsNext self.old.files.inputs (record { port = port; frame = frame }) →
+            HasChanged self.old.files self.new.files (record { port = port; frame = frame }) }
         ensures handles { (frame : Framed) → IsNext self.old.files.inputs (record { port = port; frame = frame }) →
             HandlesFrame H.handles H.stops_at (F.disk files.old) (F.disk files.new) self.old self.new (record { port = port; frame = frame }) result }
     {
-        let arrival = Frame {
+        let head = FrameHead {
             port,
-            time: self.merge.time(),
-            original: self.merge.original(),
-            bytes: self.merge.frame(),
+            time: self.merge.time(port),
+            original: self.merge.original(port),
         };
-        let outcome = match self.handler.handle(&arrival) {
+        let outcome = match self.handler.handle(head, self.merge.frame_mut(port)) {
             Ok(outcome) => outcome,
             Err(reason) => return Err(RunStop::Handler(reason)),
         };
-        let frame = HandledFrame { arrival, outcome };
+        let frame = HandledFrame {
+            head,
+            bytes: self.merge.frame(port),
+            outcome: &outcome,
+        };
         match self.outputs.write(files, self.totals.frames + 1, &frame) {
             Ok(()) => Ok(outcome),
             Err(Failed) => Err(RunStop::Write),

@@ -19,7 +19,7 @@ use Rattle.vg_top.specs.declared.report.Report.{Report}
 use Rattle.vg_top.specs.declared.stop.Stop.{Stop}
 use Rattle.vg_top.specs.declared.stop.Stop.TheVariants.{Wrong, Usage, Capture, Read, Write, Memory, Limit, Frames, NotBuilt}
 use Rattle.vg_top.specs.Agreement.{Agree, IsMostSteps}
-use Rattle.vg_top.specs.Effects.{Unwritten, BeganReplay, Finished, StopsAfter, Leaves, RunsOn, HasStopped, Prints, Answers}
+use Rattle.vg_top.specs.Effects.{Unwritten, BeganReplay, Finished, StopsInReplay, Leaves, RunsOn, HasStopped, Prints, Answers}
 use Rattle.vg_top.specs.Endings.{Ending, Stopped, Done, ComesTo}
 use Rattle.vg_top.specs.Lines.{verified_line, totals_line, refusal_text}
 use Rattle.vg_top.specs.Runs.{IsRun, RefusesWords}
@@ -152,7 +152,7 @@ began_done s t {n} r run has = (
 
 -- ---- what stands in the outputs after a stop
 
-began_after : (s t : Disk) {n : Files} {Reason : List Arrival → Type 0} → ((frames : List Arrival) → Reason frames → AreFirst s n.ins frames) → StopsAfter s t n Reason → BeganReplay s t n
+began_after : (s t : Disk) {n : Files} {Reason : List Arrival → Type 0} → ((frames : List Arrival) → Reason frames → AreFirst s n.ins frames) → StopsInReplay s t n Reason → BeganReplay s t n
 began_after s t {n} first x =
     let came : arrivals_of (handled_by x.c x.frames) ≡ x.frames = arrivals_of-handled x.c x.frames in
     record {

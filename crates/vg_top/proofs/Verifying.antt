@@ -7,7 +7,7 @@ use Rattle.vg_small.specs.declared.small.Small.{Small}
 use Rattle.vg_small.specs.declared.small.Lang.TheVariants.{C, Spec}
 use Rattle.vg_small.specs.Spelling.{Spells}
 use Rattle.vg_small.proofs.SpellingLaws.{Spells-steps}
-use Rattle.vg_top.specs.Frames.{TakesFewSteps}
+use Rattle.vg_top.specs.Frames.{AlwaysTakesFewSteps}
 use Rattle.vg_top.specs.declared.setup.Functions.{Functions}
 use Rattle.vg_top.specs.declared.setup.Texts.{Texts}
 use Rattle.vg_top.specs.declared.stop.Stop.{Stop}
@@ -41,7 +41,7 @@ are_verified {c_text = c_text} {spec_text = spec_text} f texts v = record {
 }
 
 -- no frame takes more steps than the text has bytes
-pub takes_few_steps : {s : Disk} {n : Files} {c_text spec_text : List ℕ} (f : Functions) → AreTexts s n c_text spec_text → Verifies c_text spec_text (length n.ins) (Ok f) → TakesFewSteps f.c
+pub takes_few_steps : {s : Disk} {n : Files} {c_text spec_text : List ℕ} (f : Functions) → AreTexts s n c_text spec_text → Verifies c_text spec_text (length n.ins) (Ok f) → AlwaysTakesFewSteps f.c
 takes_few_steps {c_text = c_text} f texts v = λ port. omega (arith, texts.c.short, Spells-steps C c_text f.c port v.spelled.c_spells)
 
 -- why none were read

@@ -15,6 +15,8 @@ use Rattle.vg_top.specs.Agreement.{IsPathCount, IsMostSteps}
 use Rattle.vg_top.specs.Endings.{Stopped, EndsIn, AreVerified}
 use Rattle.vg_top.specs.Lines.{verified_line, totals_line, refusal_text}
 use Rattle.vg_top.specs.Runs.{IsRun, RefusesWords, replay_files}
+use Rattle.vg_top.specs.declared.exit.Exit.TheVariants as exits
+use Rattle.vg_top.specs.Exits.{number_of}
 use Rattle.vg_top.specs.Statuses.{status_of}
 
 -- ---- the files
@@ -65,7 +67,7 @@ pub record StopsWith (s t : Disk) (n : Files) (stop : Stop) : Type 0 where
 
 -- The replay came to an end before the frames did, for a reason that holds of the frames that were handled: the outputs are exactly theirs. A fault in
 -- closing an output then is counted, and changes nothing.
-pub record StopsAfter (s t : Disk) (n : Files) (Reason : List Arrival → Type 0) : Type 0 where
+pub record StopsInReplay (s t : Disk) (n : Files) (Reason : List Arrival → Type 0) : Type 0 where
   pub c : Small
   pub spec : Small
   pub verified : AreVerified s n c spec
@@ -82,8 +84,8 @@ abbrev pub Leaves : Disk → Disk → Files → Stop → Type 0
 Leaves s t n Read = Rose s.read_faults t.read_faults × (Unwritten s t ⊎ BeganReplay s t n)
 Leaves s t n Write = Rose s.write_faults t.write_faults × (t.read_faults ≡ s.read_faults) × BeganReplay s t n
 Leaves s t n Memory = Unwritten s t × (t.read_faults ≡ s.read_faults)
-Leaves s t n (Capture port (Record number why)) = StopsAfter s t n (λ frames. AreUpTo s n.ins frames port number why)
-Leaves s t n Frames = StopsAfter s t n (λ frames. AreTooMany s n.ins frames)
+Leaves s t n (Capture port (Record number why)) = StopsInReplay s t n (λ frames. AreUpTo s n.ins frames port number why)
+Leaves s t n Frames = StopsInReplay s t n (λ frames. AreTooMany s n.ins frames)
 Leaves s t n stop = StopsWith s t n stop
 
 -- ---- the words
@@ -96,11 +98,11 @@ RunsOn words Holds = (n : Files) × IsRun words n × Holds n
 abbrev pub HasStopped : List (List ℕ) → Disk → Disk → Stop → Type 0
 HasStopped words s t stop = (RefusesWords words stop × (t ≡ s)) ⊎ RunsOn words (λ n. Leaves s t n stop)
 
--- What the words came to, the text that is due, and the status that goes with it: a run was done, with its report and 0; or it stopped, with the text and
+-- What the words came to, the text that is due, and the status that goes with it: a run was done, with its report; or it stopped, with the text and
 -- the status of its reason.
 abbrev pub ComesWith : List (List ℕ) → Disk → Disk → List ℕ → ℕ → Type 0
 ComesWith words s t text status =
-    ((status ≡ 0) × RunsOn words (λ n. Finished s t n text))
+    ((status ≡ number_of exits.Done) × RunsOn words (λ n. Finished s t n text))
     ⊎ ((stop : Stop) × (status ≡ status_of stop) × (text ≡ refusal_text stop) × HasStopped words s t stop)
 
 -- ---- the sink
@@ -115,9 +117,9 @@ pub record FailsSaying (u v : Flow) (text : List ℕ) : Type 0 where
   pub made : IsTrue u.tells_made → (n : ℕ) × (n ≤ length text) × (v.made ≡ u.made ++ take n text)
   pub rose : Rose u.faults v.faults
 
--- a text was printed and its status is answered, or the sink failed and 7 is
+-- a text was printed and its status is answered, or the sink failed and that of a fault at writing is
 abbrev pub Prints : Flow → Flow → List ℕ → ℕ → ℕ → Type 0
-Prints u v text status answer = ((answer ≡ status) × Says u v text) ⊎ ((answer ≡ 7) × FailsSaying u v text)
+Prints u v text status answer = ((answer ≡ status) × Says u v text) ⊎ ((answer ≡ number_of exits.Write) × FailsSaying u v text)
 
 -- ---- both
 

@@ -1,5 +1,5 @@
 -- What a small function does with frames.
-use Rattle.std.specs.Prelude.{ℕ, ◌≡◌, ◌≤◌, ◌^◌, List, map}
+use Rattle.std.specs.Prelude.{ℕ, ◌≡◌, ◌≤◌, ◌^◌, List, [], map}
 use Rattle.vg_core.specs.declared.verdict.Verdict.{Verdict}
 use Rattle.vg_small.specs.declared.small.Small.{Small}
 use Rattle.vg_small.specs.Meaning.{verdict_at, steps_at}
@@ -10,9 +10,9 @@ use Rattle.vg_replay.specs.Outputs.{Handled, arrivals_of}
 abbrev pub verdict_by : Small → ℕ → Verdict
 verdict_by f port = verdict_at f.tests f.last port
 
--- what it does with a frame
+-- what it does with a frame; it changes none, and hands out no index
 abbrev pub handle_at : Small → Arrival → Handled
-handle_at f a = record { arrival = a; verdict = verdict_by f a.port; steps = steps_at f.tests a.port }
+handle_at f a = record { arrival = a; bytes = a.frame.bytes; verdict = verdict_by f a.port; steps = steps_at f.tests a.port; handed = [] }
 
 -- what it does with frames, in order
 abbrev pub handled_by : Small → List Arrival → List Handled
@@ -27,5 +27,5 @@ abbrev pub AreHandledBy : Small → List Handled → Type 0
 AreHandledBy f handled = handled ≡ handled_by f (arrivals_of handled)
 
 -- no frame takes more steps than this
-abbrev pub TakesFewSteps : Small → Type 0
-TakesFewSteps f = (port : ℕ) → steps_at f.tests port ≤ 2 ^ 31
+abbrev pub AlwaysTakesFewSteps : Small → Type 0
+AlwaysTakesFewSteps f = (port : ℕ) → steps_at f.tests port ≤ 2 ^ 31

@@ -2,6 +2,7 @@ pub mod Frames
 pub mod Agreement
 pub mod Runs
 pub mod Endings
+pub mod Exits
 pub mod Statuses
 pub mod Lines
 pub mod Effects

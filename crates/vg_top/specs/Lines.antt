@@ -22,7 +22,8 @@ verified_line paths steps = codes "verified paths " ++ decimal paths ++ codes " 
 -- printed last, where every frame was handled
 unfoldable pub totals_line : Totals → List ℕ
 totals_line t =
-    codes "frames " ++ decimal t.frames ++ codes " sent " ++ decimal t.sent ++ codes " dropped " ++ decimal t.dropped ++ codes " flooded " ++ decimal t.flooded ++ codes "\n"
+    codes "frames " ++ decimal t.frames ++ codes " sent " ++ decimal t.sent ++ codes " dropped " ++ decimal t.dropped
+    ++ codes " flooded " ++ decimal t.flooded ++ codes "\n"
 
 -- printed where the two differ: the place in the C text, and a run that shows it, with its port, time 0 and a frame
 -- without bytes

@@ -8,7 +8,7 @@ use Rattle.vg_small.specs.declared.small.Lang.{Lang}
 use Rattle.vg_small.specs.declared.small.Lang.TheVariants.{C, Spec}
 use Rattle.vg_small.specs.Meaning.{SendsBelow}
 use Rattle.vg_small.specs.Spelling.{Spells, SpellsNone}
-use Rattle.vg_top.specs.Frames.{TakesFewSteps}
+use Rattle.vg_top.specs.Frames.{AlwaysTakesFewSteps}
 use Rattle.vg_top.specs.declared.setup.Texts.{Texts}
 use Rattle.vg_top.specs.declared.setup.Functions.{Functions}
 use Rattle.vg_top.specs.declared.stop.Stop.{Stop}
@@ -57,7 +57,7 @@ pub record LoadsTexts (s t : Disk) (n : Files) (result : Result Texts Stop) : Ty
 pub record ReadsFunctions (s t : Disk) (n : Files) (result : Result Functions Stop) : Type 0 where
   pub reads : OnlyReads s t result
   pub verified : IfOk result (λ f. AreVerified s n f.c f.spec)
-  pub steps : IfOk result (λ f. TakesFewSteps f.c)
+  pub steps : IfOk result (λ f. AlwaysTakesFewSteps f.c)
   pub stops : IfErr result (StopsFor s t n)
 
 -- why no function was read from a text

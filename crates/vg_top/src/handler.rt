@@ -1,15 +1,16 @@
 //! Frames put through a small function.
-ghost use Rattle.vg_top.specs.Frames.{TakesFewSteps};
+ghost use Rattle.vg_top.specs.Frames.{AlwaysTakesFewSteps};
 
+use arrayvec::ArrayVec;
 use std::convert::Infallible;
-use vg_replay::{Frame, Handler, Outcome};
+use vg_replay::{FrameHead, Handler, Outcome};
 use vg_small::Small;
 
 /// A small function that takes few steps, as what frames are put through. It never changes, and never stops.
 #[derive(Drop)]
 pub struct SmallHandler {
     pub function: Small,
-    pub ghost few: { TakesFewSteps function },
+    pub ghost few: { AlwaysTakesFewSteps function },
 }
 
 impl Handler for SmallHandler {
@@ -21,10 +22,11 @@ impl Handler for SmallHandler {
 
     ghost stops_at = { λ handler a reason. ⊥ };
 
-    fn handle(&mut self, frame: &Frame<'_>) -> Result<Outcome, Infallible> {
+    fn handle(&mut self, head: FrameHead, _frame: &mut [u8]) -> Result<Outcome, Infallible> {
         Ok(Outcome {
-            verdict: self.function.verdict(frame.port),
-            steps: self.function.steps(frame.port),
+            verdict: self.function.verdict(head.port),
+            steps: self.function.steps(head.port),
+            handed: ArrayVec::new(),
         })
     }
 }

@@ -2,6 +2,7 @@
 #![tactic(auto)]
 
 mod agreement;
+mod exit;
 mod handler;
 mod limits;
 mod lines;
@@ -10,6 +11,7 @@ mod setup;
 mod stop;
 mod top;
 
+pub use exit::Exit;
 pub use stop::{Stop, Unbuilt};
 pub use top::{Status, refuse, run};
 

@@ -2,6 +2,7 @@
 ghost use Rattle.std.specs.Prelude.{◌≡◌};
 ghost use Rattle.vg_top.specs.Stops.{stop_of};
 
+use crate::exit::Exit;
 use std::convert::Infallible;
 use vg_pcap::CaptureRefusal;
 use vg_replay::RunStop;
@@ -42,21 +43,21 @@ pub enum Stop {
 }
 
 impl Stop {
-    ghost use Rattle.vg_top.specs.Statuses.{status_of};
+    ghost use Rattle.vg_top.specs.Statuses.{exit_of};
 
-    /// The exit status.
-    pub fn status(self) -> u8
-        ensures { result ≡ status_of self }
+    /// How a run ends that stops for this reason.
+    pub fn exit(self) -> Exit
+        ensures { result ≡ exit_of self }
     {
         match self {
-            Stop::Wrong { .. } => 1,
-            Stop::Usage => 2,
-            Stop::Capture { .. } => 5,
-            Stop::Read => 6,
-            Stop::Write => 7,
-            Stop::Memory => 8,
-            Stop::Limit(_) | Stop::Frames => 11,
-            Stop::NotBuilt(_) => 12,
+            Stop::Wrong { .. } => Exit::Wrong,
+            Stop::Usage => Exit::Usage,
+            Stop::Capture { .. } => Exit::Capture,
+            Stop::Read => Exit::Read,
+            Stop::Write => Exit::Write,
+            Stop::Memory => Exit::Memory,
+            Stop::Limit(_) | Stop::Frames => Exit::Limit,
+            Stop::NotBuilt(_) => Exit::NotBuilt,
         }
     }
 }

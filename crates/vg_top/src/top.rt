@@ -5,12 +5,14 @@ ghost use Rattle.vg_command.specs.Commands.{words_in, AreFiles};
 ghost use Rattle.vg_command.specs.View.{files_of};
 ghost use Rattle.vg_top.specs.Runs.{IsRun, RefusesWords};
 ghost use Rattle.vg_top.specs.Endings.{Ending, ComesTo};
+ghost use Rattle.vg_top.specs.Exits.{number_of};
 ghost use Rattle.vg_top.specs.Statuses.{status_of, status_at, IsFaultOrMemory};
 ghost use Rattle.vg_top.specs.Lines.{refusal_text};
 ghost use Rattle.vg_top.specs.Effects.{Unwritten, BeganReplay, RunsOn, Prints, Answers};
 ghost use Rattle.vg_top.specs.Running.{Runs};
 
 use crate::agreement::{most_steps, path_count};
+use crate::exit::Exit;
 use crate::handler::SmallHandler;
 use crate::lines::{refusal_text, report_text};
 use crate::report::Report;
@@ -64,14 +66,14 @@ fn run_files<F: Files>(alloc: Global, files: &mut F, names: &FileNames<'_>) -> R
     }
 }
 
-// Prints a text, and answers the status that goes with it.
-fn print<O: Sink>(out: &mut O, text: &str, status: u8) -> Status
-    ensures prints { Prints (O.flow out.old) (O.flow out.new) text.now status result.0 }
+// Prints a text, and answers the status of this way to end.
+fn print<O: Sink>(out: &mut O, text: &str, exit: Exit) -> Status
+    ensures prints { Prints (O.flow out.old) (O.flow out.new) text.now (number_of exit) result.0 }
     ensures tells { (O.flow out.new).tells_made ≡ (O.flow out.old).tells_made }
 {
     match say_all(out, text.as_bytes()) {
-        Ok(()) => Status(status),
-        Err(_) => Status(7),
+        Ok(()) => Status(exit.number()),
+        Err(_) => Status(Exit::Write.number()),
     }
 }
 
@@ -80,7 +82,7 @@ pub fn refuse<O: Sink>(out: &mut O, stop: Stop) -> Status
     ensures prints { Prints (O.flow out.old) (O.flow out.new) (refusal_text stop) (status_of stop) result.0 }
     ensures tells { (O.flow out.new).tells_made ≡ (O.flow out.old).tells_made }
 {
-    print(out, refusal_text(stop).as_str(), stop.status())
+    print(out, refusal_text(stop).as_str(), stop.exit())
 }
 
 /// Does what the words of a command line say, and prints how it ended.
@@ -107,7 +109,7 @@ pub fn run<F: Files, O: Sink>(alloc: Global, words: &[String], files: &mut F, ou
         (ending : Ending) → ComesTo (F.disk files.old) (words_in words.now) ending →
         (result.0 ≡ status_at ending) ⊎ IsFaultOrMemory result.0 }
 
-    // Whatever the status: each output was left as it was or holds no more than first bytes of what it should, and what can be read stays.
+    // Whatever the status: each output is untouched or a prefix of the correct one, and what can be read stays.
     ensures outputs { Unwritten (F.disk files.old) (F.disk files.new)
         ⊎ RunsOn (words_in words.now) (BeganReplay (F.disk files.old) (F.disk files.new)) }
     ensures held { SameHeld (F.disk files.old) (F.disk files.new) }
@@ -119,7 +121,7 @@ pub fn run<F: Files, O: Sink>(alloc: Global, words: &[String], files: &mut F, ou
         Err(stop) => return refuse(out, stop),
     };
     match run_files(alloc, files, &names) {
-        Ok(report) => print(out, report_text(report).as_str(), 0),
+        Ok(report) => print(out, report_text(report).as_str(), Exit::Done),
         Err(stop) => refuse(out, stop),
     }
 }

@@ -1,6 +1,6 @@
 ghost use Rattle.std.specs.Prelude.{List, ℕ};
 ghost use Rattle.vg_pcap.specs.Arrivals.{Arrival};
-ghost use Rattle.vg_pcap.specs.Merge.{AreReadable, IsNext};
+ghost use Rattle.vg_pcap.specs.Merge.{AreReadable, IsNext, IsNextAt};
 ghost use Rattle.vg_pcap.specs.Lending.{IsWritten};
 
 use super::*;
@@ -35,18 +35,18 @@ fn next<F: Files>(
     let Some(port) = merge.next_port() else {
         return Ok(None);
     };
-    let time = merge.time();
-    let byte = merge.frame().first().copied();
-    merge.advance(files)?;
+    let time = merge.time(port);
+    let byte = merge.frame(port).first().copied();
+    merge.advance(files, port)?;
     Ok(Some((port, time, byte)))
 }
 
 // Puts this byte in the place of each one of the next frame.
-fn fill_next(merge: &mut Merge, byte: u8)
-    requires { (a : Arrival) × IsNext merge.old a }
+fn fill_next(merge: &mut Merge, port: u16, byte: u8)
+    requires { IsNextAt merge.old port }
     ensures { (a : Arrival) → IsNext merge.old a → (bytes : List ℕ) × IsWritten merge.old merge.new a bytes }
 {
-    merge.frame_mut().fill(byte);
+    merge.frame_mut(port).fill(byte);
 }
 
 // The same as `next`, where the frame is filled with a byte before.
@@ -58,10 +58,10 @@ fn next_filled<F: Files>(
     requires { AreReadable (F.disk files.old) merge.old }
     ensures { AreReadable (F.disk files.new) merge.new }
 {
-    let Some(_) = merge.next_port() else {
+    let Some(port) = merge.next_port() else {
         return Ok(None);
     };
-    fill_next(merge, byte);
+    fill_next(merge, port, byte);
     next(merge, files)
 }
 

@@ -1,26 +1,57 @@
-use Rattle.std.proofs.Common.{refl}
+use Rattle.std.proofs.Common.{◌≡◌, ◌≤◌, ℕ, List, length, refl, ap, arith}
+use Rattle.vg_pcap.specs.Frames.{Framed, Fits}
 use Rattle.vg_pcap.specs.Arrivals.{Arrival}
+use Rattle.vg_pcap.specs.Merge.{Input, IsNext}
+use Rattle.vg_pcap.specs.Lending.{over_next, IsWritten}
 use Rattle.vg_replay.proofs.under_way.Replay.handle.Goals as goal
 use Rattle.vg_replay.proofs.under_way.Replay.handle.Goals.{in-Ok-write, in-Err-write}
+
+pub returns-in-Err-clause-changed : goal.returns-in-Err-clause-changed
+returns-in-Err-clause-changed g c =
+    rw (← c.self.view_is) (λ frame next.
+    let a : Arrival = record { port = c.args.port; frame = frame } in
+    let long : length c.handle.new.frame ≡ length frame.bytes = omega (arith, c.handle.auto.frame, ap length (c.frame_mut.ensures.value a next)) in
+    ((c.frame_mut.ensures.written a c.handle.new.frame next long).changed, refl))
 
 pub returns-in-Err-clause-handles : goal.returns-in-Err-clause-handles
 returns-in-Err-clause-handles g c =
     rw (← c.self.view_is) (λ frame next.
     let a : Arrival = record { port = c.args.port; frame = frame } in
-    (rw (c.time.ensures a next, c.original.ensures a next, c.frame.ensures a next) at c.in-Err.ensures.stops, refl))
+    (rw (c.time.ensures a next, c.original.ensures a next, c.frame_mut.ensures.value a next) at c.in-Err.ensures.stops, refl))
+
+pub frame-requires : goal.frame-requires
+frame-requires g c =
+    let asked = rw (← c.self.view_is) at c.requires.next in
+    let a : Arrival = record { port = c.args.port; frame = asked.0 } in
+    let long : length c.handle.new.frame ≡ length asked.0.bytes = omega (arith, c.handle.auto.frame, ap length (c.frame_mut.ensures.value a asked.1)) in
+    (record asked.0 { bytes = c.handle.new.frame }, (c.frame_mut.ensures.written a c.handle.new.frame asked.1 long).next)
 
 pub write-requires-clause-fits : goal.write-requires-clause-fits
 write-requires-clause-fits g c =
-    let next = rw (← c.self.view_is) at c.requires.next in
-    let a : Arrival = record { port = c.args.port; frame = next.0 } in
-    rw (c.time.ensures a next.1, c.original.ensures a next.1, c.frame.ensures a next.1) next.2
+    let asked = rw (← c.self.view_is) at c.requires.next in
+    let a : Arrival = record { port = c.args.port; frame = asked.0 } in
+    let long : length c.handle.new.frame ≡ length asked.0.bytes = omega (arith, c.handle.auto.frame, ap length (c.frame_mut.ensures.value a asked.1)) in
+    let written = c.frame_mut.ensures.written a c.handle.new.frame asked.1 long in
+    let bytes = c.frame.ensures (record a { frame = record asked.0 { bytes = c.handle.new.frame } }) written.next in
+    let fits : Fits asked.0 = asked.2 in
+    rw (c.time.ensures a asked.1, c.original.ensures a asked.1, bytes) (record { early = fits.early; original = fits.original; short = omega (arith, long, fits.short) })
+
+pub returns-clause-changed : goal.returns-clause-changed
+returns-clause-changed g c =
+    rw (← c.self.view_is, c.write.ensures.same_captures, c.write.ensures.same_log) (λ frame next.
+    let a : Arrival = record { port = c.args.port; frame = frame } in
+    let long : length c.handle.new.frame ≡ length frame.bytes = omega (arith, c.handle.auto.frame, ap length (c.frame_mut.ensures.value a next)) in
+    ((c.frame_mut.ensures.written a c.handle.new.frame next long).changed, refl))
 
 pub returns-clause-handles : goal.returns-clause-handles
 returns-clause-handles g c =
     rw (← c.self.view_is) (λ frame next.
     let a : Arrival = record { port = c.args.port; frame = frame } in
-    let handled = rw (c.time.ensures a next, c.original.ensures a next, c.frame.ensures a next) at c.in-Ok.ensures.handled in
+    let long : length c.handle.new.frame ≡ length frame.bytes = omega (arith, c.handle.auto.frame, ap length (c.frame_mut.ensures.value a next)) in
+    let written = c.frame_mut.ensures.written a c.handle.new.frame next long in
+    let bytes = c.frame.ensures (record a { frame = record frame { bytes = c.handle.new.frame } }) written.next in
+    let handled = rw (c.time.ensures a next, c.original.ensures a next, c.frame_mut.ensures.value a next) at c.in-Ok.ensures.handled in
     elim c.match-write.branch [
-      | in-Ok-write w ↦ rw w.result-is (handled, c.in-Ok.ensures.few, rw (c.time.ensures a next, c.original.ensures a next, c.frame.ensures a next) at w.in-Ok-write.ensures.writes)
-      | in-Err-write w ↦ rw w.result-is (c.in-Ok.outcome, handled, rw (c.time.ensures a next, c.original.ensures a next, c.frame.ensures a next) at w.in-Err-write.ensures.writes)
+      | in-Ok-write w ↦ rw w.result-is (c.handle.new.frame, handled, c.in-Ok.ensures.few, rw (c.time.ensures a next, c.original.ensures a next, bytes) at (w.in-Ok-write.ensures.writes frame.bytes))
+      | in-Err-write w ↦ rw w.result-is (c.handle.new.frame, c.in-Ok.outcome, handled, rw (c.time.ensures a next, c.original.ensures a next, bytes) at (w.in-Err-write.ensures.writes frame.bytes))
     ])

@@ -1,6 +1,8 @@
-use Rattle.std.proofs.Common.{◌≢◌, ◌+◌, ◌∙◌, refl, sym, ap, subst, Ok}
+use Rattle.std.proofs.Common.{◌≡◌, List, ◌≢◌, ◌+◌, ◌∙◌, refl, sym, ap, subst, Ok}
+use Rattle.vg_pcap.proofs.Merging.{still_next}
+use Rattle.vg_pcap.proofs.NextPort.{readable_changed}
 use Rattle.vg_pcap.specs.Arrivals.{Arrival}
-use Rattle.vg_pcap.specs.Merge.{IsNext, AreReadable}
+use Rattle.vg_pcap.specs.Merge.{Input, IsNext, IsNextAt, IsChanged, AreReadable}
 use Rattle.vg_replay.proofs.Histories.{after_none, after_one}
 use Rattle.vg_replay.proofs.Stopping.{too_many, opened_writes}
 use Rattle.vg_replay.proofs.Stepped.{went_wrong}
@@ -9,7 +11,7 @@ use Rattle.vg_replay.proofs.Handling.{IsFirstLeft, few_more, frame_handled, fram
 use Rattle.vg_replay.specs.Outputs.{Handled}
 use Rattle.vg_replay.specs.Replays.{most_frames}
 use Rattle.vg_replay.specs.UnderWay.{Replaying, ReplayOf, Going}
-use Rattle.vg_replay.specs.Stepping.{handled_with}
+use Rattle.vg_replay.specs.Stepping.{handled_with, HasChanged}
 use Rattle.vg_replay.specs.Writing.{WritesFrame}
 use Rattle.vg_replay.proofs.under_way.Replay.step.Goals as goal
 use Rattle.vg_replay.proofs.under_way.Replay.step.Goals.{in-Ok, in-Err}
@@ -35,47 +37,56 @@ returns-in_err-outcome g c =
     let first : IsFirstLeft c.args.self.now.files.inputs a = subst (λ (r : ReplayOf _). IsFirstLeft r.files.inputs a) c.self.view_is (c.in-Some.ensures.first a c.in-Some.ensures.next.1) in
     λ s n past x.
     went_wrong g.H.Handler.handles g.H.Handler.stops_at s _ _ n _ _ past a c.in_err-outcome.field-0.0 c.from_residual.result c.from_residual.ensures.1 x
-    (λ e. c.if-self.false (ap (λ (r : ReplayOf _). r.files.totals.frames) c.self.view_is ∙ e)) next first c.handle.ensures.same (c.in_err-outcome.ensures.handles frame next)
+    (λ e. c.if-self.false (ap (λ (r : ReplayOf _). r.files.totals.frames) c.self.view_is ∙ e)) (c.handle.ensures.changed frame next) first (c.in_err-outcome.ensures.handles frame next)
 
 pub counted-self-inside-requires : goal.counted-self-inside-requires
 counted-self-inside-requires g c =
     let frame = c.in-Some.ensures.next.0 in
     let a : Arrival = record { port = c.in-Some.port; frame = frame } in
     let next : IsNext c.args.self.now.files.inputs a = subst (λ (r : ReplayOf _). IsNext r.files.inputs a) c.self.view_is c.in-Some.ensures.next.1 in
-    let totals = ap (λ (r : ReplayOf _). r.files.totals) c.self-2.view_is ∙ ap (λ (r : Replaying). r.totals) c.handle.ensures.same in
-    rw totals (few_more c.in_ok-outcome.outcome.steps c.requires.3 (λ e. c.if-self.false (ap (λ (r : ReplayOf _). r.files.totals.frames) c.self.view_is ∙ e)) (c.in_ok-outcome.ensures.handles frame next).1)
+    let totals = ap (λ (r : ReplayOf _). r.files.totals) c.self-2.view_is ∙ ap (λ (r : Replaying). r.totals) (c.handle.ensures.changed frame next).1 in
+    rw totals (few_more c.in_ok-outcome.outcome.steps c.requires.3 (λ e. c.if-self.false (ap (λ (r : ReplayOf _). r.files.totals.frames) c.self.view_is ∙ e)) (c.in_ok-outcome.ensures.handles frame next).2)
 
 pub advance-requires-clause-readable : goal.advance-requires-clause-readable
 advance-requires-clause-readable g c =
     let frame = c.in-Some.ensures.next.0 in
     let a : Arrival = record { port = c.in-Some.port; frame = frame } in
     let next : IsNext c.args.self.now.files.inputs a = subst (λ (r : ReplayOf _). IsNext r.files.inputs a) c.self.view_is c.in-Some.ensures.next.1 in
-    let keeps = frame_keeps (Ok tt) (c.in_ok-outcome.ensures.handles frame next).2 in
-    let same = ap (λ (r : ReplayOf _). r.files) c.self-2.view_is ∙ c.handle.ensures.same in
-    subst (λ (r : Replaying). AreReadable (g.F.Files.disk c.handle.new.files) r.inputs) (sym same) ((opened_writes c.requires.3.opened keeps).readable)
+    let keeps = frame_keeps (Ok tt) (c.in_ok-outcome.ensures.handles frame next).3 in
+    let changed = c.handle.ensures.changed frame next in
+    let inputs : c.self-2.inside.merge ≡ c.handle.new.self.files.inputs = ap (λ (r : ReplayOf _). r.files.inputs) c.self-2.view_is in
+    subst (λ (l : List Input). AreReadable (g.F.Files.disk c.handle.new.files) l) (sym inputs) (readable_changed (g.F.Files.disk c.handle.new.files) changed.0 (opened_writes c.requires.3.opened keeps).readable)
+
+pub advance-requires-clause-next : goal.advance-requires-clause-next
+advance-requires-clause-next g c =
+    let frame = c.in-Some.ensures.next.0 in
+    let a : Arrival = record { port = c.in-Some.port; frame = frame } in
+    let next : IsNext c.args.self.now.files.inputs a = subst (λ (r : ReplayOf _). IsNext r.files.inputs a) c.self.view_is c.in-Some.ensures.next.1 in
+    let changed = c.handle.ensures.changed frame next in
+    let inputs : c.self-2.inside.merge ≡ c.handle.new.self.files.inputs = ap (λ (r : ReplayOf _). r.files.inputs) c.self-2.view_is in
+    subst (λ (l : List Input). IsNextAt l c.in-Some.port) (sym inputs) (_, still_next changed.0)
 
 pub returns : goal.returns
 returns g c =
-    let same = ap (λ (r : ReplayOf _). r.files) c.self-2.view_is ∙ c.handle.ensures.same in
     let frame = c.in-Some.ensures.next.0 in
     let a : Arrival = record { port = c.in-Some.port; frame = frame } in
-    let next-1 : IsNext c.args.self.now.files.inputs a = subst (λ (r : ReplayOf _). IsNext r.files.inputs a) c.self.view_is c.in-Some.ensures.next.1 in
-    let first-1 : IsFirstLeft c.args.self.now.files.inputs a = subst (λ (r : ReplayOf _). IsFirstLeft r.files.inputs a) c.self.view_is (c.in-Some.ensures.first a c.in-Some.ensures.next.1) in
-    let handled = c.in_ok-outcome.ensures.handles frame next-1 in
-    let h : Handled = handled_with a c.in_ok-outcome.outcome in
-    let next-2 = subst (λ (r : Replaying). IsNext r.inputs a) (sym same) next-1 in
-    let first-2 = subst (λ (r : Replaying). IsFirstLeft r.inputs a) (sym same) first-1 in
-    let writes-2 = subst (λ (r : Replaying). WritesFrame (g.F.Files.disk c.args.files.now) (g.F.Files.disk c.handle.new.files) r.outs r.log (r.totals.frames + 1) h (Ok tt)) (sym same) handled.2 in
-    let frames = ap (λ (r : Replaying). r.totals.frames) (same ∙ sym (ap (λ (r : ReplayOf _). r.files) c.self.view_is)) in
-    let not-2 : c.self-2.inside.totals.frames ≢ most_frames = λ e. c.if-self.false (sym frames ∙ e) in
+    let next : IsNext c.args.self.now.files.inputs a = subst (λ (r : ReplayOf _). IsNext r.files.inputs a) c.self.view_is c.in-Some.ensures.next.1 in
+    let first : IsFirstLeft c.args.self.now.files.inputs a = subst (λ (r : ReplayOf _). IsFirstLeft r.files.inputs a) c.self.view_is (c.in-Some.ensures.first a c.in-Some.ensures.next.1) in
+    let not : c.args.self.now.files.totals.frames ≢ most_frames = λ e. c.if-self.false (ap (λ (r : ReplayOf _). r.files.totals.frames) c.self.view_is ∙ e) in
+    let changed = c.handle.ensures.changed frame next in
+    let handled = c.in_ok-outcome.ensures.handles frame next in
+    let h : Handled = handled_with a handled.0 c.in_ok-outcome.outcome in
+    let inputs : c.self-2.inside.merge ≡ c.handle.new.self.files.inputs = ap (λ (r : ReplayOf _). r.files.inputs) c.self-2.view_is in
+    let outs : c.self-2.inside.outputs.captures.items ≡ c.args.self.now.files.outs = ap (λ (r : ReplayOf _). r.files.outs) c.self-2.view_is ∙ ap (λ (r : Replaying). r.outs) changed.1 in
+    let log : c.self-2.inside.outputs.log ≡ c.args.self.now.files.log = ap (λ (r : ReplayOf _). r.files.log) c.self-2.view_is ∙ ap (λ (r : Replaying). r.log) changed.1 in
+    let totals : c.self-2.inside.totals ≡ c.args.self.now.files.totals = ap (λ (r : ReplayOf _). r.files.totals) c.self-2.view_is ∙ ap (λ (r : Replaying). r.totals) changed.1 in
+    let changed-2 : IsChanged c.args.self.now.files.inputs c.self-2.inside.merge a = subst (λ (l : List Input). IsChanged c.args.self.now.files.inputs l a) (sym inputs) changed.0 in
     let handles : g.H.Handler.handles c.args.self.now.handler h c.self-2.inside.handler =
-    subst (λ (r : ReplayOf _). g.H.Handler.handles c.args.self.now.handler h r.handler) (sym c.self-2.view_is) handled.0 in
+    subst (λ (r : ReplayOf _). g.H.Handler.handles c.args.self.now.handler h r.handler) (sym c.self-2.view_is) handled.1 in
     λ s n past x.
-    let x-2 = subst (λ (r : Replaying). Going s (g.F.Files.disk c.args.files.now) n r past) (sym same) x in
     elim c.match-advance.branch [
-      | in-Ok w ↦ rw w.result-is (h, handles, next-1, rw c.counted-self-inside.ensures (frame_handled h x-2 not-2 next-2 first-2 handled.1 writes-2 w.in-Ok.ensures))
+      | in-Ok w ↦ rw w.result-is (h, handles, next, rw (outs, log, c.counted-self-inside.ensures, totals) (frame_handled h x not changed-2 first handled.2 handled.3 w.in-Ok.ensures))
       | in-Err w ↦
           let history = after_one g.H.Handler.handles g.H.Handler.stops_at past c.args.self.now.handler h c.self-2.inside.handler handles in
-          let halted = frame_last c.counted-self-inside.result h history x-2 not-2 next-2 first-2 handled.1 writes-2 w.in-Err.ensures in
-          rw (w.result-is, w.stop_of.ensures) halted
+          rw (w.result-is, w.stop_of.ensures, outs, log) (frame_last c.counted-self-inside.result h history x not changed-2 first handled.2 handled.3 w.in-Err.ensures)
     ]

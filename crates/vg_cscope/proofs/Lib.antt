@@ -1,0 +1,5 @@
+pub mod Answering
+pub mod Finding
+pub mod Looking
+pub mod Stacking
+pub mod Telling

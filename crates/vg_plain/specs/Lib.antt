@@ -1,0 +1,4 @@
+pub mod PlainTables
+pub mod LinkStates
+pub mod PlainLinks
+pub mod Expiring
