@@ -15,7 +15,7 @@ use Rattle.vg_core.specs.declared.tree.Kind.{Kind}
 use Rattle.vg_core.specs.declared.tree.Kind.TheVariants as nodes
 use Rattle.vg_core.specs.declared.tree.Parts.{Parts}
 use Rattle.vg_ctyper.specs.declared.fault.TypeFault.{TypeFault}
-use Rattle.vg_ctyper.specs.Scopes as scopes
+use Rattle.vg_cscope.specs.Scopes as scopes
 use Rattle.vg_ctyper.specs.Notes.{note_of, note_unless, node_steps, steps_of, steps_at}
 use Rattle.vg_ctyper.specs.WellTyped.{IsWellTyped}
 use Rattle.vg_cmean.specs.Typings as typings
