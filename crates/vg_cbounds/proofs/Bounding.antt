@@ -1,5 +1,7 @@
 -- The laws, from what was shown of nodes and loops.
-use Rattle.std.proofs.Common.{◌≡◌, ℕ, zero, suc, ◌≤◌, ◌<◌, if◌then◌else◌, length, IsSome, Option, Some, None, refl, sym, subst, arith, ◌∙◌, inl, inr}
+use Rattle.std.proofs.Common.{◌≡◌, true, ap, ℕ, zero, suc, ◌≤◌, ◌<◌, if◌then◌else◌, length, is_some, Option, Some, None, refl, sym, subst, arith, ◌∙◌, inl, inr}
+use Rattle.std.proofs.lemmas.Bool.{and_parts}
+use Rattle.std.proofs.lemmas.Bool.Decides.{nat_tests}
 use Rattle.vg_core.specs.Units.{Typed}
 use Rattle.vg_core.specs.declared.tree.Kind.{Kind}
 use Rattle.vg_core.specs.declared.tree.Kind.TheVariants as nodes
@@ -11,20 +13,26 @@ use Rattle.vg_cmean.specs.Meaning.{Meaning, turn, turns, is_below, next_of, most
 use Rattle.vg_ctyper.specs.Notes.{or_zero}
 use Rattle.vg_ctyper.specs.StatementRules as rules
 use Rattle.vg_ctyper.specs.WellTyped.{IsWellTyped}
-use Rattle.vg_cbounds.specs.Bounds.{known, IsCounted, AreLoopsCounted, NodesAreBounded, RunsAreBounded, LoopsAreBounded, counted_turns}
+use Rattle.vg_cbounds.specs.Bounds.{known, is_number, is_counted, AreLoopsCounted, NodesAreBounded, RunsAreBounded, LoopsAreBounded, counted_turns}
 use Rattle.vg_cbounds.proofs.Statements.{EndsWithin, stopped, turns_zero, turns_suc}
 use Rattle.vg_cbounds.proofs.Whole.{LoopEnds, LoopsEnd, every_node, run_bounded}
 use Rattle.vg_cbounds.proofs.Loops.{loop_is_counted, few_turns}
 
-some_is : {A : Type 0} (o : Option A) → IsSome o → (x : A) × (o ≡ Some x)
+some_is : {A : Type 0} (o : Option A) → is_some o ≡ true → (x : A) × (o ≡ Some x)
 some_is None h = cc
 some_is (Some x) h = (x, refl)
 
-loop_end : (u : Typed) (n : ℕ) (kind : Kind) → IsWellTyped u → n < length u.tree.nodes → kind_at u n ≡ kind → IsCounted u n kind → LoopEnds u n kind
+number_is : (o : Option ℕ) (n : ℕ) → is_number o n ≡ true → o ≡ Some n
+number_is None n h = cc
+number_is (Some a) n h = let same : a ≡ n = grind (arith, nat_tests) in ap Some same
+
+loop_end : (u : Typed) (n : ℕ) (kind : Kind) → IsWellTyped u → n < length u.tree.nodes → kind_at u n ≡ kind → is_counted u n kind ≡ true → LoopEnds u n kind
 loop_end u n (nodes.For of counter start tested bound stepped step body) w h e c =
-    let t = some_is (rules.turns (known u n) of start bound step) c.0 in
+    let both = and_parts (is_some (rules.turns (known u n) of start bound step)) (is_number (rules.step_number (known u n) step) (step_of u step)) c in
+    let t = some_is (rules.turns (known u n) of start bound step) both.0 in
+    let stepped_by = number_is (rules.step_number (known u n) step) (step_of u step) both.1 in
     subst (λ (o : Option ℕ). EndsWithin (or_zero o) (first_of u of start) (constant u bound) (step_of u step)) (sym t.1)
-    (loop_is_counted u n of counter start tested bound stepped step body t.0 w h e t.1 c.1)
+    (loop_is_counted u n of counter start tested bound stepped step body t.0 w h e t.1 stepped_by)
 loop_end u n _ w h e c = tt
 
 loops_end : (u : Typed) → IsWellTyped u → AreLoopsCounted u → LoopsEnd u
@@ -53,7 +61,7 @@ turns_same u (suc left) (suc most) n m c b step s (inr e) h =
 pub loops_bounded : LoopsAreBounded
 loops_bounded u n of counter start tested bound stepped step body w c h e =
     let ends : EndsWithin (counted_turns u n of start bound step) (first_of u of start) (constant u bound) (step_of u step) =
-    loop_end u n (nodes.For of counter start tested bound stepped step body) w h e (subst (λ (k : Kind). IsCounted u n k) e (c n h)) in
+    loop_end u n (nodes.For of counter start tested bound stepped step body) w h e (subst (λ (k : Kind). is_counted u n k ≡ true) e (c n h)) in
     let few = few_turns u n of counter start tested bound stepped step body w h e in
     record {
       same = λ s. turns_same u most_turns (counted_turns u n of start bound step) n (meaning_below u n body) (first_of u of start) (constant u bound) (step_of u step)

@@ -10,3 +10,4 @@ pub mod Readings
 pub mod Signs
 pub mod Loops
 pub mod Bounding
+pub mod Countable

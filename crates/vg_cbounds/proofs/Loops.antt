@@ -67,7 +67,7 @@ integer_is (types.Int bits signed) t e =
 integer_is _ t e = cc
 
 -- a note that is there among those before
-get_untake : {A : Type 0} (xs : List A) (n p : ℕ) (x : A) → slice_get (take n xs) p ≡ Some x → slice_get xs p ≡ Some x
+pub get_untake : {A : Type 0} (xs : List A) (n p : ℕ) (x : A) → slice_get (take n xs) p ≡ Some x → slice_get xs p ≡ Some x
 get_untake xs n p x e =
     let within : p < length (take n xs) = slice_get_within (take n xs) p x e in
     let short = length-take n xs in

@@ -15,7 +15,7 @@ use Rattle.vg_core.specs.declared.tree.Kind.{Kind}
 use Rattle.vg_core.specs.declared.tree.Kind.TheVariants as nodes
 use Rattle.vg_core.specs.declared.tree.Parts.{Parts}
 use Rattle.vg_ctyper.specs.declared.fault.TypeFault.{TypeFault}
-use Rattle.vg_ctyper.specs.Scopes as scopes
+use Rattle.vg_cscope.specs.Scopes as scopes
 use Rattle.vg_ctyper.specs.Notes.{note_of, note_unless, node_steps, steps_of, steps_at}
 use Rattle.vg_ctyper.specs.WellTyped.{IsWellTyped}
 use Rattle.vg_cmean.specs.Typings as typings
@@ -39,7 +39,7 @@ pub steps_noted : (u : Typed) (n : ℕ) → IsWellTyped u → n < length u.tree.
 steps_noted u n w h = ap steps_of (note_is u n w h)
 
 -- a note on a node before
-get_take : {A : Type 0} (xs : List A) (n p : ℕ) (x : A) → p < n → slice_get xs p ≡ Some x → slice_get (take n xs) p ≡ Some x
+pub get_take : {A : Type 0} (xs : List A) (n p : ℕ) (x : A) → p < n → slice_get xs p ≡ Some x → slice_get (take n xs) p ≡ Some x
 get_take xs n p x h e =
     let within : p < length xs = slice_get_within xs p x e in
     let here : p < length (take n xs) = grind (arith, length-take) in

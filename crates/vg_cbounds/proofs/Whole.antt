@@ -19,8 +19,9 @@ use Rattle.vg_cmean.specs.Meaning.{Meaning, Parts_mean, nothing, of_node, meanin
 use Rattle.vg_cmean.specs.Runs as runs
 use Rattle.vg_cmean.specs.Runs.{run, run_at, run_of, process_of, process_in, start, unsigned}
 use Rattle.vg_cmean.proofs.Below.{meaning_is, below_is, below_none}
-use Rattle.vg_ctyper.specs.Scopes as scopes
-use Rattle.vg_ctyper.specs.Names.{Known, as_callee, as_row, is_function, spelling}
+use Rattle.vg_cscope.specs.Scopes as scopes
+use Rattle.vg_cscope.specs.Names.{is_function, spelling}
+use Rattle.vg_ctyper.specs.Names.{Known, as_callee, as_row}
 use Rattle.vg_ctyper.specs.Types.{referent}
 use Rattle.vg_ctyper.specs.DeclarationRules.{last_of}
 use Rattle.vg_ctyper.specs.Notes.{node_steps, steps_at, or_zero, items_of, item_fault, process_fault}

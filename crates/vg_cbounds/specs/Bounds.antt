@@ -1,5 +1,5 @@
 -- What typing counts of a well typed text bounds its runs: a node takes at most its steps, and a loop at most its turns, from any state on.
-use Rattle.std.specs.Prelude.{◌≡◌, ℕ, ◌+◌, ◌≤◌, ◌<◌, List, length, slice_get, Option, Some, None, IsSome}
+use Rattle.std.specs.Prelude.{◌≡◌, ℕ, ◌+◌, ◌≤◌, ◌<◌, List, length, slice_get, nat_eq, Bool, true, false, ◌&&◌, is_some, Option, Some, None}
 use Rattle.vg_core.specs.Units.{Typed}
 use Rattle.vg_core.specs.declared.tree.Name.{Name}
 use Rattle.vg_core.specs.declared.tree.IntType.{IntType}
@@ -22,15 +22,19 @@ use Rattle.vg_ctyper.specs.WellTyped.{IsWellTyped, known_at}
 abbrev pub known : Typed → ℕ → Known
 known u n = known_at u.text u.tree u.notes n
 
+abbrev pub is_number : Option ℕ → ℕ → Bool
+is_number None n = false
+is_number (Some a) n = nat_eq a n
+
 -- the start, bound and step of a loop have types and are numbers, and the step is that number and not one that its type can't hold. So it is in every text
 -- that is read, where they are expressions whose numbers have their types
-abbrev pub IsCounted : Typed → ℕ → Kind → Type 0
-IsCounted u n (nodes.For of counter start tested bound stepped step body) =
-    IsSome (rules.turns (known u n) of start bound step) × (step_number (known u n) step ≡ Some (step_of u step))
-IsCounted u n kind = Unit {0}
+abbrev pub is_counted : Typed → ℕ → Kind → Bool
+is_counted u n (nodes.For of counter start tested bound stepped step body) =
+    is_some (rules.turns (known u n) of start bound step) && is_number (step_number (known u n) step) (step_of u step)
+is_counted u n kind = true
 
 abbrev pub AreLoopsCounted : Typed → Type 0
-AreLoopsCounted u = (n : ℕ) → n < length u.tree.nodes → IsCounted u n (kind_at u n)
+AreLoopsCounted u = (n : ℕ) → n < length u.tree.nodes → is_counted u n (kind_at u n) ≡ true
 
 -- ---- steps
 
