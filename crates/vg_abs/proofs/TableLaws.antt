@@ -1,14 +1,15 @@
 -- Ordered entries as finite maps.
-use Rattle.std.proofs.Common.{◌≡◌, ℕ, List, [], ◌∷◌, map, Some, refl, sym, ◌∙◌, ap, cond}
+use Rattle.std.proofs.Common.{◌≡◌, ℕ, List, [], ◌∷◌, map, Some, Bool, true, false, ◌&&◌, T, subst, refl, sym, ◌∙◌, ap, cond}
 use Rattle.std.specs.declared.cmp.Ordering.{Ordering}
 use Rattle.std.specs.declared.cmp.Ordering.TheVariants.{Less, Equal, Greater}
-use Rattle.std.specs.Ordering.{nat_cmp, eq_by_cmp, match_ordering}
+use Rattle.std.specs.Ordering.{nat_cmp, eq_by_cmp, match_ordering, is_lt}
 use Rattle.std.specs.Cmp.{IsTotalOrder, nat_cmp_total}
 use Rattle.std.specs.Cmp.Lexicographic.{slice_cmp, nat_list_cmp_total}
-use Rattle.std.specs.FinMap.{IsAntisymmetric, get, insert, from_entries, find, put, same_map, get-from_entries, get-insert, nat_cmp-IsAntisymmetric, slice_cmp-IsAntisymmetric}
-use Rattle.std.specs.FinMap.Entries.{find-put, by_order}
+use Rattle.std.specs.FinMap.{IsAntisymmetric, get, insert, from_entries, find, put, is_sorted, entries, from_sorted, same_map, entries-from_sorted, get-from_sorted, get-from_entries, get-insert, nat_cmp-IsAntisymmetric, slice_cmp-IsAntisymmetric}
+use Rattle.std.specs.FinMap.Entries.{find-put, by_order, below_all}
 use Rattle.std.specs.Map.{lookup}
-use Rattle.std.specs.List.{AllZip}
+use Rattle.std.specs.List.{AllZip, AllByRecursion}
+use Rattle.std.specs.List.Sorted.{IsStrictlySortedBy}
 use Rattle.std.specs.BTreeMap.{is_at, insert_entry}
 
 -- to put an entry into a list is to put it into the map of the list
@@ -82,3 +83,32 @@ zip_same [] [] zip = refl
 zip_same [] (y ∷ ys) zip = absurd zip
 zip_same (x ∷ xs) [] zip = absurd zip
 zip_same (x ∷ xs) (y ∷ ys) zip = ap (λ (n : ℕ). n ∷ ys) zip.0 ∙ ap (λ ns. x ∷ ns) (zip_same xs ys zip.1)
+
+-- ordered entries are those of their map
+both : (a b : Bool) → T a → T b → T (a && b)
+both true b x y = y
+both false b x y = x
+
+below_seen : {K L X : Type 0} (see : K → L) (R : L → L → Ordering) (x : K) (es : List (K × X)) → AllByRecursion (λ y. R (see x) (see y) ≡ Less) (map (λ e. e.0) es) → T (below_all R (see x) (map (seen see) es))
+below_seen see R x [] all = tt
+below_seen see R x (e ∷ es) all = both (is_lt (R (see x) (see e.0))) (below_all R (see x) (map (seen see) es)) (subst (λ o. T (is_lt o)) (sym all.0) tt) (below_seen see R x es all.1)
+
+sorted_seen : {K L X : Type 0} (see : K → L) (R : L → L → Ordering) (es : List (K × X)) → IsStrictlySortedBy (λ x y. R (see x) (see y)) (map (λ e. e.0) es) → T (is_sorted R (map (seen see) es))
+unfolding IsStrictlySortedBy
+sorted_seen see R [] all = tt
+sorted_seen see R (e ∷ es) all = both (below_all R (see e.0) (map (seen see) es)) (is_sorted R (map (seen see) es)) (below_seen see R e.0 es all.0) (sorted_seen see R es all.1)
+
+entries_of : {K X : Type 0} {R : K → K → Ordering} → IsTotalOrder R → IsAntisymmetric R → (es : List (K × X)) → T (is_sorted R es) → entries (from_entries {R = R} es) ≡ es
+entries_of {R = R} total same es sorted =
+    ap entries (same_map total same (from_entries {R = R} es) (from_sorted {R = R} es) (λ q. get-from_entries total es q ∙ sym (get-from_sorted R es q sorted))) ∙ entries-from_sorted R es sorted
+
+seen_same : {X : Type 0} (es : List (ℕ × X)) → map (seen (λ (k : ℕ). k)) es ≡ es
+seen_same [] = refl
+seen_same (e ∷ es) = ap (λ xs. e ∷ xs) (seen_same es)
+
+pub number-entries : {X : Type 0} (es : List (ℕ × X)) → IsStrictlySortedBy nat_cmp (map (λ e. e.0) es) → es ≡ entries (from_entries {R = nat_cmp} es)
+number-entries es sorted = sym (entries_of nat_cmp_total nat_cmp-IsAntisymmetric es (subst (λ (xs : List (ℕ × _)). T (is_sorted nat_cmp xs)) (seen_same es) (sorted_seen (λ k. k) nat_cmp es sorted)))
+
+pub key-entries : {K X : Type 0} (see : K → List ℕ) (es : List (K × X)) → IsStrictlySortedBy (λ x y. slice_cmp nat_cmp (see x) (see y)) (map (λ e. e.0) es) →
+    map (λ e. (see e.0, e.1)) es ≡ entries (from_entries {R = slice_cmp nat_cmp} (map (λ e. (see e.0, e.1)) es))
+key-entries see es sorted = sym (entries_of nat_list_cmp_total (slice_cmp-IsAntisymmetric nat_cmp-IsAntisymmetric) (map (seen see) es) (sorted_seen see (slice_cmp nat_cmp) es sorted))

@@ -1,9 +1,11 @@
 //! A table from keys.
 ghost use Rattle.std.specs.Prelude.{◌≡◌, IfOk, OnOk, OnErr};
 ghost use Rattle.std.specs.FinMap as map;
+ghost use Rattle.std.specs.Prelude as list;
 
 use std::alloc::Global;
 use std::collections::BTreeMap;
+use std::collections::btree_map::Iter;
 use std::marker::Model;
 use vg_parts::Memory;
 
@@ -41,6 +43,13 @@ impl Keyed {
         ensures { result ≡ map.get self.now key.now }
     {
         self.entries.get(key).copied()
+    }
+
+    /// The keys with what stands at them, in ascending order.
+    pub fn iter(&self) -> Iter<'_, Vec<u8>, Option<u32>>
+        ensures { list.map (λ entry. (entry.0.items, entry.1)) result ≡ map.entries self.now }
+    {
+        self.entries.iter()
     }
 
     /// Puts an answer at a key, in place of the one that was there.

@@ -5,6 +5,7 @@ ghost use Rattle.std.specs.Ordering.{nat_cmp};
 
 use std::alloc::Global;
 use std::collections::BTreeMap;
+use std::collections::btree_map::Iter;
 use std::marker::Model;
 use vg_parts::Memory;
 
@@ -41,6 +42,13 @@ impl<V: Drop> Numbered<V> {
         ensures { option_copied result ≡ map.get self.now number }
     {
         self.entries.get(&number)
+    }
+
+    /// The numbers with their values, in ascending order.
+    pub fn iter(&self) -> Iter<'_, u64, V>
+        ensures { result ≡ map.entries self.now }
+    {
+        self.entries.iter()
     }
 
     /// Puts a value at a number, in place of the one that was there.
