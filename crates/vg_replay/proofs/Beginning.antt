@@ -1,6 +1,7 @@
 -- How a replay begins.
 use Rattle.std.proofs.lemmas.List.Elements.{All-nil}
-use Rattle.std.proofs.Common.{◌≡◌, ◌<◌, ◌≤◌, ◌+◌, ◌∙◌, ℕ, List, [], ◌∷◌, ◌++◌, length, IsTrue, Option, Result, Ok, Err, inl, refl, sym, ap, arith}
+use Rattle.std.proofs.Common.{◌≡◌, ◌<◌, ◌≤◌, ◌+◌, ◌∙◌, ℕ, List, [], ◌∷◌, ◌++◌, length, IsTrue, Option, Result, Ok, Err, inl, refl, sym, ap, subst, arith}
+use Rattle.std.specs.Result.{IsErrAnd}
 use Rattle.vg_base.proofs.Disks.{SameHeld-trans}
 use Rattle.vg_base.specs.declared.faults.Failed.{Failed}
 use Rattle.vg_base.specs.Files.{Disk}
@@ -22,6 +23,7 @@ use Rattle.vg_replay.proofs.Stopping.{IsRead, read_goes, read_stops}
 use Rattle.vg_replay.proofs.Wrote.{log_is_none}
 use Rattle.vg_replay.specs.Outputs.{Handled, totals_of}
 use Rattle.vg_replay.specs.Replays.{ReplayFiles, AreReplayFiles, AreFirst, IsPart, Replays}
+use Rattle.vg_replay.specs.Handler.{HandledFrom}
 use Rattle.vg_replay.specs.Handling.{GoesOn, ReplaysThrough}
 use Rattle.vg_replay.proofs.Histories.{Replays-map, after_start, stops_start}
 use Rattle.vg_replay.specs.UnderWay.{ReplayOf, TakesFewSteps, Going}
@@ -124,6 +126,13 @@ uncreated {s = s} {t = t} {u = u} {v = v} {n = n} {inputs = inputs} q history na
         },
       );
     }
+
+-- one that wasn't begun has handled nothing
+pub not_begun : {H S : Type 0} (Handles : H → Handled → H → Type 0) (Stops : H → Arrival → S → Type 0) (s t : Disk) (n : ReplayFiles) (handler : H) (stop : RunStop S) (result : Result Totals (RunStop S))
+    → IsErrAnd result (λ e. e ≡ stop) → Replays s t n (λ handled. handled ≡ []) (λ handled a reason. ⊥) (Err stop) → ReplaysThrough Handles Stops s t n handler result
+not_begun Handles Stops s t n handler stop (Ok totals) is x = absurd is
+not_begun Handles Stops s t n handler stop (Err e) is x =
+    rw is (Replays-map (λ handled e. subst (λ (l : List Handled). HandledFrom Handles handler l) (sym e) (handler, refl)) (λ handled a reason no. absurd no) s t n (Err stop) x)
 
 -- a replay that was begun went on
 pub went_on : {H S : Type 0} (Handles : H → Handled → H → Type 0) (Stops : H → Arrival → S → Type 0) (s t : Disk) (n : ReplayFiles) (r : ReplayOf H) {handler : H} (result : Result Totals (RunStop S)) → r.handler ≡ handler

@@ -1,5 +1,5 @@
 -- What a handler did with frames: histories that grow, and a replay of one that is one of another.
-use Rattle.std.proofs.Common.{◌∙◌, ℕ, List, [], ◌∷◌, ◌++◌, Result, Ok, Err, inl, inr, refl, sym, append-nil, append_assoc}
+use Rattle.std.proofs.Common.{◌∙◌, ℕ, List, [], ◌∷◌, ◌++◌, Result, Ok, Err, arith, inl, inr, refl, sym, append-nil, append_assoc}
 use Rattle.vg_base.specs.Files.{Disk}
 use Rattle.vg_pcap.specs.Arrivals.{Arrival}
 use Rattle.vg_pcap.specs.declared.faults.CaptureRefusal.TheVariants.{Header, Record}
@@ -8,7 +8,7 @@ use Rattle.vg_replay.specs.declared.stop.RunStop.{RunStop}
 use Rattle.vg_replay.specs.declared.stop.RunStop.TheVariants as stops
 use Rattle.vg_replay.specs.declared.totals.Totals.{Totals}
 use Rattle.vg_replay.specs.Outputs.{Handled}
-use Rattle.vg_replay.specs.Handler.{HandlesAll, HandledFrom, StopsFrom, HandledAfter, StopsAfter}
+use Rattle.vg_replay.specs.Handler.{HandlesAll, HandledFrom, StopsFrom, HandledNext, StopsNext, HandledAfter, StopsAfter}
 use Rattle.vg_replay.specs.Replays.{ReplayFiles, Began, StopsAtRecord, StopsAtMost, StopsAtFrame, StopsReplay, StopsBegun, Replays}
 
 -- ---- histories
@@ -21,17 +21,23 @@ module _ {H S : Type 0} (Handles : H → Handled → H → Type 0) (Stops : H �
   pub HandlesAll-push : (first : H) (past : List Handled) (now : H) (h : Handled) (next : H) → HandlesAll Handles first past now → Handles now h next → HandlesAll Handles first (past ++ h ∷ []) next
   HandlesAll-push first past now h next x y = HandlesAll-append first past now (h ∷ []) next x (next, y, refl)
 
+  -- no frame more, or one
+  pub next_none : (past : List Handled) (now : H) → HandledNext Handles past now past
+  next_none past now = ([], omega arith, sym (append-nil past), (now, refl))
+
+  pub next_one : (past : List Handled) (now : H) (h : Handled) (next : H) → Handles now h next → HandledNext Handles past now (past ++ h ∷ [])
+  next_one past now h next x = (h ∷ [], omega arith, refl, (next, (next, x, refl)))
+
+  -- which are some since
+  pub next_after : (past : List Handled) (now : H) (handled : List Handled) → HandledNext Handles past now handled → HandledAfter Handles past now handled
+  next_after past now handled x = (x.0, x.2, x.3)
+
+  pub stops_after : (past : List Handled) (now : H) (handled : List Handled) (a : Arrival) (reason : S) → StopsNext Stops past now handled a reason → StopsAfter Handles Stops past now handled a reason
+  stops_after past now handled a reason x = ([], x.0 ∙ sym (append-nil past), (now, refl, x.1))
+
   -- nothing was handled since
   pub after_none : (past : List Handled) (now : H) → HandledAfter Handles past now past
   after_none past now = ([], sym (append-nil past), (now, refl))
-
-  -- one frame was
-  pub after_one : (past : List Handled) (now : H) (h : Handled) (next : H) → Handles now h next → HandledAfter Handles past now (past ++ h ∷ [])
-  after_one past now h next x = (h ∷ [], refl, (next, (next, x, refl)))
-
-  -- it stops at once
-  pub stops_next : (past : List Handled) (now : H) (a : Arrival) (reason : S) → Stops now a reason → StopsAfter Handles Stops past now past a reason
-  stops_next past now a reason x = ([], sym (append-nil past), (now, refl, x))
 
   -- what was handled since a later state was handled since an earlier one
   pub after_earlier : (before more : List Handled) (first now : H) → HandlesAll Handles first more now → (handled : List Handled) → HandledAfter Handles (before ++ more) now handled → HandledAfter Handles before first handled

@@ -8,7 +8,7 @@ use Rattle.vg_replay.specs.declared.under_way.Next.TheVariants as nexts
 use Rattle.vg_replay.specs.declared.stop.RunStop.{RunStop}
 use Rattle.vg_replay.specs.declared.totals.Totals.{Totals}
 use Rattle.vg_replay.specs.Outputs.{Handled}
-use Rattle.vg_replay.specs.Handler.{HandledFrom, StopsFrom, HandledAfter, StopsAfter}
+use Rattle.vg_replay.specs.Handler.{HandledFrom, StopsFrom, HandledNext, StopsNext, HandledAfter, StopsAfter}
 use Rattle.vg_replay.specs.Replays.{ReplayFiles, Replays, StopsBegun}
 use Rattle.vg_replay.specs.UnderWay.{ReplayOf, Going}
 
@@ -25,18 +25,20 @@ module _ {H S : Type 0} (Handles : H → Handled → H → Type 0) (Stops : H �
   abbrev pub StopsOn : Disk → Disk → ReplayFiles → ReplayOf H → List Handled → RunStop S → Type 0
   StopsOn s t n r past stop = StopsBegun s t n (HandledAfter Handles past r.handler) (StopsAfter Handles Stops past r.handler) stop
 
-  -- a replay through this handler was begun, and has handled no frame; or this stopped it
+  -- a replay through this handler was begun, and has handled no frame; or this stopped it, before any
   abbrev pub StartsReplay : Disk → Disk → ReplayFiles → H → Result (ReplayOf H) (RunStop S) → Type 0
   StartsReplay s t n handler (Ok r) = (r.handler ≡ handler) × Going s t n r.files []
-  StartsReplay s t n handler (Err stop) = ReplaysThrough s t n handler (Err stop)
+  StartsReplay s t n handler (Err stop) = Replays s t n (λ handled. handled ≡ []) (λ handled a reason. ⊥) (Err stop)
 
-  -- A replay that began at s and handled these frames has handled the next one; or none was left, and it ended; or it stopped. Its start alone
+  -- A replay that began at s and handled these frames has handled the next one; or none was left, and it ended; or it stopped, at the next one or right after it. Its start alone
   -- takes memory and reads headers.
   abbrev pub HandlesNext : Disk → Disk → ReplayFiles → ReplayOf H → List Handled → Result (Next H) (RunStop S) → Type 0
   HandlesNext s t n r past (Ok (nexts.Again next)) =
       (h : Handled) × Handles r.handler h next.handler × IsNext r.files.inputs h.arrival × Going s t n next.files (past ++ h ∷ [])
   HandlesNext s t n r past (Ok (nexts.End totals)) = All (λ input. input.waits ≡ false) r.files.inputs × ReplaysOn s t n r past (Ok totals)
-  HandlesNext s t n r past (Err stop) = StopsOn s t n r past stop × ReplaysOn s t n r past (Err stop)
+  HandlesNext s t n r past (Err stop) =
+      StopsBegun s t n (HandledNext Handles past r.handler) (StopsNext Stops past r.handler) stop
+      × Replays s t n (HandledNext Handles past r.handler) (StopsNext Stops past r.handler) (Err stop)
 
   -- a replay that began at s and handled these frames went on until it ended or stopped
   abbrev pub GoesOn : Disk → Disk → ReplayFiles → ReplayOf H → List Handled → Result Totals (RunStop S) → Type 0

@@ -15,7 +15,7 @@ use Rattle.vg_replay.specs.Replays.{ReplayFiles, KeepsOthers, StopsBegun}
 use Rattle.vg_replay.specs.declared.handled.Outcome.{Outcome}
 use Rattle.vg_replay.specs.Outputs.{Handled}
 use Rattle.vg_replay.specs.Writing.{WritesFrame}
-use Rattle.vg_replay.specs.Handler.{HandledAfter, StopsAfter}
+use Rattle.vg_replay.specs.Handler.{HandledNext, StopsNext}
 use Rattle.vg_replay.specs.UnderWay.{Replaying, ReplayOf, HasOpened, Going, open_ids}
 
 -- why a replay stops where its inputs can't be read on
@@ -53,7 +53,7 @@ module _ {H S : Type 0} (Handles : H → Handled → H → Type 0) (Stops : H �
   Steps s t u n old new past (Ok true) =
       (h : Handled) × Handles old.handler h new.handler × IsNext old.files.inputs h.arrival × Going s u n new.files (past ++ h ∷ [])
   Steps s t u n old new past (Ok false) = (new ≡ old) × (u ≡ t) × HasEnded u new.files
-  Steps s t u n old new past (Err stop) = HasStopped s u n new.files (HandledAfter Handles past old.handler) (StopsAfter Handles Stops past old.handler) stop
+  Steps s t u n old new past (Err stop) = HasStopped s u n new.files (HandledNext Handles past old.handler) (StopsNext Stops past old.handler) stop
 
   -- The next frame was handled and written; or it was handled, and a fault was counted as it was written; or the handler stopped, and nothing was touched.
   abbrev pub HandlesFrame : Disk → Disk → ReplayOf H → ReplayOf H → Arrival → Result Outcome (RunStop S) → Type 0

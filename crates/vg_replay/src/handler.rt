@@ -1,5 +1,6 @@
 //! What a replay puts its frames through.
-ghost use Rattle.std.specs.Prelude.{◌≤◌, ◌^◌, IfOk, IfErr};
+ghost use Rattle.std.specs.Prelude.{◌≤◌, ◌^◌, length, IfOk, IfErr};
+ghost use Rattle.vg_pcap.specs.Captures.{longest};
 ghost use Rattle.vg_pcap.specs.Arrivals.{Arrival};
 ghost use Rattle.vg_replay.specs.Outputs.{Handled};
 ghost use Rattle.vg_replay.specs.View.{arrival_of, handled_as};
@@ -18,8 +19,9 @@ pub trait Handler: Drop {
     ghost stops_at: { Self → Arrival → Self.Stop → Type 0 };
 
     /// Handles a frame, whose bytes it may change in place, or stops at it: then the replay ends, and the frame is neither written nor told in the log. A
-    /// frame takes at most 2^31 steps, so that those of all frames can be counted.
+    /// frame has at most 262,144 bytes and takes at most 2^31 steps, so that those of all frames can be counted.
     fn handle(&mut self, head: FrameHead, frame: &mut [u8]) -> Result<Outcome, Self::Stop>
+        requires short { length frame.old ≤ longest }
         ensures handled { IfOk result (λ o. handles self.old (handled_as head frame.old frame.new o) self.new) }
         ensures few { IfOk result (λ o. o.steps ≤ 2 ^ 31) }
         ensures stops { IfErr result (stops_at self.old (arrival_of head frame.old)) };

@@ -55,3 +55,10 @@ returns-clause-handles g c =
       | in-Ok-write w ↦ rw w.result-is (c.handle.new.frame, handled, c.in-Ok.ensures.few, rw (c.time.ensures a next, c.original.ensures a next, bytes) at (w.in-Ok-write.ensures.writes frame.bytes))
       | in-Err-write w ↦ rw w.result-is (c.handle.new.frame, c.in-Ok.outcome, handled, rw (c.time.ensures a next, c.original.ensures a next, bytes) at (w.in-Err-write.ensures.writes frame.bytes))
     ])
+
+pub handle-requires : goal.handle-requires
+handle-requires g c =
+    let asked = rw (← c.self.view_is) at c.requires.next in
+    let a : Arrival = record { port = c.args.port; frame = asked.0 } in
+    let fits : Fits asked.0 = asked.2 in
+    omega (arith, fits.short, ap length (c.frame_mut.ensures.value a asked.1))

@@ -1,5 +1,5 @@
 use Rattle.std.proofs.Common.{ap}
-use Rattle.vg_replay.proofs.Histories.{after_none}
+use Rattle.vg_replay.proofs.Histories.{next_none, after_none}
 use Rattle.vg_replay.proofs.Stopping.{stopped, stopped_begun}
 use Rattle.vg_replay.proofs.Handling.{next_ends, next_end_fails}
 use Rattle.vg_replay.specs.UnderWay.{ReplayOf}
@@ -33,7 +33,7 @@ returns-in-Ok g c = λ s n past x.
 pub returns-in-Err-close : goal.returns-in-Err-close
 returns-in-Err-close g c = λ s n past x.
     let done = (rw c.in-Ok-false.field-0-test at c.in-Ok-false.ensures) s n past x in
-    let failed = next_end_fails (after_none g.H.Handler.handles g.H.Handler.stops_at past c.args.self.handler) x (ap (λ (r : ReplayOf _). r.files) done.0) done.1 c.in-Err-close.ensures in
+    let failed = next_end_fails (next_none g.H.Handler.handles g.H.Handler.stops_at past c.args.self.handler) x (ap (λ (r : ReplayOf _). r.files) done.0) done.1 c.in-Err-close.ensures in
     (failed.stops, failed)
 
 pub returns-in-Err : goal.returns-in-Err

@@ -1,6 +1,6 @@
 use Rattle.std.proofs.Common.{[], ◌∷◌, ◌++◌, refl, append-nil, append_assoc, length-append, arith}
 use Rattle.vg_replay.proofs.Handling.{past_number, replays_earlier, begun_earlier}
-use Rattle.vg_replay.proofs.Histories.{HandlesAll-push}
+use Rattle.vg_replay.proofs.Histories.{HandlesAll-push, StopsBegun-map, Replays-map, next_after, stops_after}
 use Rattle.vg_replay.proofs.under_way.Replay.run.Goals as goal
 
 pub loop-next-init : goal.loop-next-init
@@ -39,4 +39,8 @@ pub returns-in-Err : goal.returns-in-Err
 returns-in-Err g c = λ s n before x.
     let now = c.loop-next.invariant s n before x in
     let stop = c.in-Err.ensures s n (before ++ now.0) now.2 in
-    (begun_earlier g.H.Handler.handles g.H.Handler.stops_at before now.0 _ _ now.1 s _ n _ stop.0, replays_earlier g.H.Handler.handles g.H.Handler.stops_at before now.0 _ _ now.1 s _ n _ stop.1)
+    let after = next_after g.H.Handler.handles g.H.Handler.stops_at (before ++ now.0) c.loop-next.replay.handler in
+    let at = stops_after g.H.Handler.handles g.H.Handler.stops_at (before ++ now.0) c.loop-next.replay.handler in (
+      begun_earlier g.H.Handler.handles g.H.Handler.stops_at before now.0 _ _ now.1 s _ n _ (StopsBegun-map after at s _ n _ stop.0),
+      replays_earlier g.H.Handler.handles g.H.Handler.stops_at before now.0 _ _ now.1 s _ n _ (Replays-map after at s _ n _ stop.1),
+    )

@@ -11,7 +11,7 @@ create-requires-clause-room g c =
 
 pub returns-in_default-create : goal.returns-in_default-create
 returns-in_default-create g c =
-    uncreated c.close.result (c.args.handler, refl) c.requires.names c.in-Ok-start.ensures c.in_default-create.ensures.failed c.close.ensures
+    uncreated c.close.result refl c.requires.names c.in-Ok-start.ensures c.in_default-create.ensures.failed c.close.ensures
 
 pub returns-in-Ok-fill : goal.returns-in-Ok-fill
 returns-in-Ok-fill g c =
@@ -23,5 +23,5 @@ returns-in-Ok-fill g c =
 pub returns-in-Err-fill : goal.returns-in-Err-fill
 returns-in-Err-fill g c =
     let few : length (map (string_bytes {Z = Global}) c.args.outs.now) ≤ 63 = let room = c.requires.room in omega (arith, room, length-map c.args.outs.now (string_bytes {Z = Global})) in
-    let halted = fill_refused c.default.result (c.args.handler, refl) c.requires.names few c.in-Ok-start.ensures c.in-Ok-create.ensures.created c.in-Err-fill.ensures in
+    let halted = fill_refused c.default.result refl c.requires.names few c.in-Ok-start.ensures c.in-Ok-create.ensures.created c.in-Err-fill.ensures in
     rw c.stop_of-in-Err-fill.ensures (stopped c.close-in-Err-fill.result halted c.close-in-Err-fill.ensures)

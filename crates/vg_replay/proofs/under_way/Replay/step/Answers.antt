@@ -3,7 +3,7 @@ use Rattle.vg_pcap.proofs.Merging.{still_next}
 use Rattle.vg_pcap.proofs.NextPort.{readable_changed}
 use Rattle.vg_pcap.specs.Arrivals.{Arrival}
 use Rattle.vg_pcap.specs.Merge.{Input, IsNext, IsNextAt, IsChanged, AreReadable}
-use Rattle.vg_replay.proofs.Histories.{after_none, after_one}
+use Rattle.vg_replay.proofs.Histories.{next_none, next_one}
 use Rattle.vg_replay.proofs.Stopping.{too_many, opened_writes}
 use Rattle.vg_replay.proofs.Stepped.{went_wrong}
 use Rattle.vg_replay.proofs.Wrote.{frame_keeps}
@@ -22,7 +22,7 @@ returns-in_default g c =
 
 pub returns-then-self : goal.returns-then-self
 returns-then-self g c =
-    rw (← c.self.view_is) (λ s n past x. too_many (after_none g.H.Handler.handles g.H.Handler.stops_at past c.self.inside.handler) x c.if-self.true c.in-Some.ensures.next.1)
+    rw (← c.self.view_is) (λ s n past x. too_many (next_none g.H.Handler.handles g.H.Handler.stops_at past c.self.inside.handler) x c.if-self.true c.in-Some.ensures.next.1)
 
 pub handle-requires-clause-next : goal.handle-requires-clause-next
 handle-requires-clause-next g c =
@@ -87,6 +87,6 @@ returns g c =
     elim c.match-advance.branch [
       | in-Ok w ↦ rw w.result-is (h, handles, next, rw (outs, log, c.counted-self-inside.ensures, totals) (frame_handled h x not changed-2 first handled.2 handled.3 w.in-Ok.ensures))
       | in-Err w ↦
-          let history = after_one g.H.Handler.handles g.H.Handler.stops_at past c.args.self.now.handler h c.self-2.inside.handler handles in
+          let history = next_one g.H.Handler.handles g.H.Handler.stops_at past c.args.self.now.handler h c.self-2.inside.handler handles in
           rw (w.result-is, w.stop_of.ensures, outs, log) (frame_last c.counted-self-inside.result h history x not changed-2 first handled.2 handled.3 w.in-Err.ensures)
     ]
