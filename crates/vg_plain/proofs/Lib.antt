@@ -1,0 +1,11 @@
+pub mod ListPlaces
+pub mod KeySlots
+pub mod Places
+pub mod LinkLaws
+pub mod Expiries
+pub mod ExpiredLinks
+pub mod StateLaws
+pub mod VectorLaws
+pub mod TellingLaws
+pub mod AgreementLaws
+pub mod Beginnings
