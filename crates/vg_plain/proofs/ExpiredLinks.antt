@@ -1,22 +1,21 @@
 -- What an expiry makes of a link's tables.
-use Rattle.std.proofs.Common.{◌≡◌, ℕ, zero, suc, ◌+◌, ◌-◌, ◌<◌, ◌≤◌, List, [], ◌∷◌, length, map, Option, Some, None, slice_get, refl, sym, ◌∙◌, ap, subst, arith, Bool, true, false, cond, inl, inr}
+use Rattle.std.proofs.Common.{◌≡◌, ℕ, zero, suc, ◌+◌, ◌<◌, List, [], ◌∷◌, length, map, Option, Some, None, slice_get, refl, sym, ◌∙◌, ap, arith, Bool, true, false, cond}
 use Rattle.std.specs.Prelude.{count_by, is_some, nat_lt, ◌&&◌, ◌||◌}
 use Rattle.std.specs.List.{list_any}
 use Rattle.std.specs.Option.{option_map}
 use Rattle.std.specs.Str.{bytes_eq}
-use Rattle.std.specs.Ordering.{nat_cmp}
 use Rattle.std.specs.Cmp.{nat_cmp_total}
-use Rattle.std.specs.Cmp.Lexicographic.{slice_cmp, nat_list_cmp_total}
+use Rattle.std.specs.Cmp.Lexicographic.{nat_list_cmp_total}
 use Rattle.std.specs.FinMap.{get, entries, slice_cmp-IsAntisymmetric, nat_cmp-IsAntisymmetric}
-use Rattle.std.proofs.lemmas.Bool.{cases_lt, lt-ltb, le-ltb}
-use Rattle.std.proofs.lemmas.Option.{slice_get_within, slice_get_past, slice_get-map}
+use Rattle.std.proofs.lemmas.Bool.{lt-ltb}
+use Rattle.std.proofs.lemmas.Option.{slice_get_within, slice_get-map}
 use Rattle.std.proofs.lemmas.List.Sums.{sum_by-cons}
 use Rattle.vg_abs.specs.Tables.{Link}
-use Rattle.vg_abs.specs.Answers.{time_of, is_before}
+use Rattle.vg_abs.specs.Answers.{is_before}
 use Rattle.vg_abs.specs.Effects.{without, is_key_of, expires, key_expires}
 use Rattle.vg_abs.proofs.Forgetting.{forgets}
 use Rattle.vg_plain.specs.PlainTables.{key_table, time_table, cell_table, joined}
-use Rattle.vg_plain.specs.Expiring.{is_early, kept_time, index_goes, key_goes}
+use Rattle.vg_plain.specs.Expiring.{is_early, kept_time, key_goes}
 use Rattle.vg_plain.proofs.ListPlaces.{some_is, none_some, bytes_same, bytes_true}
 use Rattle.vg_plain.proofs.KeySlots.{same_keys}
 use Rattle.vg_plain.proofs.Places.{listed, time_is, cell_is, same_numbers, time_list, time_entries}
@@ -168,7 +167,7 @@ key_from link bound times cells key (Some index) cells_are goes =
     let early = of_early bound (slice_get times index) parts.0 in
     let cell_here : get link.cells (0 + index) ≡ Some key = ap (λ (k : ℕ). get link.cells k) zero_is ∙ ap (λ c. get c index) cells_are ∙ cell_is cells index ∙ of_key (slice_get cells index) key parts.1 in
     any_there (picks link bound key) 0 index early.0 times early.1
-      (ap (λ b. b && is_key_of (get link.cells (0 + index)) key) early.2 ∙ ap (λ c. is_key_of c key) cell_here ∙ bytes_same key)
+    (ap (λ b. b && is_key_of (get link.cells (0 + index)) key) early.2 ∙ ap (λ c. is_key_of c key) cell_here ∙ bytes_same key)
 
 pub expired_keys_are : (link : Link) (bound : ℕ) (indices next : List (Option ℕ)) (keys : List (List ℕ)) (times : List (Option ℕ)) (cells : List (List ℕ)) → Tied indices keys times cells →
     link.times ≡ time_table 0 times → link.cells ≡ cell_table 0 cells →
@@ -176,8 +175,8 @@ pub expired_keys_are : (link : Link) (bound : ℕ) (indices next : List (Option 
     key_table next keys ≡ without true (key_expires link bound) (key_table indices keys)
 expired_keys_are link bound indices next keys times cells tied times_are cells_are now = same_keys _ _ (λ key. now key
     ∙ ap (λ b. cond b None (get (key_table indices keys) key)) (same_bool _ _
-      (λ goes. listed_same key ∙ key_from link bound times cells key (joined (get (key_table indices keys) key)) cells_are goes)
-      (λ goes. key_to link bound indices keys times cells key tied cells_are (any_found (picks link bound key) 0 times (sym (listed_same key) ∙ goes))))
+    (λ goes. listed_same key ∙ key_from link bound times cells key (joined (get (key_table indices keys) key)) cells_are goes)
+    (λ goes. key_to link bound indices keys times cells key tied cells_are (any_found (picks link bound key) 0 times (sym (listed_same key) ∙ goes))))
     ∙ sym ((forgets nat_list_cmp_total (slice_cmp-IsAntisymmetric nat_cmp-IsAntisymmetric)).of_full (key_expires link bound) (key_table indices keys) key))
   where
     listed_same : (key : List ℕ) → key_expires link bound key ≡ list_any (picks link bound key) (time_list 0 times)

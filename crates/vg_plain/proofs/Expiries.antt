@@ -1,17 +1,17 @@
 -- Expiry, index by index.
-use Rattle.std.proofs.Common.{◌≡◌, ℕ, zero, suc, ◌+◌, ◌-◌, ◌<◌, ◌≤◌, ◌≢◌, List, [], ◌∷◌, length, set, get_or, map, Option, Some, None, slice_get, refl, sym, ◌∙◌, ap, subst, arith, Bool, true, false, cond, inl, inr}
-use Rattle.std.specs.Prelude.{count_by, is_some, IsSome, nat_lt, ◌&&◌, ◌⊎◌}
+use Rattle.std.proofs.Common.{◌≡◌, ℕ, zero, suc, ◌+◌, ◌<◌, ◌≤◌, ◌≢◌, List, [], ◌∷◌, length, set, get_or, map, Option, Some, None, slice_get, refl, sym, ◌∙◌, ap, subst, arith, Bool, true, false, cond, inl, inr}
+use Rattle.std.specs.Prelude.{count_by, is_some, nat_lt, ◌&&◌}
 use Rattle.std.specs.Option.{option_map}
 use Rattle.std.specs.Str.{bytes_eq}
 use Rattle.std.specs.FinMap.{get}
 use Rattle.std.proofs.lemmas.Bool.{cases_eq, cases_lt, lt-ltb, le-ltb}
-use Rattle.std.proofs.lemmas.Option.{slice_get_within, slice_get-get_or, slice_get_past, slice_get-map, get_or_from_slice_get}
+use Rattle.std.proofs.lemmas.Option.{slice_get_within, slice_get_past, slice_get-map, get_or_from_slice_get}
 use Rattle.std.proofs.lemmas.List.{length-set, length-map}
 use Rattle.std.proofs.lemmas.List.Sums.{sum_by-cons, sum_by-set}
 use Rattle.vg_plain.specs.PlainTables.{key_table, without_slots, joined}
 use Rattle.vg_abs.specs.Effects.{is_key_of}
 use Rattle.vg_plain.specs.Expiring.{is_early, kept_time, index_goes, key_goes}
-use Rattle.vg_plain.proofs.ListPlaces.{some_is, none_some, set_here, set_other, bytes_same, bytes_true}
+use Rattle.vg_plain.proofs.ListPlaces.{some_is, set_here, set_other, bytes_same}
 use Rattle.vg_plain.proofs.KeySlots.{bytes_cases, cleared_at}
 use Rattle.vg_plain.proofs.LinkLaws.{used, cleared_one, length_cleared}
 
@@ -120,16 +120,19 @@ expire_one bound was_indices indices keys was_times times cells freed i time fou
   where
     was_at : slice_get was_times i ≡ Some time
     was_at = sym (so_far.above i (omega arith)) ∙ here
+
     found_mapped : get (key_table was_indices keys) found ≡ Some (Some i)
     found_mapped =
         let some = early_some bound time early in
         let pair = tied i some.0 (was_at ∙ ap Some some.1) in
         ap (λ (k : List ℕ). get (key_table was_indices keys) k) (sym (some_is pair.0 found (sym pair.1 ∙ cell))) ∙ pair.2
+
     found_goes : index_goes bound was_times cells found i ≡ true
     found_goes =
         ap (λ f. is_early bound (joined f) && is_key_of (slice_get cells i) found) was_at ∙ ap (λ b. b && is_key_of (slice_get cells i) found) early ∙ ap (λ c. is_key_of c found) cell ∙ bytes_same found
+
     joins : (key : List ℕ) → cond (bytes_eq found key) None (cond (gone_below i bound was_times cells key (joined (get (key_table was_indices keys) key))) None (get (key_table was_indices keys) key))
-      ≡ cond (gone_below (i + 1) bound was_times cells key (joined (get (key_table was_indices keys) key))) None (get (key_table was_indices keys) key)
+        ≡ cond (gone_below (i + 1) bound was_times cells key (joined (get (key_table was_indices keys) key))) None (get (key_table was_indices keys) key)
     joins key = elim (bytes_cases found key) [
       | inl same ↦ (let mapped : get (key_table was_indices keys) key ≡ Some (Some i) = ap (λ (k : List ℕ). get (key_table was_indices keys) k) (sym same) ∙ found_mapped in
           let yes : bytes_eq found key ≡ true = ap (λ (k : List ℕ). bytes_eq found k) (sym same) ∙ bytes_same found in
@@ -155,7 +158,7 @@ pub expired_times : (bound : ℕ) (was_indices indices : List (Option ℕ)) (key
     Expired bound was_indices indices keys was_times times cells freed i → length times ≤ i → times ≡ map (kept_time bound) was_times
 expired_times bound was_indices indices keys was_times times cells freed i done end =
     same_lists times (map (kept_time bound) was_times) (done.places ∙ sym (length-map was_times (kept_time bound)))
-      (λ j less. done.below j (omega (arith, length-map was_times (kept_time bound), done.places)) ∙ sym (slice_get-map (kept_time bound) was_times j))
+    (λ j less. done.below j (omega (arith, length-map was_times (kept_time bound), done.places)) ∙ sym (slice_get-map (kept_time bound) was_times j))
 
 kept_is_late : (bound : ℕ) (time : Option ℕ) → is_early bound (kept_time bound time) ≡ false
 kept_is_late bound time = elim (is_early bound time) as (λ b. is_early bound time ≡ b → is_early bound (cond b None time) ≡ false) [ true ↦ λ _. refl | false ↦ λ is. is ] refl
@@ -180,7 +183,7 @@ all_below i bound times cells key None end = refl
 all_below i bound times cells key (Some index) end = elim (cases_lt index i) [
   | inl less ↦ ap (λ b. b && index_goes bound times cells key index) (lt-ltb index i less)
   | inr more ↦ ap (λ b. b && index_goes bound times cells key index) (le-ltb index i more)
-    ∙ sym (ap (λ f. is_early bound (joined f) && is_key_of (slice_get cells index) key) (slice_get_past times index (omega arith)))
+      ∙ sym (ap (λ f. is_early bound (joined f) && is_key_of (slice_get cells index) key) (slice_get_past times index (omega arith)))
 ]
 
 pub expired_keys : (bound : ℕ) (was_indices indices : List (Option ℕ)) (keys : List (List ℕ)) (was_times times : List (Option ℕ)) (cells : List (List ℕ)) (freed i : ℕ) →
@@ -203,7 +206,6 @@ expire_start bound indices keys times cells = record {
   gone = λ key. sym (ap (λ b. cond b None (get (key_table indices keys) key)) (none_below bound times cells key (joined (get (key_table indices keys) key))));
   few = omega arith;
 }
-
 
 pub expired_next : (bound : ℕ) (was_indices indices next_indices : List (Option ℕ)) (keys : List (List ℕ)) (was_times times next_times : List (Option ℕ)) (cells : List (List ℕ)) (freed next_freed next : ℕ) →
     indices ≡ next_indices → times ≡ next_times → freed ≡ next_freed →

@@ -1,16 +1,16 @@
 -- Slots as a table of keys.
-use Rattle.std.proofs.Common.{◌≡◌, ℕ, zero, suc, ◌+◌, ◌<◌, ◌≤◌, ◌≢◌, List, [], ◌∷◌, length, set, get_or, Option, Some, None, slice_get, refl, sym, ◌∙◌, ap, subst, arith, Bool, true, false, cond, inl, inr}
+use Rattle.std.proofs.Common.{◌≡◌, ℕ, zero, suc, ◌+◌, ◌<◌, ◌≤◌, List, [], ◌∷◌, length, set, get_or, Option, Some, None, slice_get, refl, sym, ◌∙◌, ap, subst, arith, Bool, true, false, cond, inl, inr}
 use Rattle.std.specs.Prelude.{count_by, is_some, ◌⊎◌, ◌&&◌, replicate}
 use Rattle.std.proofs.lemmas.Bool.{cases_eq}
 use Rattle.std.proofs.lemmas.List.Sums.{sum_by-cons}
 use Rattle.std.proofs.lemmas.List.{length-set}
 use Rattle.std.proofs.lemmas.Option.{slice_get_within, slice_get-get_or, get_or_from_slice_get}
 use Rattle.std.specs.Str.{bytes_eq}
-use Rattle.std.specs.Ordering.{eq_by_cmp, nat_cmp}
+use Rattle.std.specs.Ordering.{nat_cmp}
 use Rattle.std.specs.Cmp.Lexicographic.{slice_cmp, nat_list_cmp_total}
-use Rattle.std.specs.FinMap.{FinMap, get, insert, empty, get-empty, get-insert, same_map, slice_cmp-IsAntisymmetric, nat_cmp-IsAntisymmetric}
+use Rattle.std.specs.FinMap.{get, insert, empty, get-empty, get-insert, same_map, slice_cmp-IsAntisymmetric, nat_cmp-IsAntisymmetric}
 use Rattle.vg_abs.specs.Tables.{KeyTable}
-use Rattle.vg_abs.specs.Effects.{without, Forgets}
+use Rattle.vg_abs.specs.Effects.{without}
 use Rattle.vg_abs.proofs.Forgetting.{forgets}
 use Rattle.vg_plain.specs.PlainTables.{key_table, without_slots, joined}
 use Rattle.vg_plain.proofs.ListPlaces.{some_is, none_some, set_here, set_other, bytes_same, bytes_true, ties}
@@ -55,7 +55,7 @@ first_at (Some other ∷ indices) (first ∷ keys) key zero index none here ther
 first_at (Some other ∷ indices) (first ∷ keys) key (suc i) index none here there = elim (bytes_cases key first) [
   | inl same ↦ absurd (none zero (omega arith) other refl (ap Some (sym same)))
   | inr ne ↦ put_at (key_table indices keys) first key (Some other) ∙ ap (λ b. cond b (Some (Some other)) (get (key_table indices keys) key)) ne
-    ∙ first_at indices keys key i index (λ j less. none (suc j) (omega arith)) here there
+      ∙ first_at indices keys key i index (λ j less. none (suc j) (omega arith)) here there
 ]
 
 -- a key that is put into a free slot
@@ -67,9 +67,10 @@ swap table one other x y ne = same_keys _ _ (λ key.
   where
     apart : (key : List ℕ) → key ≡ other → key ≡ one → ⊥
     apart key is was = absurd (let h : bytes_eq one other ≡ true = ap (λ (k : List ℕ). bytes_eq one k) (sym is ∙ was) ∙ bytes_same one in cc)
+
     swapped : (key : List ℕ) → cond (bytes_eq key other) (Some y) (cond (bytes_eq key one) (Some x) (get table key)) ≡ cond (bytes_eq key one) (Some x) (cond (bytes_eq key other) (Some y) (get table key))
     swapped key = elim (bytes_cases key other) [
-      | inl is ↦ (let differ : bytes_eq key one ≡ false = elim (bytes_cases key one) [ | inl was ↦ absurd (apart key is was) | inr differs ↦ differs ] in rw differ refl)
+      | inl is ↦ (let differ : bytes_eq key one ≡ false = elim (bytes_cases key one) [ inl was ↦ absurd (apart key is was) | inr differs ↦ differs ] in rw differ refl)
       | inr differs ↦ rw differs refl
     ]
 
@@ -84,7 +85,7 @@ put_in (Some other ∷ indices) (first ∷ keys) key (suc i) index free less abs
   | inl same ↦ absurd (none_some (Some other) (sym absent ∙ put_at (key_table indices keys) first key (Some other) ∙ ap (λ b. cond b (Some (Some other)) (get (key_table indices keys) key)) (ap (λ (k : List ℕ). bytes_eq key k) (sym same) ∙ bytes_same key)))
   | inr ne ↦ ap (λ (t : KeyTable). insert t first (Some other)) (put_in indices keys key i index free (omega arith)
       (sym (put_at (key_table indices keys) first key (Some other) ∙ ap (λ b. cond b (Some (Some other)) (get (key_table indices keys) key)) ne) ∙ absent))
-    ∙ swap (key_table indices keys) key first (Some index) (Some other) ne
+      ∙ swap (key_table indices keys) key first (Some index) (Some other) ne
 ]
 
 -- slots that are cleared
@@ -106,10 +107,10 @@ cleared_at (Some index ∷ indices) (first ∷ keys) key other = elim (bytes_cas
       ∙ hidden (get (key_table indices keys) other) same
       ∙ ap (λ rest. cond (bytes_eq key other) None rest) (sym (put_at (key_table indices keys) first other (Some index))))
   | inr ne ↦ ap (λ b. get (key_table (cond b None (Some index) ∷ without_slots key indices keys) (first ∷ keys)) other) ne
-    ∙ put_at (key_table (without_slots key indices keys) keys) first other (Some index)
-    ∙ ap (λ rest. cond (bytes_eq other first) (Some (Some index)) rest) (cleared_at indices keys key other)
-    ∙ kept (get (key_table indices keys) other) ne
-    ∙ ap (λ rest. cond (bytes_eq key other) None rest) (sym (put_at (key_table indices keys) first other (Some index)))
+      ∙ put_at (key_table (without_slots key indices keys) keys) first other (Some index)
+      ∙ ap (λ rest. cond (bytes_eq other first) (Some (Some index)) rest) (cleared_at indices keys key other)
+      ∙ kept (get (key_table indices keys) other) ne
+      ∙ ap (λ rest. cond (bytes_eq key other) None rest) (sym (put_at (key_table indices keys) first other (Some index)))
 ]
   where
     hidden : (found : Option (Option ℕ)) → key ≡ first → cond (bytes_eq key other) None found ≡ cond (bytes_eq key other) None (cond (bytes_eq other first) (Some (Some index)) found)
@@ -120,6 +121,7 @@ cleared_at (Some index ∷ indices) (first ∷ keys) key other = elim (bytes_cas
         | inr apart ↦ rw apart refl
       ]
     ]
+
     kept : (found : Option (Option ℕ)) → bytes_eq key first ≡ false → cond (bytes_eq other first) (Some (Some index)) (cond (bytes_eq key other) None found) ≡ cond (bytes_eq key other) None (cond (bytes_eq other first) (Some (Some index)) found)
     kept found ne = elim (bytes_cases other first) [
       | inl was ↦ (let differ : bytes_eq key other ≡ false = ap (λ (k : List ℕ). bytes_eq key k) was ∙ ne in rw differ refl)
@@ -239,3 +241,17 @@ no_slots (suc count) (key ∷ keys) = no_slots count keys
 
 pub no_keys : (indices : List (Option ℕ)) (count : ℕ) (keys : List (List ℕ)) → indices ≡ replicate count None → key_table indices keys ≡ empty
 no_keys indices count keys is = ap (λ (places : List (Option ℕ)). key_table places keys) is ∙ no_slots count keys
+
+-- slots list no absent key
+pub none_listed : (indices : List (Option ℕ)) (keys : List (List ℕ)) (key : List ℕ) → joined (get (key_table indices keys) key) ≡ None → get (key_table indices keys) key ≡ None
+none_listed [] keys key none = get-empty (slice_cmp nat_cmp) key
+none_listed (index ∷ indices) [] key none = get-empty (slice_cmp nat_cmp) key
+none_listed (None ∷ indices) (first ∷ keys) key none = none_listed indices keys key none
+none_listed (Some index ∷ indices) (first ∷ keys) key none = elim (bytes_cases key first) [
+  | inl same ↦ (let there : get (key_table (Some index ∷ indices) (first ∷ keys)) key ≡ Some (Some index) =
+      put_at (key_table indices keys) first key (Some index) ∙ ap (λ b. cond b (Some (Some index)) (get (key_table indices keys) key)) (ap (λ (k : List ℕ). bytes_eq key k) (sym same) ∙ bytes_same key) in
+      absurd (none_some index (sym none ∙ ap joined there)))
+  | inr ne ↦ (let there : get (key_table (Some index ∷ indices) (first ∷ keys)) key ≡ get (key_table indices keys) key =
+      put_at (key_table indices keys) first key (Some index) ∙ ap (λ b. cond b (Some (Some index)) (get (key_table indices keys) key)) ne in
+      there ∙ none_listed indices keys key (sym (ap joined there) ∙ none))
+]

@@ -4,3 +4,8 @@ pub mod Places
 pub mod LinkLaws
 pub mod Expiries
 pub mod ExpiredLinks
+pub mod StateLaws
+pub mod VectorLaws
+pub mod TellingLaws
+pub mod AgreementLaws
+pub mod Beginnings

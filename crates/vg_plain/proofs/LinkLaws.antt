@@ -1,5 +1,5 @@
 -- What is counted of a link's lists.
-use Rattle.std.proofs.Common.{◌≡◌, ℕ, zero, suc, ◌+◌, ◌-◌, ◌<◌, ◌≤◌, List, [], ◌∷◌, length, set, get_or, Option, Some, None, slice_get, refl, sym, ◌∙◌, ap, subst, arith, Bool, true, false, cond, inl, inr}
+use Rattle.std.proofs.Common.{◌≡◌, ℕ, zero, suc, ◌+◌, ◌<◌, ◌≤◌, List, [], ◌∷◌, length, set, get_or, Option, Some, None, slice_get, refl, sym, ◌∙◌, ap, subst, arith, Bool, true, false, cond, inl, inr}
 use Rattle.std.specs.Prelude.{count_by, is_some, IsSome, replicate}
 use Rattle.std.specs.Str.{bytes_eq}
 use Rattle.std.specs.Ordering.{nat_cmp}
@@ -8,8 +8,8 @@ use Rattle.std.specs.FinMap.{get, get-empty}
 use Rattle.std.proofs.lemmas.Option.{slice_get_within, slice_get-get_or, get_or_from_slice_get}
 use Rattle.std.proofs.lemmas.List.{length-set}
 use Rattle.std.proofs.lemmas.List.Sums.{sum_by-cons, sum_by-set, count_by-le-length}
-use Rattle.vg_plain.specs.PlainTables.{key_table, time_table, cell_table, without_slots, joined}
-use Rattle.vg_plain.proofs.ListPlaces.{some_is, none_some, bytes_same}
+use Rattle.vg_plain.specs.PlainTables.{key_table, time_table, without_slots, joined}
+use Rattle.vg_plain.proofs.ListPlaces.{none_some, bytes_same}
 use Rattle.vg_plain.proofs.KeySlots.{put_at, bytes_cases}
 use Rattle.vg_plain.proofs.Places.{listed, time_is}
 

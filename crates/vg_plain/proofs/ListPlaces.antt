@@ -1,13 +1,10 @@
 -- What stands at a place of a list after one of its items was set.
-use Rattle.std.proofs.Common.{◌≡◌, ℕ, zero, suc, ◌+◌, ◌<◌, ◌≢◌, List, [], ◌∷◌, length, set, Option, Some, None, slice_get, refl, sym, ◌∙◌, ap, arith, Bool, true, false, cond, inl, inr}
-use Rattle.std.specs.Prelude.{count_by, unwrap_or, ◌==◌}
+use Rattle.std.proofs.Common.{◌≡◌, ℕ, zero, suc, ◌<◌, ◌≢◌, List, [], ◌∷◌, length, set, Option, Some, None, slice_get, refl, sym, ◌∙◌, ap, arith, Bool, true, false, cond, inl, inr}
+use Rattle.std.specs.Prelude.{unwrap_or, IsSome, ◌==◌}
 use Rattle.std.specs.Str.{bytes_eq}
 use Rattle.std.specs.Ordering.{eq_by_cmp, nat_cmp}
 use Rattle.std.specs.Cmp.Lexicographic.{slice_cmp, texts_ties}
-use Rattle.std.specs.Option.{option_map}
 use Rattle.std.proofs.lemmas.Bool.{cases_eq, eq-eqb, ne_eqb}
-use Rattle.std.proofs.lemmas.List.{length-set}
-use Rattle.std.proofs.lemmas.List.Sums.{sum_by-set}
 
 pub some_is : {X : Type 0} (x y : X) → Some x ≡ Some y → x ≡ y
 some_is x y same = ap (λ found. unwrap_or found x) same
@@ -50,3 +47,13 @@ bytes_true (x ∷ xs) (y ∷ ys) is = elim (cases_eq x y) [
 
 pub ties : (x y : List ℕ) → eq_by_cmp (slice_cmp nat_cmp) x y ≡ bytes_eq x y
 ties x y = sym (texts_ties x y)
+
+-- a cell that is lent is there
+pub lent_inside : (lent : List Bool) (index : ℕ) → unwrap_or (slice_get lent index) false ≡ true → index < length lent
+lent_inside [] index is = absurd (cc)
+lent_inside (one ∷ lent) zero is = omega arith
+lent_inside (one ∷ lent) (suc index) is = let rest : index < length lent = lent_inside lent index is in omega arith
+
+pub some_of : {X : Type 0} (found : Option X) → IsSome found → (x : X) × (found ≡ Some x)
+some_of None is = absurd (cc)
+some_of (Some x) is = (x, refl)

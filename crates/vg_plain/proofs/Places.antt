@@ -1,23 +1,23 @@
 -- Lists as tables from numbers: times, and the bytes of cells.
-use Rattle.std.proofs.Common.{◌≡◌, ℕ, zero, suc, ◌+◌, ◌<◌, ◌≤◌, ◌≢◌, List, [], ◌∷◌, length, set, Option, Some, None, slice_get, refl, sym, ◌∙◌, ap, subst, arith, Bool, true, false, cond, inl, inr, T}
-use Rattle.std.specs.Prelude.{count_by, is_some, ◌⊎◌, ◌==◌, nat_eq, nat_lt, replicate}
-use Rattle.std.specs.declared.cmp.Ordering.{Ordering}
-use Rattle.std.specs.declared.cmp.Ordering.TheVariants.{Less, Equal, Greater}
-use Rattle.std.specs.Ordering.{eq_by_cmp, nat_cmp}
+use Rattle.std.proofs.Common.{◌≡◌, ℕ, zero, suc, ◌+◌, ◌<◌, ◌≤◌, List, [], ◌∷◌, length, set, Option, Some, None, slice_get, refl, sym, ◌∙◌, ap, subst, arith, Bool, true, false, cond, inl, inr}
+use Rattle.std.specs.Prelude.{◌==◌, nat_eq, nat_lt, replicate}
+use Rattle.std.specs.declared.cmp.Ordering.TheVariants.{Less}
+use Rattle.std.specs.Ordering.{nat_cmp}
 use Rattle.std.specs.Cmp.{nat_cmp_total, nat_cmp_is}
-use Rattle.std.specs.FinMap.{FinMap, get, insert, empty, entries, find, put, get-empty, get-insert, get-entries, len-entries, len-empty, entries-insert, same_map, nat_cmp-IsAntisymmetric}
+use Rattle.std.specs.FinMap.{FinMap, get, insert, empty, entries, put, get-empty, get-insert, len-entries, len-empty, entries-insert, same_map, nat_cmp-IsAntisymmetric}
 use Rattle.std.specs.FinMap.Entries.{by_order}
 use Rattle.std.proofs.lemmas.Bool.{cases_eq, cases_lt, eq-eqb, ne_eqb, lt-ltb, le-ltb}
-use Rattle.std.proofs.lemmas.List.{length-set, nil_from_length, length-replicate, get_or-replicate}
+use Rattle.std.proofs.lemmas.List.{nil_from_length, length-replicate, get_or-replicate}
 use Rattle.std.proofs.lemmas.Option.{slice_get-get_or, slice_get_past}
 use Rattle.vg_abs.specs.Tables.{TimeTable, CellTable}
+use Rattle.vg_abs.specs.Agreement.{BothTell}
 use Rattle.vg_abs.specs.Effects.{without}
 use Rattle.vg_abs.proofs.Forgetting.{forgets}
 use Rattle.vg_abs.specs.Opening.{zero_cells}
 use Rattle.vg_abs.proofs.Starting.{same_test}
 use Rattle.vg_abs.proofs.OpeningLaws.{one_more}
-use Rattle.vg_plain.specs.PlainTables.{time_table, cell_table, joined}
-use Rattle.vg_plain.proofs.ListPlaces.{some_is, none_some, set_at}
+use Rattle.vg_plain.specs.PlainTables.{time_table, cell_table}
+use Rattle.vg_plain.proofs.ListPlaces.{set_at}
 
 -- the item with a number, where the first has the number `start`
 abbrev numbered : {X : Type 0} → ℕ → List X → ℕ → Option X
@@ -106,7 +106,7 @@ put_first k start x [] less = refl
 put_first k start x (None ∷ times) less = put_first k (suc start) x times (omega arith)
 put_first k start x (Some time ∷ times) less =
     ap (λ o. by_order o ((k, x) ∷ (start, Some time) ∷ time_list (suc start) times) ((start, x) ∷ time_list (suc start) times) ((start, Some time) ∷ put nat_cmp k x (time_list (suc start) times)))
-      (sym (nat_cmp_is k start Less less))
+    (sym (nat_cmp_is k start Less less))
 
 pub time_entries : (start : ℕ) (times : List (Option ℕ)) → entries (time_table start times) ≡ time_list start times
 time_entries start [] = nil_from_length (entries (empty {X = Option ℕ} {R = nat_cmp})) (sym (len-entries (empty {X = Option ℕ} {R = nat_cmp})) ∙ len-empty nat_cmp (Option ℕ))
@@ -119,7 +119,7 @@ time_entries start (Some time ∷ times) =
 replicated : (count q : ℕ) (x : List ℕ) → slice_get (replicate count x) q ≡ cond (nat_lt q count) (Some x) None
 replicated count q x = elim (cases_lt q count) [
   | inl less ↦ slice_get-get_or (replicate count x) q x (omega (arith, length-replicate count x)) ∙ ap Some (get_or-replicate count q x x less)
-    ∙ ap (λ b. cond b (Some x) None) (sym (lt-ltb q count less))
+      ∙ ap (λ b. cond b (Some x) None) (sym (lt-ltb q count less))
   | inr more ↦ slice_get_past (replicate count x) q (omega (arith, length-replicate count x)) ∙ ap (λ b. cond b (Some x) None) (sym (le-ltb q count more))
 ]
 
@@ -149,3 +149,14 @@ all_free count = no_times count 0
 
 abbrev pub time_table_of : List (Option ℕ) → TimeTable
 time_table_of times = time_table 0 times
+
+-- cells agree as a list where they do as a table
+pub record CellsAgreeAs : Type 0 where
+  pub to : (cells : List (List ℕ)) (other : CellTable) → ((index : ℕ) → BothTell (slice_get cells index) (get other index)) → (index : ℕ) → BothTell (get (cell_table 0 cells) index) (get other index)
+  pub from : (cells : List (List ℕ)) (other : CellTable) → ((index : ℕ) → BothTell (get (cell_table 0 cells) index) (get other index)) → (index : ℕ) → BothTell (slice_get cells index) (get other index)
+
+pub cells_agree_as : CellsAgreeAs
+cells_agree_as = record {
+  to = λ cells other agree index. subst (λ (found : Option (List ℕ)). BothTell found (get other index)) (sym (cell_is cells index)) (agree index);
+  from = λ cells other agree index. subst (λ (found : Option (List ℕ)). BothTell found (get other index)) (cell_is cells index) (agree index);
+}

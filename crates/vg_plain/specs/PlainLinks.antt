@@ -1,5 +1,5 @@
 -- How a link of the list library is kept.
-use Rattle.std.specs.Prelude.{ℕ, ◌≡◌, ◌≤◌, ◌<◌, ◌^◌, length, count_by, is_some, Option}
+use Rattle.std.specs.Prelude.{◌≡◌, ◌≤◌, ◌<◌, ◌^◌, length, count_by, is_some}
 use Rattle.std.specs.FinMap.{empty}
 use Rattle.vg_plain.specs.PlainTables.{key_table, time_table, cell_table}
 use Rattle.vg_plain.specs.LinkStates.{LinkState}

@@ -1,5 +1,5 @@
 -- How the lists of the list library are read as tables.
-use Rattle.std.specs.Prelude.{ℕ, zero, suc, List, [], ◌∷◌, Option, Some, None, if◌then◌else◌}
+use Rattle.std.specs.Prelude.{ℕ, suc, List, [], ◌∷◌, Option, Some, None, if◌then◌else◌}
 use Rattle.std.specs.Str.{bytes_eq}
 use Rattle.std.specs.FinMap.{insert, empty}
 use Rattle.vg_abs.specs.Tables.{KeyTable, TimeTable, CellTable}

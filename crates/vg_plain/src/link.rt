@@ -1,17 +1,20 @@
 //! A link: its keys in slots, its times and its cells in places.
-ghost use Rattle.std.specs.Prelude.{◌≡◌, ◌≤◌, ◌<◌, ◌+◌, ◌≢◌, ◌∷◌, ◌++◌, [], ℕ, List, true, false, length, take, drop, replicate, slice_get, is_some, Some, None, IfOk, IfSome, IfNone, IsSome};
+ghost use Rattle.std.specs.Prelude.{◌≡◌, ◌≤◌, ◌<◌, ◌+◌, ◌≢◌, ◌↔◌, IsTrue, ◌∷◌, ◌++◌, [], ℕ, List, true, false, length, take, drop, replicate, slice_get, unwrap_or, is_some, Some, None, IfOk, IfSome, IfNone, IsSome};
 ghost use Rattle.std.specs.FinMap.{get};
 ghost use Rattle.vg_abs.specs.Effects.{with_key, without_key, with_index, with_time, without_index, with_cell, expired};
+ghost use Rattle.vg_abs.specs.Agreement.{ChainsAgree, MapsAgree};
 ghost use Rattle.vg_abs.specs.Answers.{count_before};
 ghost use Rattle.vg_abs.specs.Opening.{opening_link};
 ghost use Rattle.vg_plain.specs.PlainTables.{joined};
-ghost use Rattle.vg_plain.specs.LinkStates.{with_link, with_lent, IsKeyed};
+ghost use Rattle.vg_plain.specs.LinkStates.{with_link, with_lent, IsKeyed, CellsAgree};
 
 use crate::expiry::expire_places;
 use crate::slots::{clear_key, find, first_free};
+use crate::telling::{cells_told, keys_told, times_told};
 use crate::writing::{fill_cell, write_cell};
 use std::alloc::Global;
 use std::marker::Model;
+use vg_abs::{Bytes, LinkTable, Numbered};
 use vg_parts::Memory;
 use vg_vector::{CellLoan, Cells};
 
@@ -72,7 +75,7 @@ impl PlainLink {
     pub fn put(&mut self, key: &[u8], index: u32)
         requires room { self.old.link.size < self.old.link.capacity }
         requires long { length key.now ≡ self.old.link.key_length }
-        requires absent { get self.old.link.keys key.now ≡ None }
+        requires absent { joined (get self.old.link.keys key.now) ≡ None }
         ensures { self.new ≡ with_link self.old (with_key self.old.link key.now index) }
     {
         if let Some(i) = first_free(&self.indices) {
@@ -175,16 +178,19 @@ impl PlainLink {
 
     /// Lends a cell that isn't lent.
     pub fn borrow(&mut self, index: u32) -> CellLoan
-        requires { slice_get self.old.lent index ≡ Some false }
+        requires inside { index < self.old.link.capacity }
+        requires not_lent { unwrap_or (slice_get self.old.lent index) false ≡ false }
         ensures loan { result ≡ index }
         ensures lent { self.new ≡ with_lent self.old index true }
+        ensures now { unwrap_or (slice_get self.new.lent index) false ≡ true }
+        ensures cell { IsSome (get self.old.link.cells index) }
     {
         self.cells.borrow(index)
     }
 
     /// Takes back a lent cell.
     pub fn give_back(&mut self, loan: CellLoan)
-        requires { slice_get self.old.lent loan ≡ Some true }
+        requires { unwrap_or (slice_get self.old.lent loan) false ≡ true }
         ensures { self.new ≡ with_lent self.old loan false }
     {
         self.cells.give_back(loan);
@@ -192,7 +198,7 @@ impl PlainLink {
 
     /// The bytes of a cell.
     pub fn cell(&self, index: u32) -> &[u8]
-        requires { index < self.now.link.capacity }
+        requires { unwrap_or (slice_get self.now.lent index) false ≡ true }
         ensures { get self.now.link.cells index ≡ Some result.now }
     {
         self.cells.cell(index)
@@ -200,11 +206,43 @@ impl PlainLink {
 
     /// Stores bytes into a cell, from a place on.
     pub fn store(&mut self, index: u32, from: u32, bytes: &[u8])
-        requires inside { index < self.old.link.capacity }
+        requires lent { unwrap_or (slice_get self.old.lent index) false ≡ true }
         requires within { (cell : List ℕ) → get self.old.link.cells index ≡ Some cell → from + length bytes.now ≤ length cell }
-        ensures { (cell : List ℕ) → get self.old.link.cells index ≡ Some cell →
+        ensures cell { IsSome (get self.old.link.cells index) }
+        ensures stored { (cell : List ℕ) → get self.old.link.cells index ≡ Some cell →
             self.new ≡ with_link self.old (with_cell self.old.link index (take from cell ++ bytes.now ++ drop (from + length bytes.now) cell)) }
     {
         write_cell(&mut self.cells, index, from, bytes);
+    }
+
+    /// Whether the chain agrees with that of a table, in what both tell.
+    pub fn chain_agrees(&self, other: &LinkTable, full: bool) -> bool
+        requires { self.now.link.capacity ≡ other.now.capacity }
+        ensures { IsTrue result ↔ ChainsAgree true full self.now.link other.now }
+    {
+        if self.count != other.count {
+            return false;
+        }
+        if self.highest != other.highest {
+            return false;
+        }
+        times_told(&self.times, &other.times, full)
+    }
+
+    /// Whether the cells agree with those of a table.
+    pub fn cells_agree(&self, other: &Numbered<Bytes>) -> bool
+        ensures { IsTrue result ↔ CellsAgree self.now.link.cells other.now }
+    {
+        cells_told(&self.cells, self.capacity, other)
+    }
+
+    /// Whether the map agrees with that of a table, in what both tell.
+    pub fn map_agrees(&self, other: &LinkTable, full: bool) -> bool
+        ensures { IsTrue result ↔ MapsAgree true full self.now.link other.now }
+    {
+        if self.size != other.size {
+            return false;
+        }
+        keys_told(&self.indices, &self.keys, &other.keys, full)
     }
 }

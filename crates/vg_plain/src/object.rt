@@ -1,9 +1,7 @@
 //! The objects of the library.
-ghost use Rattle.std.specs.Prelude.{◌≡◌};
-
 use crate::link::PlainLink;
+use crate::vector::PlainVector;
 use vg_stree::Route;
-use vg_vector::Cells;
 
 /// An object of the library. A link stands as its map.
 #[derive(Drop)]
@@ -11,6 +9,6 @@ pub enum PlainObject {
     Map(PlainLink),
     Chain,
     Keys,
-    Cells(Cells),
+    Cells(PlainVector),
     Prefixes(Vec<Route>),
 }

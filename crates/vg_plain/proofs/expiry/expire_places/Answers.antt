@@ -1,6 +1,6 @@
-use Rattle.std.proofs.Common.{ℕ, ◌≡◌, ◌∙◌, ap, arith, sym, Some}
+use Rattle.std.proofs.Common.{◌∙◌, ap, arith, sym, Some}
 use Rattle.std.proofs.lemmas.Option.{slice_get-get_or}
-use Rattle.vg_plain.proofs.Expiries.{expire_one, expire_none, expired_next, expired_times, expired_count, expired_keys, expire_start}
+use Rattle.vg_plain.proofs.Expiries.{expire_one, expire_none, expired_next, expired_times, expired_count, expired_keys}
 use Rattle.vg_plain.proofs.expiry.expire_places.Goals.{then-is_early, else-is_early}
 use Rattle.vg_plain.proofs.expiry.expire_places.Goals as goal
 

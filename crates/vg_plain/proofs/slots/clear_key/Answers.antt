@@ -1,4 +1,4 @@
-use Rattle.std.proofs.Common.{ℕ, ◌≡◌, ◌+◌, ◌∙◌, ap, arith, sym, subst, List, Option}
+use Rattle.std.proofs.Common.{ℕ, ◌+◌, ◌∙◌, ap, arith, sym, subst, List, Option}
 use Rattle.vg_plain.proofs.KeySlots.{Cleared, cleared_all, cleared_more, cleared_same}
 use Rattle.vg_plain.proofs.slots.clear_key.Goals.{then-eq, else-eq}
 use Rattle.vg_plain.proofs.slots.clear_key.Goals as goal

@@ -1,4 +1,3 @@
-use Rattle.std.proofs.Common.{◌≡◌}
 use Rattle.vg_vector.proofs.Lent.{lent_whole}
 use Rattle.vg_plain.proofs.writing.fill_cell.Goals as goal
 

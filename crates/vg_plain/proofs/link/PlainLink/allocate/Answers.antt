@@ -1,10 +1,10 @@
-use Rattle.std.proofs.Common.{ℕ, ◌≡◌, ◌<◌, ◌≤◌, ◌+◌, ◌∙◌, ap, sym, subst, arith, refl, length, slice_get, Some, None, List, Option}
+use Rattle.std.proofs.Common.{ℕ, ◌≡◌, ◌+◌, ◌∙◌, ap, sym, subst, arith, refl, slice_get, Some, None, List, Option}
 use Rattle.std.specs.FinMap.{get}
 use Rattle.std.proofs.lemmas.List.{length-set}
 use Rattle.std.proofs.lemmas.Option.{slice_get_within}
 use Rattle.vg_plain.specs.LinkStates.{LinkState}
 use Rattle.vg_plain.proofs.Places.{time_set}
-use Rattle.vg_plain.proofs.LinkLaws.{used, not_full, one_used, free_at, free_is}
+use Rattle.vg_plain.proofs.LinkLaws.{not_full, one_used, free_at, free_is}
 use Rattle.vg_plain.proofs.link.PlainLink.allocate.Goals as goal
 
 pub overflow_add-self : goal.overflow_add-self
@@ -51,7 +51,7 @@ returns-clause-least c other less none =
     let free : slice_get c.self.inside.times.items c.in_ok-i.i ≡ Some None = subst (λ (places : List (Option ℕ)). slice_get places c.in_ok-i.i ≡ Some None) c.deref.ensures.value c.in_ok-i.ensures.free in
     let below = slice_get_within c.self.inside.times.items c.in_ok-i.i None free in
     c.in_ok-i.ensures.first other less (ap (λ (places : List (Option ℕ)). slice_get places other) c.deref.ensures.value
-      ∙ free_is c.self.inside.times.items other (omega arith) (ap (λ (s : LinkState). get s.link.times other) c.self.view_is ∙ none))
+    ∙ free_is c.self.inside.times.items other (omega arith) (ap (λ (s : LinkState). get s.link.times other) c.self.view_is ∙ none))
 
 pub returns-clause-handed : goal.returns-clause-handed
 returns-clause-handed c =

@@ -1,7 +1,7 @@
-use Rattle.std.proofs.Common.{ℕ, ◌≡◌, ◌<◌, ◌≤◌, ◌∙◌, ap, sym, subst, arith, refl, length, suc}
+use Rattle.std.proofs.Common.{◌≤◌, ◌∙◌, ap, sym, subst, arith, refl, length, suc}
 use Rattle.std.specs.Prelude.{IsSome}
 use Rattle.std.specs.FinMap.{get}
-use Rattle.vg_plain.specs.PlainTables.{joined, without_slots}
+use Rattle.vg_plain.specs.PlainTables.{joined}
 use Rattle.vg_plain.specs.LinkStates.{LinkState}
 use Rattle.vg_plain.proofs.KeySlots.{cleared}
 use Rattle.vg_plain.proofs.LinkLaws.{used, cleared_one, length_cleared}

@@ -1,11 +1,8 @@
-use Rattle.std.proofs.Common.{ℕ, ◌≡◌, ◌<◌, ◌≤◌, ◌+◌, ◌-◌, ◌∙◌, ap, sym, subst, arith, refl, length, map, Some, List, Option}
-use Rattle.std.specs.Prelude.{count_by}
-use Rattle.std.specs.FinMap.{get}
+use Rattle.std.proofs.Common.{ℕ, ◌≡◌, ◌∙◌, ap, sym, subst, arith, refl, length, map, Some, List, Option}
 use Rattle.std.proofs.lemmas.List.{length-map}
-use Rattle.vg_plain.specs.Expiring.{is_early, kept_time}
+use Rattle.vg_plain.specs.Expiring.{kept_time}
 use Rattle.vg_plain.specs.LinkStates.{LinkState, IsKeyed}
 use Rattle.vg_plain.specs.PlainLinks.{seen_link}
-use Rattle.vg_plain.proofs.Places.{listed, time_is, cell_is}
 use Rattle.vg_plain.proofs.LinkLaws.{used}
 use Rattle.vg_plain.proofs.ExpiredLinks.{early_entries, used_kept, expired_table, expired_keys_are, tied_lists}
 use Rattle.vg_plain.proofs.link.PlainLink.expire.Goals as goal
@@ -39,5 +36,8 @@ returns-clause-freed c = rw (← c.self.view_is) (ap Some (c.expire_places-freed
 pub returns-clause-expired : goal.returns-clause-expired
 returns-clause-expired c =
     let tied = tied_lists c.self.inside.indices.items c.self.inside.keys.cells c.self.inside.times.items c.self.inside.cells.cells (subst (λ (s : LinkState). IsKeyed s.link) (sym c.self.view_is) c.requires) in
-    rw (← c.self.view_is) (rw (c.expire_places-freed.ensures.times, expired_table (seen_link c.self.inside).link c.args.before c.self.inside.times.items refl (sym c.self.invariant.places),
-      expired_keys_are (seen_link c.self.inside).link c.args.before c.self.inside.indices.items c.expire_places-freed.new.indices.items c.self.inside.keys.cells c.self.inside.times.items c.self.inside.cells.cells tied refl refl c.expire_places-freed.ensures.keys) refl)
+    rw (← c.self.view_is) (rw (
+      c.expire_places-freed.ensures.times,
+      expired_table (seen_link c.self.inside).link c.args.before c.self.inside.times.items refl (sym c.self.invariant.places),
+      expired_keys_are (seen_link c.self.inside).link c.args.before c.self.inside.indices.items c.expire_places-freed.new.indices.items c.self.inside.keys.cells c.self.inside.times.items c.self.inside.cells.cells tied refl refl c.expire_places-freed.ensures.keys,
+    ) refl)

@@ -1,4 +1,4 @@
-use Rattle.std.proofs.Common.{ℕ, ◌≡◌, ◌<◌, ◌≤◌, ◌∙◌, ap, sym, subst, arith, refl, length, replicate, rules, None, Option, List, false}
+use Rattle.std.proofs.Common.{ℕ, ◌≡◌, ◌∙◌, ap, arith, refl, length, replicate, rules, None, Option, List, false}
 use Rattle.std.proofs.lemmas.List.{length-replicate}
 use Rattle.vg_plain.proofs.KeySlots.{no_keys}
 use Rattle.vg_plain.proofs.Places.{zeros, all_free, time_table_of}

@@ -1,9 +1,10 @@
-use Rattle.std.proofs.Common.{ℕ, ◌≡◌, ◌<◌, ◌≤◌, ◌∙◌, ap, sym, subst, arith, refl, length, slice_get, Some, None, List, Option}
+use Rattle.std.proofs.Common.{ℕ, ◌≡◌, ◌<◌, ◌∙◌, ap, sym, subst, arith, refl, length, slice_get, Some, None, List, Option}
 use Rattle.std.specs.FinMap.{get}
 use Rattle.std.proofs.lemmas.List.{length-set}
 use Rattle.std.proofs.lemmas.Option.{slice_get_within}
+use Rattle.vg_plain.specs.PlainTables.{joined}
 use Rattle.vg_plain.specs.LinkStates.{LinkState}
-use Rattle.vg_plain.proofs.KeySlots.{put_in}
+use Rattle.vg_plain.proofs.KeySlots.{put_in, none_listed}
 use Rattle.vg_plain.proofs.LinkLaws.{one_used}
 use Rattle.vg_plain.proofs.link.PlainLink.put.Goals as goal
 
@@ -28,7 +29,9 @@ invariant_of-self c =
 pub returns-in-Some : goal.returns-in-Some
 returns-in-Some c =
     let free : slice_get c.self.inside.indices.items c.in-Some.i ≡ Some None = subst (λ (places : List (Option ℕ)). slice_get places c.in-Some.i ≡ Some None) c.deref.ensures.value c.in-Some.ensures.free in
-    let absent = subst (λ (s : LinkState). get s.link.keys c.args.key.now ≡ None) (sym c.self.view_is) c.requires.absent in
+    let absent = none_listed c.self.inside.indices.items c.self.inside.keys.cells c.args.key.now (subst (λ (s : LinkState). joined (get s.link.keys c.args.key.now) ≡ None) (sym c.self.view_is) c.requires.absent) in
     let inside = slice_get_within c.self.inside.indices.items c.in-Some.i None free in
-    rw (← c.self.view_is) (rw (c.fill_cell.ensures,
-      put_in c.self.inside.indices.items c.self.inside.keys.cells c.args.key.now c.in-Some.i c.args.index free (omega (arith, inside, c.self.invariant.slots, c.self.invariant.keys)) absent) refl)
+    rw (← c.self.view_is) (rw (
+      c.fill_cell.ensures,
+      put_in c.self.inside.indices.items c.self.inside.keys.cells c.args.key.now c.in-Some.i c.args.index free (omega (arith, inside, c.self.invariant.slots, c.self.invariant.keys)) absent,
+    ) refl)

@@ -1,4 +1,4 @@
-use Rattle.std.proofs.Common.{ℕ, ◌≡◌, ◌<◌, ◌∙◌, ap, sym, subst, arith, get_or, None}
+use Rattle.std.proofs.Common.{◌<◌, ◌∙◌, ap, sym, subst, arith}
 use Rattle.std.specs.FinMap.{get}
 use Rattle.vg_plain.specs.PlainTables.{joined}
 use Rattle.vg_plain.specs.LinkStates.{LinkState}
