@@ -64,7 +64,7 @@ fn next<F: Files>(
     }
 }
 
-// Runs all frames.
+// Runs all frames, or the first 4,294,967,295.
 fn run_all<F: Files>(
     files: &mut F,
     merge: &mut Merge,
@@ -77,15 +77,16 @@ fn run_all<F: Files>(
     ensures readable { AreReadable (F.disk files.new) merge.new }
 {
     let mut counts = Counts::default();
-    loop {
+    for frame in 0..u32::MAX {
         match next(files, merge, machine, unit) {
             Ok(steps) => {
-                counts.frames = counts.frames.wrapping_add(1);
+                counts.frames = u64::from(frame) + 1;
                 counts.steps = counts.steps.wrapping_add(u64::from(steps));
             }
             Err(end) => return (counts, end),
         }
     }
+    (counts, End::Last)
 }
 
 // Runs a text on the frames of a capture, and says what came of it.

@@ -76,7 +76,8 @@ impl<'a> Reading<'a> {
             words.push(word.trim_start_matches('(').trim_end_matches(')'))?;
         }
         let mut stack = Vec::new(alloc);
-        while let Some(word) = words.pop() {
+        for place in (0..words.len()).rev() {
+            let word = words[place];
             let term = match operation(word) {
                 Some(op) => applied(&mut self.terms, way, op, &mut stack)?,
                 None => self.operand(word)?,
