@@ -7,12 +7,11 @@ mod dimacs;
 mod files;
 mod keys;
 mod read;
+mod running;
 mod solving;
 mod stop;
 #[cfg(test)]
 mod tests;
-#[cfg(test)]
-mod word_examples;
 
 use crate::stop::Stop;
 use std::env::Env;
@@ -41,6 +40,7 @@ fn run(rt: &(impl Env + Files + AllocGlobal + Print)) -> Result<(), Stop> {
         [layer, rest @ ..] if layer.as_str() == "containers" => containers::run(rt, rest),
         [layer, rest @ ..] if layer.as_str() == "read" => read::run_read(rt, rest),
         [layer, rest @ ..] if layer.as_str() == "type" => read::run_type(rt, rest),
+        [layer, rest @ ..] if layer.as_str() == "run" => running::run_frames(rt, rest),
         [run, rest @ ..] if run.as_str() == "solve" => files::run_solve(rt, rest),
         [run, rest @ ..] if run.as_str() == "check" => files::run_check(rt, rest),
         _ => Err(Stop::Usage),

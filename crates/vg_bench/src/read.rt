@@ -39,13 +39,10 @@ fn typed(alloc: Global, text: &[u8]) -> Result<String, Stop>
     }
 }
 
-// The text in the file that the word names.
-fn text_in<R: System>(alloc: Global, rt: &R, words: &[String]) -> Result<Vec<u8>, Stop>
+/// The text in the file that the word names.
+pub fn text_in<R: System>(alloc: Global, rt: &R, name: &String) -> Result<Vec<u8>, Stop>
     ensures { IfOk result (λ text. vec_len text ≤ 1048576) }
 {
-    let [name] = words else {
-        return Err(Stop::Usage);
-    };
     let mut files = HostFiles::new(alloc, rt);
     match load(alloc, &mut files, name.as_str(), LIMIT) {
         Ok(text) => Ok(text),
@@ -58,7 +55,10 @@ fn text_in<R: System>(alloc: Global, rt: &R, words: &[String]) -> Result<Vec<u8>
 /// Reads the file that the word names, and prints what it is on one line.
 pub fn run_read(rt: &(impl System + AllocGlobal + Print), words: &[String]) -> Result<(), Stop> {
     let alloc = rt.alloc();
-    let text = text_in(alloc, rt, words)?;
+    let [name] = words else {
+        return Err(Stop::Usage);
+    };
+    let text = text_in(alloc, rt, name)?;
     let line = report(alloc, &text)?;
     println!(rt; "{line}").map_err(|_| Stop::Print)
 }
@@ -66,7 +66,10 @@ pub fn run_read(rt: &(impl System + AllocGlobal + Print), words: &[String]) -> R
 /// Types the file that the word names, and prints what it is on one line.
 pub fn run_type(rt: &(impl System + AllocGlobal + Print), words: &[String]) -> Result<(), Stop> {
     let alloc = rt.alloc();
-    let text = text_in(alloc, rt, words)?;
+    let [name] = words else {
+        return Err(Stop::Usage);
+    };
+    let text = text_in(alloc, rt, name)?;
     let line = typed(alloc, &text)?;
     println!(rt; "{line}").map_err(|_| Stop::Print)
 }

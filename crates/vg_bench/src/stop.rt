@@ -10,7 +10,7 @@ use vg_parts::Memory;
 #[derive(Clone, Copy, Debug, PartialEq, Eq, Error)]
 pub enum Stop {
     /// The command line is that of no run.
-    #[error("usage: vg_bench containers lookups|mix COUNT, read FILE, type FILE, solve FILE LIMIT [PROOF], check FILE PROOF")]
+    #[error("usage: vg_bench containers lookups|mix COUNT, read FILE, type FILE, run FILE CAPTURE, solve FILE LIMIT [PROOF], check FILE PROOF")]
     Usage,
     /// Memory ran out.
     #[error("no memory")]
@@ -21,6 +21,12 @@ pub enum Stop {
     /// The file is longer than a C text may be.
     #[error("limit c")]
     Long,
+    /// The C text is refused, or names something of a library.
+    #[error("text")]
+    Text,
+    /// The capture is refused.
+    #[error("capture")]
+    Capture,
     /// Printing failed.
     #[error("write fault")]
     Print,
@@ -46,7 +52,8 @@ impl Stop {
             Stop::Print | Stop::Write => 7,
             Stop::Read => 6,
             Stop::Long => 11,
-            Stop::Clauses(_) | Stop::Proof(_) => 3,
+            Stop::Clauses(_) | Stop::Proof(_) | Stop::Text => 3,
+            Stop::Capture => 5,
         }
     }
 }
