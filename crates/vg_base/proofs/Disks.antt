@@ -1,9 +1,11 @@
 -- One call after another.
-use Rattle.std.proofs.Common.{◌≡◌, ℕ, ◌+◌, List, [], ◌++◌, take, drop, Option, Some, None, IsSome, refl, ◌∙◌, ap, append_assoc, append-nil, IsTrue, Result, Ok, Err, length, length-append, arith}
+use Rattle.std.proofs.Common.{◌≡◌, ℕ, ◌+◌, List, [], ◌++◌, take, drop, Option, Some, None, IsSome, refl, ◌∙◌, ap, append_assoc, append-nil, IsTrue}
+use Rattle.std.proofs.Common.{Result, Ok, Err, length, length-append, arith}
 use Rattle.std.proofs.lemmas.List.{take-append-le}
 use Rattle.std.proofs.Math.Seq.{take-add, take-append-add}
 use Rattle.vg_base.specs.declared.faults.Failed.{Failed}
-use Rattle.vg_base.specs.Files.{Mode, Opened, IsOpen, Disk, WritesAll, ReadsNext, GivesNext, Contents, writing, Appends, WriteKeeps, ReadKeeps, SameHeld, SameIds}
+use Rattle.vg_base.specs.Files.{Mode, Opened, IsOpen, Disk, WritesAll, ReadsNext, GivesNext, Contents, writing, Appends, WriteKeeps, ReadKeeps}
+use Rattle.vg_base.specs.Files.{SameHeld, SameIds}
 
 -- an id that is open for something is open
 pub IsOpen-some : (mode : Mode) (o : Option Opened) → IsOpen mode o → IsSome o
@@ -24,7 +26,8 @@ Appends-more {p = p} {q = q} x y = record {
 }
 
 -- a part of a piece, and then a part of what is left of it
-pub Appends-take : {a b c : Contents} {name : List ℕ} (piece : List ℕ) (k n : ℕ) → Appends a b name (take k piece) → Appends b c name (take n (drop k piece)) → Appends a c name (take (k + n) piece)
+pub Appends-take : {a b c : Contents} {name : List ℕ} (piece : List ℕ) (k n : ℕ) → Appends a b name (take k piece)
+    → Appends b c name (take n (drop k piece)) → Appends a c name (take (k + n) piece)
 Appends-take piece k n x y = rw take-add (Appends-more x y)
 
 pub SameHeld-refl : (s : Disk) → SameHeld s s
@@ -90,7 +93,8 @@ pub held_before : {s t : Disk} {name bytes : List ℕ} → ReadKeeps s t → s.h
 held_before keeps held = rw keeps.held.held held
 
 -- a whole piece, and then another
-pub WritesAll-then : {s t u : Disk} {id : ℕ} {p q : List ℕ} (r : Result (Unit {0}) Failed) → WritesAll s t id p (Ok tt) → WritesAll t u id q r → WritesAll s u id (p ++ q) r
+pub WritesAll-then : {s t u : Disk} {id : ℕ} {p q : List ℕ} (r : Result (Unit {0}) Failed) → WritesAll s t id p (Ok tt) → WritesAll t u id q r
+    → WritesAll s u id (p ++ q) r
 WritesAll-then {s} {t} {p = p} {q = q} (Ok done) x y = record {
   faults = record { failed = tt; same = y.faults.same ∙ x.faults.same; rises = omega (arith, x.faults.rises, y.faults.rises) };
   keeps = WriteKeeps-trans x.keeps y.keeps;

@@ -48,7 +48,8 @@ open_handles-close (Writing f ∷ xs) zero h = omega arith
 open_handles-close (Closed ∷ xs) zero h = absurd (false≢true h)
 open_handles-close (x ∷ xs) (suc id) h = omega (arith, open_handles-close xs id h)
 
-kept_at : {T : Type 0} (xs : List (Handle T)) (id : ℕ) (s : Handle T) → opened_at xs id ≡ seen s → id < length xs → (j : ℕ) → opened_at (set xs id s) j ≡ opened_at xs j
+kept_at : {T : Type 0} (xs : List (Handle T)) (id : ℕ) (s : Handle T) → opened_at xs id ≡ seen s → id < length xs → (j : ℕ)
+    → opened_at (set xs id s) j ≡ opened_at xs j
 kept_at [] id s e h j = refl
 kept_at (x ∷ xs) zero s e h zero = sym e
 kept_at (x ∷ xs) zero s e h (suc j) = refl
@@ -56,11 +57,13 @@ kept_at (x ∷ xs) (suc id) s e h zero = refl
 kept_at (x ∷ xs) (suc id) s e h (suc j) = kept_at xs id s e (omega arith) j
 
 -- a handle that is seen as before
-pub opened-kept : {T : Type 0} (xs : List (Handle T)) (id : ℕ) (s : Handle T) → opened_at xs id ≡ seen s → id < length xs → opened_at (set xs id s) ≡ opened_at xs
+pub opened-kept : {T : Type 0} (xs : List (Handle T)) (id : ℕ) (s : Handle T) → opened_at xs id ≡ seen s → id < length xs
+    → opened_at (set xs id s) ≡ opened_at xs
 opened-kept xs id s e h = fun_ext (kept_at xs id s e h)
 
 -- a handle of the same weight
-pub open_handles-kept : {T : Type 0} (xs : List (Handle T)) (id : ℕ) (x s : Handle T) → x ≡ get_or xs id x → weight s ≡ weight x → id < length xs → open_handles (set xs id s) ≡ open_handles xs
+pub open_handles-kept : {T : Type 0} (xs : List (Handle T)) (id : ℕ) (x s : Handle T) → x ≡ get_or xs id x → weight s ≡ weight x → id < length xs
+    → open_handles (set xs id s) ≡ open_handles xs
 open_handles-kept [] id x s e w h = absurd (omega arith)
 open_handles-kept (y ∷ xs) zero x s e w h = let same : weight s ≡ weight y = w ∙ ap weight e in omega (arith, same)
 open_handles-kept (y ∷ xs) (suc id) x s e w h = omega (arith, open_handles-kept xs id x s e w (omega arith))

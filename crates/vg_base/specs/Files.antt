@@ -1,5 +1,6 @@
 -- What is seen of an object with files, and what each of its calls does to it.
-use Rattle.std.specs.Prelude.{ℕ, ◌+◌, ◌-◌, ◌<◌, ◌≤◌, ◌^◌, min, ◌≡◌, ◌≢◌, List, [], ◌++◌, length, take, drop, Bool, IsTrue, Option, Some, None, IsSome, Result, IfOk, OnOk, OnErr, unwrap_or, option_and_then, slice_index}
+use Rattle.std.specs.Prelude.{ℕ, ◌+◌, ◌-◌, ◌<◌, ◌≤◌, ◌^◌, min, ◌≡◌, ◌≢◌, List, [], ◌++◌, length, take, drop, Bool, IsTrue, Option, Some, None, IsSome}
+use Rattle.std.specs.Prelude.{Result, IfOk, OnOk, OnErr, unwrap_or, option_and_then, slice_index}
 use Rattle.vg_base.specs.declared.faults.Failed.{Failed}
 
 -- what an open id is for

@@ -23,7 +23,8 @@ same_facts w v p p' q q' r r' =
     ∙ ap (λ (x : w ≤ 64). made w v p' x r) (le_prop q q')
     ∙ ap (λ (x : v < 2 ^ w). made w v p' q' x) (le_prop r r')
 
-same_made : (w w' v v' : ℕ) (p : 0 < w) (q : w ≤ 64) (r : v < 2 ^ w) (p' : 0 < w') (q' : w' ≤ 64) (r' : v' < 2 ^ w') → w ≡ w' → v ≡ v' → made w v p q r ≡ made w' v' p' q' r'
+same_made : (w w' v v' : ℕ) (p : 0 < w) (q : w ≤ 64) (r : v < 2 ^ w) (p' : 0 < w') (q' : w' ≤ 64) (r' : v' < 2 ^ w') → w ≡ w' → v ≡ v'
+    → made w v p q r ≡ made w' v' p' q' r'
 same_made w w' v v' p q r p' q' r' width value =
     subst (λ (x : ℕ). (p' : 0 < x) (q' : x ≤ 64) (r' : v' < 2 ^ x) → made w v p q r ≡ made x v' p' q' r') width
     (subst (λ (y : ℕ). (p' : 0 < w) (q' : w ≤ 64) (r' : y < 2 ^ w) → made w v p q r ≡ made w y p' q' r') value

@@ -1,5 +1,6 @@
 -- What all clauses together say of the facts.
-use Rattle.std.proofs.Common.{◌≡◌, ℕ, zero, suc, ◌^◌, ◌<◌, List, [], ◌∷◌, length, get_or, slice_get, Some, Option, Bool, true, false, cond, refl, sym, ap, subst, ◌∙◌, inl, inr, arith, All, Contains}
+use Rattle.std.proofs.Common.{◌≡◌, ℕ, zero, suc, ◌^◌, ◌<◌, List, [], ◌∷◌, length, get_or, slice_get, Some, Option, Bool, true, false, cond, refl, sym}
+use Rattle.std.proofs.Common.{ap, subst, ◌∙◌, inl, inr, arith, All, Contains}
 use Rattle.std.specs.Prelude.{ℤ, ◌&&◌, nat_eq, bit_and}
 use Rattle.std.proofs.lemmas.Bool.{cases_Bool, cases_lt, and_parts, and_from, false≢true, true≢false, eqb-true}
 use Rattle.std.proofs.lemmas.List.Elements.{All-nil, All-cons, All-contains}
@@ -36,13 +37,15 @@ pub record IsConjunction (terms : List Term) (id : TermId) : Type 0 where
   pub here : slice_get terms id.0 ≡ Some (nodes.Op ops.And (parts.Two left right), 1)
   pub followed_are : followed follow.Conjuncts terms id ≡ left ∷ right ∷ []
 
-two_parts : {terms : List Term} → AreTerms terms → (id : TermId) (ps : Parts) (w : ℕ) → slice_get terms id.0 ≡ Some (nodes.Op ops.And ps, w) → (a : TermId) × (b : TermId) × (ps ≡ parts.Two a b)
+two_parts : {terms : List Term} → AreTerms terms → (id : TermId) (ps : Parts) (w : ℕ) → slice_get terms id.0 ≡ Some (nodes.Op ops.And ps, w)
+    → (a : TermId) × (b : TermId) × (ps ≡ parts.Two a b)
 two_parts made id (parts.Two a b) w e = (a, b, refl)
 two_parts made id parts.Zero w e = absurd (is_made made id.0 ops.And parts.Zero w e).fits
 two_parts made id (parts.One a) w e = absurd (is_made made id.0 ops.And (parts.One a) w e).fits
 two_parts made id (parts.Three c a b) w e = absurd (is_made made id.0 ops.And (parts.Three c a b) w e).fits
 
-and_conjunction : {terms : List Term} → AreTerms terms → (id : TermId) (ps : Parts) (w : ℕ) (flag : Bool) → flag ≡ nat_eq w 1 → slice_get terms id.0 ≡ Some (nodes.Op ops.And ps, w) → none_of (cond flag (listed ps) []) ≡ false → IsConjunction terms id
+and_conjunction : {terms : List Term} → AreTerms terms → (id : TermId) (ps : Parts) (w : ℕ) (flag : Bool) → flag ≡ nat_eq w 1
+    → slice_get terms id.0 ≡ Some (nodes.Op ops.And ps, w) → none_of (cond flag (listed ps) []) ≡ false → IsConjunction terms id
 and_conjunction {terms} made id ps w true e here no_leaf =
     let two = two_parts made id ps w here in
     let one : w ≡ 1 = eqb-true w 1 (sym e) in
@@ -50,7 +53,8 @@ and_conjunction {terms} made id ps w true e here no_leaf =
     record { left = two.0; right = two.1; here = is; followed_are = ap conjuncts_in is }
 and_conjunction made id ps w false e here no_leaf = absurd (true≢false no_leaf)
 
-entry_conjunction : {terms : List Term} → AreTerms terms → (id : TermId) (o : Option Term) → slice_get terms id.0 ≡ o → none_of (conjuncts_in o) ≡ false → IsConjunction terms id
+entry_conjunction : {terms : List Term} → AreTerms terms → (id : TermId) (o : Option Term) → slice_get terms id.0 ≡ o
+    → none_of (conjuncts_in o) ≡ false → IsConjunction terms id
 entry_conjunction made id (Some (nodes.Op ops.And ps, w)) e no_leaf = and_conjunction made id ps w (nat_eq w 1) refl e no_leaf
 entry_conjunction made id _ e no_leaf = absurd (true≢false no_leaf)
 
@@ -62,7 +66,8 @@ no_parts : (ids : List TermId) (p : TermId) → none_of ids ≡ true → Contain
 no_parts [] p e there = omega (arith, there.1)
 no_parts (id ∷ ids) p e there = false≢true e
 
-conjunction_value : {terms : List Term} → AreTerms terms → (words : List Word) (id : TermId) (is : IsConjunction terms id) → value_of terms words id ≡ bit_and (value_of terms words is.left) (value_of terms words is.right)
+conjunction_value : {terms : List Term} → AreTerms terms → (words : List Word) (id : TermId) (is : IsConjunction terms id)
+    → value_of terms words id ≡ bit_and (value_of terms words is.left) (value_of terms words is.right)
 conjunction_value {terms} made words id is = value_follows made words id ∙ ap (entry_value words (bits_at terms words)) is.here
 
 -- ---- going down from the facts
@@ -77,12 +82,14 @@ conjuncts_are_parts {terms} made id p there =
           subst (λ ids. Contains ids p) (is.followed_are ∙ sym (ap parts_in is.here)) there
     ]
 
-pub by_parts : {terms : List Term} → AreTerms terms → (facts : List TermId) (id : TermId) → Follows follow.Conjuncts terms facts id → Follows follow.Parts terms facts id
+pub by_parts : {terms : List Term} → AreTerms terms → (facts : List TermId) (id : TermId) → Follows follow.Conjuncts terms facts id
+    → Follows follow.Parts terms facts id
 by_parts made facts _ (start x there) = start x there
 by_parts made facts _ (down x part before there) = down x part (by_parts made facts x before) (conjuncts_are_parts made x part there)
 
 -- marks that are closed hold all that is followed
-pub all_marked : {terms : List Term} {facts : List TermId} {marks : List Bool} (f : Follow) → AreMarks f terms facts 0 marks → (id : TermId) → Follows f terms facts id → is_marked marks id ≡ true
+pub all_marked : {terms : List Term} {facts : List TermId} {marks : List Bool} (f : Follow) → AreMarks f terms facts 0 marks → (id : TermId)
+    → Follows f terms facts id → is_marked marks id ≡ true
 all_marked {facts = facts} {marks = marks} f are _ (start x there) = All-contains (λ y. is_marked marks y ≡ true) facts x are.starts there
 all_marked {terms = terms} {marks = marks} f are _ (down x part before there) =
     All-contains (λ y. is_marked marks y ≡ true) (followed f terms x) part (are.closed x (λ h. omega (arith, h)) (all_marked f are x before)) there
@@ -98,10 +105,12 @@ conjunct_flag {terms} made id p there =
       | inr no_leaf ↦
           let is = is_conjunction made id no_leaf in
           let m = is_made made id.0 ops.And (parts.Two is.left is.right) 1 is.here in
-          of_two (λ (x : TermId). width_at terms x ≡ 1) is.left is.right p (sym m.width) (sym m.fits ∙ sym m.width) (subst (λ ids. Contains ids p) is.followed_are there)
+          of_two (λ (x : TermId). width_at terms x ≡ 1) is.left is.right p (sym m.width) (sym m.fits ∙ sym m.width)
+          (subst (λ ids. Contains ids p) is.followed_are there)
     ]
 
-pub asserted_flag : {terms : List Term} → AreTerms terms → (facts : List TermId) → All (λ fact. width_at terms fact ≡ 1) facts → (id : TermId) → Follows follow.Conjuncts terms facts id → width_at terms id ≡ 1
+pub asserted_flag : {terms : List Term} → AreTerms terms → (facts : List TermId) → All (λ fact. width_at terms fact ≡ 1) facts → (id : TermId)
+    → Follows follow.Conjuncts terms facts id → width_at terms id ≡ 1
 asserted_flag {terms} made facts flags _ (start x there) = All-contains (λ fact. width_at terms fact ≡ 1) facts x flags there
 asserted_flag made facts flags _ (down x part before there) = conjunct_flag made x part there
 
@@ -114,7 +123,8 @@ one_of : (a b n : ℕ) → a < 2 → b < 2 → n ≡ bit_and a b → n ≡ 1 →
 one_of a b n h k e one = (omega (arith, h, and_le_l a b, e, one), omega (arith, k, and_le_r a b, e, one))
 
 -- where the asserted terms that are no conjunctions are true, all asserted ones are
-asserted_true : {terms : List Term} → AreTerms terms → (words : List Word) (facts : List TermId) (asserted : List Bool) → AreMarks follow.Conjuncts terms facts 0 asserted →
+asserted_true : {terms : List Term} → AreTerms terms → (words : List Word) (facts : List TermId) (asserted : List Bool)
+    → AreMarks follow.Conjuncts terms facts 0 asserted →
     ((id : TermId) → id.0 < length terms → is_marked asserted id && is_leaf terms id ≡ true → value_of terms words id ≡ 1) →
     (k : ℕ) (id : TermId) → id.0 < k → id.0 < length terms → is_marked asserted id ≡ true → value_of terms words id ≡ 1
 asserted_true made words facts asserted are leaves zero id h within marked = let none : ⊥ = omega (arith, h) in absurd none
@@ -123,18 +133,22 @@ asserted_true {terms} made words facts asserted are leaves (suc k) id h within m
       | inl leaf ↦ leaves id within (and_from (is_marked asserted id) (is_leaf terms id) marked leaf)
       | inr no_leaf ↦
           let is = is_conjunction made id no_leaf in
-          let both : All (λ (p : TermId). is_marked asserted p ≡ true) (is.left ∷ is.right ∷ []) = subst (All (λ (p : TermId). is_marked asserted p ≡ true)) is.followed_are (are.closed id (λ h. omega (arith, h)) marked) in
+          let both : All (λ (p : TermId). is_marked asserted p ≡ true) (is.left ∷ is.right ∷ []) =
+          subst (All (λ (p : TermId). is_marked asserted p ≡ true)) is.followed_are (are.closed id (λ h. omega (arith, h)) marked) in
           let before : All (λ (p : TermId). p.0 < id.0) (is.left ∷ is.right ∷ []) = (is_made made id.0 ops.And (parts.Two is.left is.right) 1 is.here).before in
           let left_before = before 0 is.left (omega arith) in
           let right_before = before 1 is.right (omega arith) in
           conjunction_value made words id is
           ∙ both_ones (value_of terms words is.left) (value_of terms words is.right)
-          (asserted_true made words facts asserted are leaves k is.left (omega (arith, left_before, h)) (omega (arith, left_before, within)) (both 0 is.left (omega arith)))
-          (asserted_true made words facts asserted are leaves k is.right (omega (arith, right_before, h)) (omega (arith, right_before, within)) (both 1 is.right (omega arith)))
+          (asserted_true made words facts asserted are leaves k is.left (omega (arith, left_before, h)) (omega (arith, left_before, within))
+          (both 0 is.left (omega arith)))
+          (asserted_true made words facts asserted are leaves k is.right (omega (arith, right_before, h)) (omega (arith, right_before, within))
+          (both 1 is.right (omega arith)))
     ]
 
 -- where the facts are true, all asserted terms are
-followed_true : {terms : List Term} → AreTerms terms → (words : List Word) (facts : List TermId) → ((id : TermId) → Follows follow.Parts terms facts id → width_at terms id ≡ 1 → value_of terms words id < 2) → AreTrue terms words facts →
+followed_true : {terms : List Term} → AreTerms terms → (words : List Word) (facts : List TermId)
+    → ((id : TermId) → Follows follow.Parts terms facts id → width_at terms id ≡ 1 → value_of terms words id < 2) → AreTrue terms words facts →
     (id : TermId) → Follows follow.Conjuncts terms facts id → value_of terms words id ≡ 1
 followed_true {terms} made words facts small true_facts _ (start x there) = All-contains (λ fact. value_of terms words fact ≡ 1) facts x true_facts there
 followed_true {terms} made words facts small true_facts _ (down x part before there) =
@@ -145,10 +159,12 @@ followed_true {terms} made words facts small true_facts _ (down x part before th
       | inl leaf ↦ absurd (no_parts (followed follow.Conjuncts terms x) part leaf there)
       | inr no_leaf ↦
           let is = is_conjunction made x no_leaf in
-          let inside : (p : TermId) → Contains (is.left ∷ is.right ∷ []) p → Contains (followed follow.Conjuncts terms x) p = λ p i. subst (λ ids. Contains ids p) (sym is.followed_are) i in
+          let inside : (p : TermId) → Contains (is.left ∷ is.right ∷ []) p → Contains (followed follow.Conjuncts terms x) p =
+          λ p i. subst (λ ids. Contains ids p) (sym is.followed_are) i in
           let ones =
           one_of (value_of terms words is.left) (value_of terms words is.right) (value_of terms words x)
-          (below is.left (inside is.left (0, omega arith, refl))) (below is.right (inside is.right (1, omega arith, refl))) (conjunction_value made words x is) here in
+          (below is.left (inside is.left (0, omega arith, refl))) (below is.right (inside is.right (1, omega arith, refl)))
+          (conjunction_value made words x is) here in
           of_two (λ (p : TermId). value_of terms words p ≡ 1) is.left is.right part ones.0 ones.1 (subst (λ ids. Contains ids part) is.followed_are there)
     ]
 
@@ -156,10 +172,13 @@ followed_true {terms} made words facts small true_facts _ (down x part before th
 
 stands_marked : (terms : List Term) (marks : List Bool) → length marks ≡ length terms → (id : TermId) → is_marked marks id ≡ true → id.0 < length terms
 stands_marked terms marks long id marked =
-    elim (cases_lt id.0 (length terms)) [ inl within ↦ within | inr past ↦ absurd (false≢true (sym (get_or_past marks id.0 false (omega (arith, past, long))) ∙ marked)) ]
+    elim (cases_lt id.0 (length terms))
+    [ inl within ↦ within | inr past ↦ absurd (false≢true (sym (get_or_past marks id.0 false (omega (arith, past, long))) ∙ marked)) ]
 
-pub blasted : {terms : List Term} → AreTerms terms → (facts : List TermId) (marks asserted : List Bool) (old new : ClauseSet) (lists : List (List ℤ)) (names bits : List BitName) → All (Stands terms) facts → All (λ fact. width_at terms fact ≡ 1) facts →
-    AreMarks follow.Parts terms facts 0 marks → AreMarks follow.Conjuncts terms facts 0 asserted → IsState terms marks (length terms) old lists names → Requires terms names asserted (length terms) old new → bits ≡ names → IsBlasted terms facts new bits
+pub blasted : {terms : List Term} → AreTerms terms → (facts : List TermId) (marks asserted : List Bool) (old new : ClauseSet) (lists : List (List ℤ))
+    (names bits : List BitName) → All (Stands terms) facts → All (λ fact. width_at terms fact ≡ 1) facts →
+    AreMarks follow.Parts terms facts 0 marks → AreMarks follow.Conjuncts terms facts 0 asserted → IsState terms marks (length terms) old lists names
+    → Requires terms names asserted (length terms) old new → bits ≡ names → IsBlasted terms facts new bits
 blasted {terms} made facts marks asserted old new lists names bits stand flags are_marks are_asserted state required bits_are =
     subst (IsBlasted terms facts new) (sym bits_are) (record {
       names_ok = record { named = subst (λ n. All (IsNamed terms n) names) (sym required.variables) state.names_ok.named; once = state.names_ok.once };
@@ -179,7 +198,8 @@ blasted {terms} made facts marks asserted old new lists names bits stand flags a
             record {
               each_variable = before.1.each_variable ∙ sym required.variables;
               each_clause = required.held words v assigns before.2 before.1.each_clause
-                  (λ id within asked. followed_true made words facts small true_facts id (are_asserted.sound id (and_parts (is_marked asserted id) (is_leaf terms id) asked).0));
+                  (λ id within asked. followed_true made words facts small true_facts id (are_asserted.sound id
+                  (and_parts (is_marked asserted id) (is_leaf terms id) asked).0));
             },
             before.2,
           );
@@ -187,5 +207,6 @@ blasted {terms} made facts marks asserted old new lists names bits stand flags a
           λ k d h.
           let fact : TermId = get_or facts k d in
           let within : fact.0 < length terms = stand k d h in
-          asserted_true made words facts asserted are_asserted (required.sound words values assigns agree model.each_clause) (suc fact.0) fact (omega arith) within (are_asserted.starts k d h);
+          asserted_true made words facts asserted are_asserted (required.sound words values assigns agree model.each_clause) (suc fact.0) fact
+          (omega arith) within (are_asserted.starts k d h);
     })

@@ -42,14 +42,16 @@ over_negated n (negsuc k) over = (omega arith, over.1)
 
 -- ---- gates
 
-pub folded_made : (set : ClauseSet) (cost : ℕ) (a b out : ℤ) (f : Bool → Bool → Bool) → IsNet set → IsOver set.variables a → IsOver set.variables b → Folds a b out f → MakesBit set set cost out (λ v. f (truth v a) (truth v b))
+pub folded_made : (set : ClauseSet) (cost : ℕ) (a b out : ℤ) (f : Bool → Bool → Bool) → IsNet set → IsOver set.variables a → IsOver set.variables b
+    → Folds a b out f → MakesBit set set cost out (λ v. f (truth v a) (truth v b))
 folded_made set cost a b out f net over_a over_b folds = record {
   builds = nothing_built set cost;
   over = folds.over set.variables net.some over_a over_b;
   is = λ v h. folds.is v (net.constant v h);
 }
 
-pub and_answered : (old new : ClauseSet) (gate : Gate) (a b out : ℤ) → IsGateFor gate a b (λ x y. x && y) → MakesBit old new 12 out (λ v. gate_value v gate) → MakesBit old new 12 out (λ v. truth v a && truth v b)
+pub and_answered : (old new : ClauseSet) (gate : Gate) (a b out : ℤ) → IsGateFor gate a b (λ x y. x && y)
+    → MakesBit old new 12 out (λ v. gate_value v gate) → MakesBit old new 12 out (λ v. truth v a && truth v b)
 and_answered old new gate a b out for made = record { builds = made.builds; over = made.over; is = λ v h. made.is v h ∙ for.is v }
 
 pub chosen : (c a b : Bool) → (c && a) || (not c && b) ≡ choose c a b
@@ -57,7 +59,8 @@ chosen true true b = refl
 chosen true false b = refl
 chosen false a b = refl
 
-pub choice_made : {E : Type 0} (old s t new : ClauseSet) (c a b n taken left : ℤ) (result : Result ℤ E) → IsOver old.variables c → n ≡ neg_ℤ c → MakesBit old s 12 taken (λ v. truth v c && truth v a) →
+pub choice_made : {E : Type 0} (old s t new : ClauseSet) (c a b n taken left : ℤ) (result : Result ℤ E) → IsOver old.variables c → n ≡ neg_ℤ c
+    → MakesBit old s 12 taken (λ v. truth v c && truth v a) →
     MakesBit s t 12 left (λ v. truth v n && truth v b) → IfOk result (λ out. MakesBit t new 12 out (λ v. truth v taken || truth v left)) →
     IfOk result (λ out. MakesBit old new 36 out (λ v. choose (truth v c) (truth v a) (truth v b)))
 choice_made old s t new c a b n taken left (Err e) over is first second third = third

@@ -28,7 +28,8 @@ added_tautology set c true_anyhow = record {
 }
 
 -- a new variable with the values of a function of the old ones
-pub gate_made : (old new : ClauseSet) (cost : ℕ) (out : ℤ) (f : List Bool → Bool) → IsNet old → out ≡ pos (old.variables + 1) → new.variables ≡ old.variables + 1 →
+pub gate_made : (old new : ClauseSet) (cost : ℕ) (out : ℤ) (f : List Bool → Bool) → IsNet old → out ≡ pos (old.variables + 1)
+    → new.variables ≡ old.variables + 1 →
     ((v : List Bool) → Holds v new → Holds v old × (truth v out ≡ f v)) →
     ((v : List Bool) → Holds v old → truth v out ≡ f v → Holds v new) →
     ((v more : List Bool) → length v ≡ old.variables → f (v ++ more) ≡ f v) →
@@ -67,7 +68,8 @@ and_rows false true true e = absurd (false≢true e)
 and_rows false true false e = (refl, refl, refl)
 and_rows false false b e = (refl, refl, refl)
 
-pub and_made : (old fresh t u new : ClauseSet) (o a b : ℤ) → IsNet old → fresh ≡ record old { variables = old.variables + 1 } → o ≡ pos fresh.variables → IsOver old.variables a → IsOver old.variables b →
+pub and_made : (old fresh t u new : ClauseSet) (o a b : ℤ) → IsNet old → fresh ≡ record old { variables = old.variables + 1 }
+    → o ≡ pos fresh.variables → IsOver old.variables a → IsOver old.variables b →
     Adds fresh t (neg_ℤ o ∷ a ∷ []) → Adds t u (neg_ℤ o ∷ b ∷ []) → Adds u new (o ∷ neg_ℤ a ∷ neg_ℤ b ∷ []) → MakesBit old new 7 o (λ v. truth v a && truth v b)
 and_made old fresh t u new o a b net one_more is over_a over_b first second third =
     let fresh_variables : fresh.variables ≡ old.variables + 1 = ap (λ (c : ClauseSet). c.variables) one_more in
@@ -81,17 +83,21 @@ and_made old fresh t u new o a b net one_more is over_a over_b first second thir
     let h2 = second.holds v h3.0 in
     let h1 = first.holds v h2.0 in (
       subst (λ cs. makes_all_true v cs ≡ true) same h1.0,
-      and_table (truth v o) (truth v a) (truth v b) (rw (truth_neg v o some) at h1.1) (rw (truth_neg v o some) at h2.1) (rw (truth_neg v a over_a.0, truth_neg v b over_b.0) at h3.1),
+      and_table (truth v o) (truth v a) (truth v b) (rw (truth_neg v o some) at h1.1) (rw (truth_neg v o some) at h2.1)
+          (rw (truth_neg v a over_a.0, truth_neg v b over_b.0) at h3.1),
     ))
     (λ v h e.
     let rows = and_rows (truth v o) (truth v a) (truth v b) e in
-    third.held v (second.held v (first.held v (subst (λ cs. makes_all_true v cs ≡ true) (sym same) h) (rw (truth_neg v o some) rows.0)) (rw (truth_neg v o some) rows.1)) (rw (truth_neg v a over_a.0, truth_neg v b over_b.0) rows.2))
-    (λ v more long. (λ j. truth_more v more a (subst (λ n. IsOver n a) (sym long) over_a) j && truth_more v more b (subst (λ n. IsOver n b) (sym long) over_b) j))
+    third.held v (second.held v (first.held v (subst (λ cs. makes_all_true v cs ≡ true) (sym same) h) (rw (truth_neg v o some) rows.0))
+    (rw (truth_neg v o some) rows.1)) (rw (truth_neg v a over_a.0, truth_neg v b over_b.0) rows.2))
+    (λ v more long. (λ j. truth_more v more a (subst (λ n. IsOver n a) (sym long) over_a) j && truth_more v more b
+    (subst (λ n. IsOver n b) (sym long) over_b) j))
     (omega (arith, counted, first.literals, second.literals, third.literals))
 
 -- ---- one of two
 
-xor_table : (o a b : Bool) → (not o || (a || (b || false))) ≡ true → (not o || (not a || (not b || false))) ≡ true → (o || (not a || (b || false))) ≡ true → (o || (a || (not b || false))) ≡ true → o ≡ differ a b
+xor_table : (o a b : Bool) → (not o || (a || (b || false))) ≡ true → (not o || (not a || (not b || false))) ≡ true
+    → (o || (not a || (b || false))) ≡ true → (o || (a || (not b || false))) ≡ true → o ≡ differ a b
 xor_table true true true p q r s = absurd (false≢true q)
 xor_table true true false p q r s = refl
 xor_table true false true p q r s = refl
@@ -102,7 +108,8 @@ xor_table false false true p q r s = absurd (false≢true s)
 xor_table false false false p q r s = refl
 
 xor_rows : (o a b : Bool) → o ≡ differ a b →
-    ((not o || (a || (b || false))) ≡ true) × ((not o || (not a || (not b || false))) ≡ true) × ((o || (not a || (b || false))) ≡ true) × ((o || (a || (not b || false))) ≡ true)
+    ((not o || (a || (b || false))) ≡ true) × ((not o || (not a || (not b || false))) ≡ true) × ((o || (not a || (b || false))) ≡ true)
+    × ((o || (a || (not b || false))) ≡ true)
 xor_rows true true true e = absurd (true≢false e)
 xor_rows true true false e = (refl, refl, refl, refl)
 xor_rows true false true e = (refl, refl, refl, refl)
@@ -112,7 +119,8 @@ xor_rows false true false e = absurd (false≢true e)
 xor_rows false false true e = absurd (false≢true e)
 xor_rows false false false e = (refl, refl, refl, refl)
 
-pub xor_made : (old fresh s t u new : ClauseSet) (o a b : ℤ) → IsNet old → fresh ≡ record old { variables = old.variables + 1 } → o ≡ pos fresh.variables → IsOver old.variables a → IsOver old.variables b →
+pub xor_made : (old fresh s t u new : ClauseSet) (o a b : ℤ) → IsNet old → fresh ≡ record old { variables = old.variables + 1 }
+    → o ≡ pos fresh.variables → IsOver old.variables a → IsOver old.variables b →
     Adds fresh s (neg_ℤ o ∷ a ∷ b ∷ []) → Adds s t (neg_ℤ o ∷ neg_ℤ a ∷ neg_ℤ b ∷ []) → Adds t u (o ∷ neg_ℤ a ∷ b ∷ []) → Adds u new (o ∷ a ∷ neg_ℤ b ∷ []) →
     MakesBit old new 12 o (λ v. differ (truth v a) (truth v b))
 xor_made old fresh s t u new o a b net one_more is over_a over_b first second third fourth =
@@ -121,14 +129,25 @@ xor_made old fresh s t u new o a b net one_more is over_a over_b first second th
     let o_is : o ≡ pos (old.variables + 1) = is ∙ ap pos fresh_variables in
     let some : 0 < unsigned_abs o = subst (λ (l : ℤ). 0 < unsigned_abs l) (sym o_is) (omega arith) in
     let counted : literals fresh ≡ literals old = ap (sum_by length) same in
-    gate_made old new 12 o (λ v. differ (truth v a) (truth v b)) net o_is (omega (arith, fresh_variables, first.variables, second.variables, third.variables, fourth.variables))
+    gate_made old new 12 o (λ v. differ (truth v a) (truth v b)) net o_is (omega (
+      arith,
+      fresh_variables,
+      first.variables,
+      second.variables,
+      third.variables,
+      fourth.variables,
+    ))
     (λ v h.
     let h4 = fourth.holds v h in
     let h3 = third.holds v h4.0 in
     let h2 = second.holds v h3.0 in
     let h1 = first.holds v h2.0 in (
       subst (λ cs. makes_all_true v cs ≡ true) same h1.0,
-      xor_table (truth v o) (truth v a) (truth v b) (rw (truth_neg v o some) at h1.1) (rw (truth_neg v o some, truth_neg v a over_a.0, truth_neg v b over_b.0) at h2.1)
+      xor_table (truth v o) (truth v a) (truth v b) (rw (truth_neg v o some) at h1.1) (rw (
+        truth_neg v o some,
+        truth_neg v a over_a.0,
+        truth_neg v b over_b.0,
+      ) at h2.1)
           (rw (truth_neg v a over_a.0) at h3.1) (rw (truth_neg v b over_b.0) at h4.1),
     ))
     (λ v h e.
@@ -136,7 +155,8 @@ xor_made old fresh s t u new o a b net one_more is over_a over_b first second th
     fourth.held v (third.held v (second.held v (first.held v (subst (λ cs. makes_all_true v cs ≡ true) (sym same) h)
     (rw (truth_neg v o some) rows.0)) (rw (truth_neg v o some, truth_neg v a over_a.0, truth_neg v b over_b.0) rows.1))
     (rw (truth_neg v a over_a.0) rows.2)) (rw (truth_neg v b over_b.0) rows.3))
-    (λ v more long. (λ j. differ (truth_more v more a (subst (λ n. IsOver n a) (sym long) over_a) j) (truth_more v more b (subst (λ n. IsOver n b) (sym long) over_b) j)))
+    (λ v more long. (λ j. differ (truth_more v more a (subst (λ n. IsOver n a) (sym long) over_a) j)
+    (truth_more v more b (subst (λ n. IsOver n b) (sym long) over_b) j)))
     (omega (arith, counted, first.literals, second.literals, third.literals, fourth.literals))
 
 -- ---- the table of the gates that stand
@@ -149,7 +169,8 @@ pub still_entries : (old new : ClauseSet) (entries : List (Gate × ℤ)) → Gro
 still_entries old new entries grows all = λ k d h. still_output old new (slice_index_or entries k d).0 (slice_index_or entries k d).1 grows (all k d h)
 
 -- what is looked up is an output of the gate
-pub looked_up : (set : ClauseSet) (gate : Gate) (out : ℤ) (entries : List (Gate × ℤ)) → All (IsEntry set) entries → lookup (same_gate gate) entries ≡ Some out → IsOutput set gate out
+pub looked_up : (set : ClauseSet) (gate : Gate) (out : ℤ) (entries : List (Gate × ℤ)) → All (IsEntry set) entries
+    → lookup (same_gate gate) entries ≡ Some out → IsOutput set gate out
 looked_up set gate out [] all e = absurd (true≢false (sym (ap is_some e)))
 looked_up set gate out (x ∷ entries) all e =
     elim (cases_Bool (same_gate gate x.0)) [
@@ -157,11 +178,13 @@ looked_up set gate out (x ∷ entries) all e =
           let first : Some x.1 ≡ Some out = sym (ap (λ b. cond b (Some x.1) (lookup (same_gate gate) entries)) same) ∙ e in
           let is : x.1 ≡ out = ap (λ r. unwrap_or r out) first in
           subst (IsOutput set gate) is (subst (λ (g : Gate). IsOutput set g x.1) (sym (gate-same gate x.0 same)) (All-head (IsEntry set) x entries all))
-      | inr other ↦ looked_up set gate out entries (All-tail (IsEntry set) x entries all) (sym (ap (λ b. cond b (Some x.1) (lookup (same_gate gate) entries)) other) ∙ e)
+      | inr other ↦ looked_up set gate out entries (All-tail (IsEntry set) x entries all) (sym
+          (ap (λ b. cond b (Some x.1) (lookup (same_gate gate) entries)) other) ∙ e)
     ]
 
 -- one more entry
-pub entered : (set : ClauseSet) (gate : Gate) (out : ℤ) (entries : List (Gate × ℤ)) → All (IsEntry set) entries → IsOutput set gate out → All (IsEntry set) (insert_entry same_gate entries gate out)
+pub entered : (set : ClauseSet) (gate : Gate) (out : ℤ) (entries : List (Gate × ℤ)) → All (IsEntry set) entries → IsOutput set gate out
+    → All (IsEntry set) (insert_entry same_gate entries gate out)
 entered set gate out [] all is = All-cons (IsEntry set) (gate, out) [] is (All-nil (IsEntry set))
 entered set gate out (x ∷ entries) all is =
     let here = All-head (IsEntry set) x entries all in
@@ -189,7 +212,8 @@ standing set gate out is = record {
 }
 
 -- what an insert leaves, whether it had memory or not
-pub inserted : (set : ClauseSet) (gate : Gate) (out : ℤ) (old new : List (Gate × ℤ)) {A E : Type 0} (result : Result A E) → All (IsEntry set) old → IsOutput set gate out →
+pub inserted : (set : ClauseSet) (gate : Gate) (out : ℤ) (old new : List (Gate × ℤ)) {A E : Type 0} (result : Result A E) → All (IsEntry set) old
+    → IsOutput set gate out →
     OnOk result (new ≡ insert_entry same_gate old gate out) → OnErr result (new ≡ old) → All (IsEntry set) new
 inserted set gate out old new (Ok x) all is ok err = subst (All (IsEntry set)) (sym ok) (entered set gate out old all is)
 inserted set gate out old new (Err e) all is ok err = subst (All (IsEntry set)) (sym err) all

@@ -1,5 +1,6 @@
 -- Marks that go down.
-use Rattle.std.proofs.Common.{◌≡◌, ℕ, suc, ◌+◌, ◌<◌, ◌≤◌, List, [], ◌∷◌, length, set, get_or, replicate, take, Bool, true, false, cond, ◌⊎◌, ◌++◌, refl, sym, ap, subst, ◌∙◌, inl, inr, arith, All, Contains, Some, None, slice_get, Option}
+use Rattle.std.proofs.Common.{◌≡◌, ℕ, suc, ◌+◌, ◌<◌, ◌≤◌, List, [], ◌∷◌, length, set, get_or, replicate, take, Bool, true, false, cond, ◌⊎◌, ◌++◌}
+use Rattle.std.proofs.Common.{refl, sym, ap, subst, ◌∙◌, inl, inr, arith, All, Contains, Some, None, slice_get, Option}
 use Rattle.std.specs.Prelude.{nat_eq}
 use Rattle.std.proofs.lemmas.Bool.{cases_Bool, cases_lt, false≢true}
 use Rattle.std.proofs.lemmas.Bool.Decides.{eqb_tells}
@@ -57,10 +58,12 @@ set_kept marks at id h m =
 set_within : (marks : List Bool) (at : ℕ) (ids : List TermId) → All (Below (length marks)) ids → All (Below (length (set marks at true))) ids
 set_within marks at ids all = subst (λ n. All (Below n) ids) (sym (length-set marks at true)) all
 
-marked_kept : (marks : List Bool) (ids : List TermId) (id : TermId) → All (Below (length marks)) ids → is_marked marks id ≡ true → is_marked (marked marks ids) id ≡ true
+marked_kept : (marks : List Bool) (ids : List TermId) (id : TermId) → All (Below (length marks)) ids → is_marked marks id ≡ true
+    → is_marked (marked marks ids) id ≡ true
 marked_kept marks [] id all m = m
 marked_kept marks (x ∷ ids) id all m =
-    marked_kept (set marks x.0 true) ids id (set_within marks x.0 ids (All-tail (Below (length marks)) x ids all)) (set_kept marks x.0 id (All-head (Below (length marks)) x ids all) m)
+    marked_kept (set marks x.0 true) ids id (set_within marks x.0 ids (All-tail (Below (length marks)) x ids all))
+    (set_kept marks x.0 id (All-head (Below (length marks)) x ids all) m)
 
 marked_made : (marks : List Bool) (ids : List TermId) → All (Below (length marks)) ids → All (λ id. is_marked (marked marks ids) id ≡ true) ids
 marked_made marks [] all = All-nil (λ id. is_marked marks id ≡ true)
@@ -93,7 +96,8 @@ le_from m n h = elim (cases_lt m n) [ inl less ↦ absurd (h less) | inr more �
 
 -- ---- going down
 
-pub marks_start : (follow : Follow) (terms : List Term) (from : List TermId) (marks : List Bool) → AreStarts terms from marks → AreMarks follow terms from (length terms) marks
+pub marks_start : (follow : Follow) (terms : List Term) (from : List TermId) (marks : List Bool) → AreStarts terms from marks
+    → AreMarks follow terms from (length terms) marks
 marks_start follow terms from marks starts = record {
   long = starts.long;
   starts = starts.starts;
@@ -101,28 +105,37 @@ marks_start follow terms from marks starts = record {
   sound = λ id m. start id (starts.sound id m);
 }
 
-pub marks_more : {terms : List Term} → AreTerms terms → (follow : Follow) (from : List TermId) (id : TermId) (high : ℕ) (old new : List Bool) → high ≡ id.0 + 1 → id.0 < length terms → AreMarks follow terms from high old →
+pub marks_more : {terms : List Term} → AreTerms terms → (follow : Follow) (from : List TermId) (id : TermId) (high : ℕ) (old new : List Bool)
+    → high ≡ id.0 + 1 → id.0 < length terms → AreMarks follow terms from high old →
     new ≡ cond (is_marked old id) (marked old (followed follow terms id)) old → AreMarks follow terms from id.0 new
 marks_more {terms} made follow from id high old new e h marks is =
     let within : All (Below (length old)) (followed follow terms id) =
-    All-weaker (Below id.0) (Below (length old)) (λ part below. omega (arith, below, h, marks.long)) (followed follow terms id) (followed_before made follow id) in
+    All-weaker (Below id.0) (Below (length old)) (λ part below. omega (arith, below, h, marks.long)) (followed follow terms id)
+    (followed_before made follow id) in
     elim (cases_Bool (is_marked old id)) [
       | inl is_one ↦
           let new_is : new ≡ marked old (followed follow terms id) = is ∙ ap (λ b. cond b (marked old (followed follow terms id)) old) is_one in
           subst (AreMarks follow terms from id.0) (sym new_is) (record {
             long = marked_long old (followed follow terms id) ∙ marks.long;
-            starts = All-weaker (λ x. is_marked old x ≡ true) (λ x. is_marked (marked old (followed follow terms id)) x ≡ true) (λ x m. marked_kept old (followed follow terms id) x within m) from marks.starts;
+            starts = All-weaker (λ x. is_marked old x ≡ true) (λ x. is_marked (marked old (followed follow terms id)) x ≡ true)
+                (λ x m. marked_kept old (followed follow terms id) x within m) from marks.starts;
             closed = λ x past m.
                 elim (marked_from old (followed follow terms id) x m) [
                   | inl before ↦ elim (eqb_tells x.0 id.0) [
-                    | inl here ↦ subst (λ y. All (λ part. is_marked (marked old (followed follow terms id)) part ≡ true) (followed follow terms y)) (same_id id x (sym here.1)) (marked_made old (followed follow terms id) within)
+                    | inl here ↦ subst (λ y. All (λ part. is_marked (marked old (followed follow terms id)) part ≡ true) (followed follow terms y))
+                        (same_id id x (sym here.1)) (marked_made old (followed follow terms id) within)
                     | inr other ↦
-                        All-weaker (λ part. is_marked old part ≡ true) (λ part. is_marked (marked old (followed follow terms id)) part ≡ true) (λ part m. marked_kept old (followed follow terms id) part within m)
+                        All-weaker (λ part. is_marked old part ≡ true) (λ part. is_marked (marked old (followed follow terms id)) part ≡ true)
+                        (λ part m. marked_kept old (followed follow terms id) part within m)
                         (followed follow terms x) (marks.closed x (λ lower. past (omega (arith, lower, e, other.1))) before)
                   ]
                   | inr there ↦ absurd (past (All-contains (Below id.0) (followed follow terms id) x (followed_before made follow id) there))
                 ];
-            sound = λ x m. elim (marked_from old (followed follow terms id) x m) [ inl before ↦ marks.sound x before | inr there ↦ down id x (marks.sound id is_one) there ];
+            sound = λ x m. elim (marked_from old (followed follow terms id) x m) [
+              | inl before ↦ marks.sound x before
+              | inr there ↦ down id x
+                  (marks.sound id is_one) there
+            ];
           })
       | inr not_marked ↦
           let new_is : new ≡ old = is ∙ ap (λ b. cond b (marked old (followed follow terms id)) old) not_marked in
@@ -142,9 +155,14 @@ marked_push marks [] id = refl
 marked_push marks (x ∷ ids) id = marked_push (set marks x.0 true) ids id
 
 none_marked : (n i : ℕ) → get_or (replicate n false) i false ≡ false
-none_marked n i = elim (cases_lt i n) [ inl less ↦ get_or-replicate n i false false less | inr past ↦ get_or_past (replicate n false) i false (omega (arith, length-replicate n false, past)) ]
+none_marked n i = elim (cases_lt i n) [
+  | inl less ↦ get_or-replicate n i false false less
+  | inr past ↦ get_or_past (replicate n false) i false
+      (omega (arith, length-replicate n false, past))
+]
 
-pub starts_made : (terms : List Term) (from : List TermId) (marks : List Bool) → All (Stands terms) from → marks ≡ marked (replicate (length terms) false) from → AreStarts terms from marks
+pub starts_made : (terms : List Term) (from : List TermId) (marks : List Bool) → All (Stands terms) from
+    → marks ≡ marked (replicate (length terms) false) from → AreStarts terms from marks
 starts_made terms from marks stand is =
     let none : List Bool = replicate (length terms) false in
     let long : length none ≡ length terms = length-replicate (length terms) false in
@@ -158,11 +176,14 @@ starts_made terms from marks stand is =
       ];
     })
 
-pub marked_next : (marks : List Bool) (from : List TermId) (i : ℕ) (id : TermId) → i < length from → id ≡ get_or from i id → (none : List Bool) → marks ≡ marked none (take i from) → set marks id.0 true ≡ marked none (take (i + 1) from)
+pub marked_next : (marks : List Bool) (from : List TermId) (i : ℕ) (id : TermId) → i < length from → id ≡ get_or from i id → (none : List Bool)
+    → marks ≡ marked none (take i from) → set marks id.0 true ≡ marked none (take (i + 1) from)
 marked_next marks from i id h is none e =
     let more : take (i + 1) from ≡ take i from ++ id ∷ [] = take_more from i id h ∙ ap (λ y. take i from ++ y ∷ []) (sym is) in
     ap (λ (ms : List Bool). set ms id.0 true) e ∙ sym (marked_push none (take i from) id) ∙ ap (marked none) (sym more)
 
-pub followed_within : {terms : List Term} → AreTerms terms → (follow : Follow) (id : TermId) (n : ℕ) (parts : List TermId) → id.0 < length terms → n ≡ length terms → parts ≡ followed follow terms id → All (λ (part : TermId). part.0 < n) parts
+pub followed_within : {terms : List Term} → AreTerms terms → (follow : Follow) (id : TermId) (n : ℕ) (parts : List TermId) → id.0 < length terms
+    → n ≡ length terms → parts ≡ followed follow terms id → All (λ (part : TermId). part.0 < n) parts
 followed_within {terms} made follow id n parts h e is =
-    subst (All (Below n)) (sym is) (All-weaker (Below id.0) (Below n) (λ part below. omega (arith, below, h, e)) (followed follow terms id) (followed_before made follow id))
+    subst (All (Below n)) (sym is) (All-weaker (Below id.0) (Below n) (λ part below. omega (arith, below, h, e)) (followed follow terms id)
+    (followed_before made follow id))

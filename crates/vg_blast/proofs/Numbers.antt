@@ -1,5 +1,6 @@
 -- The numbers that literals spell: joined, cut, repeated and negated.
-use Rattle.std.proofs.Common.{◌≡◌, ℕ, zero, suc, ◌+◌, ◌*◌, ◌/◌, ◌%◌, ◌^◌, ◌<◌, ◌≤◌, List, [], ◌∷◌, ◌++◌, map, length, take, drop, get_or, replicate, Bool, true, false, refl, sym, ap, subst, ◌∙◌, arith, All, add-one, length-take-le}
+use Rattle.std.proofs.Common.{◌≡◌, ℕ, zero, suc, ◌+◌, ◌*◌, ◌/◌, ◌%◌, ◌^◌, ◌<◌, ◌≤◌, List, [], ◌∷◌, ◌++◌, map, length, take, drop, get_or, replicate}
+use Rattle.std.proofs.Common.{Bool, true, false, refl, sym, ap, subst, ◌∙◌, arith, All, add-one, length-take-le}
 use Rattle.std.specs.Prelude.{ℤ, neg_ℤ, not}
 use Rattle.std.proofs.Math.Nat.{pow-succ'}
 use Rattle.std.proofs.lemmas.Nat.{mod_low, shr_high}
@@ -30,7 +31,8 @@ doubled p n = omega arith
 pub number-append : (v : List Bool) (a b : List ℤ) → number v (a ++ b) ≡ number v a + 2 ^ length a * number v b
 number-append v [] b = omega arith
 number-append v (l ∷ a) b =
-    let e : 2 ^ length (l ∷ a) * number v b ≡ 2 * (2 ^ length a * number v b) = ap (λ n. n * number v b) (pow_more (length a)) ∙ doubled (2 ^ length a) (number v b) in
+    let e : 2 ^ length (l ∷ a) * number v b ≡ 2 * (2 ^ length a * number v b) = ap (λ n. n * number v b) (pow_more (length a))
+    ∙ doubled (2 ^ length a) (number v b) in
     omega (arith, number-append v a b, e)
 
 pub number-push : (v : List Bool) (a : List ℤ) (l : ℤ) → number v (a ++ l ∷ []) ≡ number v a + 2 ^ length a * bit (truth v l)
@@ -46,7 +48,8 @@ cut v a k h =
     let joined : number v (take k a ++ drop k a) ≡ number v (take k a) + 2 ^ length (take k a) * number v (drop k a) = number-append v (take k a) (drop k a) in
     let powers : 2 ^ length (take k a) ≡ 2 ^ k = ap (λ n. 2 ^ n) long in
     let whole : number v (take k a ++ drop k a) ≡ number v a = ap (number v) (take-append-drop k a) in
-    let flipped : 2 ^ length (take k a) * number v (drop k a) ≡ number v (drop k a) * 2 ^ k = ap (λ n. n * number v (drop k a)) powers ∙ (let e : 2 ^ k * number v (drop k a) ≡ number v (drop k a) * 2 ^ k = omega arith in e) in
+    let flipped : 2 ^ length (take k a) * number v (drop k a) ≡ number v (drop k a) * 2 ^ k = ap (λ n. n * number v (drop k a)) powers
+    ∙ (let e : 2 ^ k * number v (drop k a) ≡ number v (drop k a) * 2 ^ k = omega arith in e) in
     omega (arith, joined, whole, flipped)
 
 pub low_below : (v : List Bool) (a : List ℤ) (k : ℕ) → k ≤ length a → number v (take k a) < 2 ^ k
@@ -59,7 +62,8 @@ pub number-drop : (v : List Bool) (a : List ℤ) (k : ℕ) → k ≤ length a �
 number-drop v a k h = sym (ap (λ n. n / 2 ^ k) (cut v a k h) ∙ shr_high (number v (drop k a)) k (number v (take k a)) (low_below v a k h))
 
 -- one more literal is read
-pub number-more : (v : List Bool) (a : List ℤ) (i : ℕ) (x : ℤ) → i < length a → x ≡ get_or a i x → number v (take (i + 1) a) ≡ number v (take i a) + 2 ^ i * bit (truth v x)
+pub number-more : (v : List Bool) (a : List ℤ) (i : ℕ) (x : ℤ) → i < length a → x ≡ get_or a i x
+    → number v (take (i + 1) a) ≡ number v (take i a) + 2 ^ i * bit (truth v x)
 number-more v a i x h is =
     let longer : take (i + 1) a ≡ take i a ++ x ∷ [] = take_more a i x h ∙ ap (λ y. take i a ++ y ∷ []) (sym is) in
     let long : length (take i a) ≡ i = length-take-le i a (omega (arith, h)) in

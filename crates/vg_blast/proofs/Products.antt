@@ -1,5 +1,7 @@
 -- Products and quotients, bit by bit.
-use Rattle.std.proofs.Common.{◌≡◌, ℕ, suc, ◌+◌, ◌-◌, ◌*◌, ◌%◌, ◌^◌, ◌<◌, ◌≤◌, List, [], ◌∷◌, ◌++◌, length, take, drop, get_or, replicate, Bool, true, false, cond, sym, ap, subst, ◌∙◌, inl, inr, arith, All, lt-ltb, le-ltb, length-drop, length-take-le, Result, Ok, Err, Vec, Global}
+use Rattle.std.proofs.Common.{◌≡◌, ℕ, suc, ◌+◌, ◌-◌, ◌*◌, ◌%◌, ◌^◌, ◌<◌, ◌≤◌, List, [], ◌∷◌, ◌++◌, length, take, drop, get_or, replicate, Bool, true}
+use Rattle.std.proofs.Common.{false, cond, sym, ap, subst, ◌∙◌, inl, inr, arith, All, lt-ltb, le-ltb, length-drop, length-take-le, Result, Ok, Err}
+use Rattle.std.proofs.Common.{Vec, Global}
 use Rattle.std.specs.Prelude.{ℤ, neg_ℤ, negsuc, not, nat_lt, IfOk}
 use Rattle.std.proofs.lemmas.Bool.{cases_lt}
 use Rattle.std.proofs.lemmas.List.{length-replicate, take_all, drop_all}
@@ -19,7 +21,8 @@ use Rattle.vg_blast.proofs.Shifts.{falsity_false, falsity_over, left_long, numbe
 
 -- ---- rows
 
-pub row_made : (old new : ClauseSet) (b moved nothing out : List ℤ) (c f : ℤ) (d : ℕ) → IsNet old → f ≡ negsuc 0 → d ≤ length b → moved ≡ replicate d f ++ take (length b - d) b → nothing ≡ replicate (length b) f →
+pub row_made : (old new : ClauseSet) (b moved nothing out : List ℤ) (c f : ℤ) (d : ℕ) → IsNet old → f ≡ negsuc 0 → d ≤ length b
+    → moved ≡ replicate d f ++ take (length b - d) b → nothing ≡ replicate (length b) f →
     MakesWord old new (36 * length moved) out (length moved) (λ v. cond (truth v c) (number v moved) (number v nothing)) →
     MakesWord old new (36 * length b) out (length b) (λ v. cond (truth v c) ((number v b * 2 ^ d) % 2 ^ length b) 0)
 row_made old new b moved nothing out c f d net f_is le is none one =
@@ -30,14 +33,17 @@ row_made old new b moved nothing out c f d net f_is le is none one =
       width = one.width ∙ long;
       is = λ v h.
           let f_false : truth v f ≡ false = ap (truth v) f_is ∙ falsity_false old v net (one.builds.weaker v h) in
-          one.is v h ∙ (λ j. cond (truth v c) ((ap (number v) is ∙ number_left v f b d le f_false) j) ((ap (number v) none ∙ number-zeros v f (length b) f_false) j));
+          one.is v h ∙ (λ j. cond (truth v c) ((ap (number v) is ∙ number_left v f b d le f_false) j)
+          ((ap (number v) none ∙ number-zeros v f (length b) f_false) j));
     }
 
-pub row_result : {E : Type 0} (old new : ClauseSet) (b moved nothing slice zeros : List ℤ) (c f : ℤ) (d : ℕ) (result : Result (Vec ℤ Global) E) → IsNet old → f ≡ negsuc 0 → d ≤ length b →
+pub row_result : {E : Type 0} (old new : ClauseSet) (b moved nothing slice zeros : List ℤ) (c f : ℤ) (d : ℕ) (result : Result (Vec ℤ Global) E)
+    → IsNet old → f ≡ negsuc 0 → d ≤ length b →
     moved ≡ replicate d f ++ take (length b - d) b → slice ≡ moved → nothing ≡ replicate (length b) f → zeros ≡ nothing →
     IfOk result (λ out. MakesWord old new (36 * length slice) out.items (length slice) (λ v. cond (truth v c) (number v slice) (number v zeros))) →
     IfOk result (λ out. MakesWord old new (36 * length b) out.items (length b) (λ v. cond (truth v c) ((number v b * 2 ^ d) % 2 ^ length b) 0))
-row_result old new b moved nothing slice zeros c f d (Ok out) net f_is le is same none same_none one = row_made old new b slice zeros out.items c f d net f_is le (same ∙ is) (same_none ∙ none) one
+row_result old new b moved nothing slice zeros c f d (Ok out) net f_is le is same none same_none one =
+    row_made old new b slice zeros out.items c f d net f_is le (same ∙ is) (same_none ∙ none) one
 row_result old new b moved nothing slice zeros c f d (Err e) net f_is le is same none same_none one = one
 
 -- ---- products
@@ -60,7 +66,8 @@ pub product_more : (old mid s new : ClauseSet) (a b product row next : List ℤ)
     MakesWord old new (108 * w * (i + 1)) next w (λ v. (number v (take (i + 1) a) * number v b) % 2 ^ w)
 product_more old mid s new a b product row next x i w lt wide x_is so_far made last = record {
   builds = chained old mid new (108 * w * i) (108 * w) (108 * w * (i + 1)) so_far.builds
-      (chained mid s new (36 * w) (72 * w) (108 * w) (subst (λ n. Builds mid s (36 * n)) (sym wide) made.builds) (subst (λ n. Builds s new (72 * n)) so_far.width last.builds) (omega arith)) (omega arith);
+      (chained mid s new (36 * w) (72 * w) (108 * w) (subst (λ n. Builds mid s (36 * n)) (sym wide) made.builds)
+      (subst (λ n. Builds s new (72 * n)) so_far.width last.builds) (omega arith)) (omega arith);
   over = last.over;
   width = last.width ∙ so_far.width;
   is = λ v h.
@@ -108,13 +115,17 @@ left_is_of false x b d p m e f = ap (λ n. n % m) (let t : d ≡ x - b = omega a
 
 widened : (v : List Bool) (divisor wider : List ℤ) (f : ℤ) → wider ≡ divisor ++ f ∷ [] → truth v f ≡ false → number v wider ≡ number v divisor
 widened v divisor wider f is e =
-    ap (number v) is ∙ number-append v divisor (f ∷ []) ∙ ap (λ b. number v divisor + 2 ^ length divisor * (bit b + 2 * 0)) e ∙ (let t : number v divisor + 2 ^ length divisor * (0 + 2 * 0) ≡ number v divisor = omega arith in t)
+    ap (number v) is ∙ number-append v divisor (f ∷ []) ∙ ap (λ b. number v divisor + 2 ^ length divisor * (bit b + 2 * 0)) e
+    ∙ (let t : number v divisor + 2 ^ length divisor * (0 + 2 * 0) ≡ number v divisor = omega arith in t)
 
-pub divide_step_made : (old mid new : ClauseSet) (remainder divisor longer wider rest kept taken left : List ℤ) (next borrowed fits f : ℤ) → IsNet old → f ≡ negsuc 0 → length remainder ≡ length divisor →
-    longer ≡ next ∷ remainder → wider ≡ divisor ++ f ∷ [] → MakesDifference old mid rest borrowed longer wider → kept ≡ take (length remainder) longer → taken ≡ take (length remainder) rest →
+pub divide_step_made : (old mid new : ClauseSet) (remainder divisor longer wider rest kept taken left : List ℤ) (next borrowed fits f : ℤ) → IsNet old
+    → f ≡ negsuc 0 → length remainder ≡ length divisor →
+    longer ≡ next ∷ remainder → wider ≡ divisor ++ f ∷ [] → MakesDifference old mid rest borrowed longer wider → kept ≡ take (length remainder) longer
+    → taken ≡ take (length remainder) rest →
     MakesWord mid new (36 * length kept) left (length kept) (λ v. cond (truth v borrowed) (number v kept) (number v taken)) → fits ≡ neg_ℤ borrowed →
     DividesStep old new fits left remainder next divisor
-divide_step_made old mid new remainder divisor longer wider rest kept taken left next borrowed fits f net f_is same longer_is wider_is difference kept_is taken_is last fits_is =
+divide_step_made old mid new remainder divisor longer wider rest kept taken left next borrowed fits f net f_is same longer_is wider_is difference
+    kept_is taken_is last fits_is =
     let w = length divisor in
     let long : length longer ≡ w + 1 = ap length longer_is ∙ omega (arith, same) in
     let rest_long : length rest ≡ w + 1 = difference.width ∙ long in
@@ -127,7 +138,8 @@ divide_step_made old mid new remainder divisor longer wider rest kept taken left
     borrowed_is (truth v borrowed) (bit (truth v next) + 2 * number v remainder) (number v divisor) (number v rest) (2 ^ (w + 1)) below
     ((λ j. number v rest + sym wide j) ∙ difference.is v h ∙ (λ j. number v (longer_is j) + 2 ^ long j * bit (truth v borrowed))) in
     record {
-      builds = chained old mid new (72 * (w + 1)) (36 * w) (108 * w + 72) (subst (λ n. Builds old mid (72 * n)) long difference.builds) (subst (λ n. Builds mid new (36 * n)) kept_long last.builds) (omega arith);
+      builds = chained old mid new (72 * (w + 1)) (36 * w) (108 * w + 72) (subst (λ n. Builds old mid (72 * n)) long difference.builds)
+          (subst (λ n. Builds mid new (36 * n)) kept_long last.builds) (omega arith);
       over_fits =
           let there : IsOver new.variables borrowed = omega (arith, difference.over_borrowed, last.builds.variables) in
           subst (IsOver new.variables) (sym fits_is) (over_negated new.variables borrowed there);
@@ -139,8 +151,10 @@ divide_step_made old mid new remainder divisor longer wider rest kept taken left
           let f_false : truth v f ≡ false = ap (truth v) f_is ∙ falsity_false old v net (difference.builds.weaker v h1) in
           let wide : number v wider ≡ number v divisor = widened v divisor wider f wider_is f_false in
           let x = bit (truth v next) + 2 * number v remainder in
-          let low : number v kept ≡ x % 2 ^ w = ap (number v) kept_is ∙ number-take v longer (length remainder) (omega (arith, long, same)) ∙ (λ j. number v (longer_is j) % 2 ^ same j) in
-          let high : number v taken ≡ number v rest % 2 ^ w = ap (number v) taken_is ∙ number-take v rest (length remainder) (omega (arith, rest_long, same)) ∙ ap (λ n. number v rest % 2 ^ n) same in
+          let low : number v kept ≡ x % 2 ^ w = ap (number v) kept_is ∙ number-take v longer (length remainder) (omega (arith, long, same))
+          ∙ (λ j. number v (longer_is j) % 2 ^ same j) in
+          let high : number v taken ≡ number v rest % 2 ^ w = ap (number v) taken_is ∙ number-take v rest (length remainder)
+          (omega (arith, rest_long, same)) ∙ ap (λ n. number v rest % 2 ^ n) same in
           last.is v h
           ∙ (λ j. cond (truth v borrowed) (low j) (high j))
           ∙ left_is_of (truth v borrowed) x (number v divisor) (number v rest) (2 ^ (w + 1)) (2 ^ w) (borrowed_at v h1)
@@ -155,7 +169,8 @@ unfit q b r a x e = omega arith
 fit : (q b r a x : ℕ) → q * b + r ≡ a → b ≤ x + 2 * r → (1 + 2 * q) * b + (x + 2 * r - b) ≡ x + 2 * a
 fit q b r a x e h = omega arith
 
-whole_step : (x : Bool) (a b q r m : ℕ) → q * b + r ≡ a → r < b → b < m → (bit (not (nat_lt (bit x + 2 * r) b)) + 2 * q) * b + left_of (bit x + 2 * r) b % m ≡ bit x + 2 * a
+whole_step : (x : Bool) (a b q r m : ℕ) → q * b + r ≡ a → r < b → b < m → (bit (not (nat_lt (bit x + 2 * r) b)) + 2 * q) * b + left_of (bit x + 2 * r)
+    b % m ≡ bit x + 2 * a
 whole_step x a b q r m e h k =
     let z = bit x + 2 * r in
     let x_below = bit_below x in
@@ -200,7 +215,8 @@ divided_step x a b q r i m divided h k = record {
       );
 }
 
-next_bit : (v : List Bool) (a : List ℤ) (at rest : ℕ) (x : ℤ) → at < length a → rest ≡ at + 1 → x ≡ get_or a at x → number v (drop at a) ≡ bit (truth v x) + 2 * number v (drop rest a)
+next_bit : (v : List Bool) (a : List ℤ) (at rest : ℕ) (x : ℤ) → at < length a → rest ≡ at + 1 → x ≡ get_or a at x
+    → number v (drop at a) ≡ bit (truth v x) + 2 * number v (drop rest a)
 next_bit v a at rest x h e is =
     ap (number v) (drop-cons a at x h)
     ∙ (λ j. bit (truth v (sym is j)) + 2 * number v (drop (suc at) a))
@@ -213,36 +229,50 @@ high_below v a at =
     omega (arith, below, le)
 
 cheaper : (old new : ClauseSet) (n w : ℕ) {i : ℕ} → n ≡ w → i < w → Builds old new (108 * n + 72) → Builds old new (180 * w)
-cheaper old new n w e h builds = record { variables = builds.variables; weaker = builds.weaker; extends = builds.extends; literals = omega (arith, builds.literals, e, h) }
+cheaper old new n w e h builds = record {
+  variables = builds.variables;
+  weaker = builds.weaker;
+  extends = builds.extends;
+  literals =
+      omega (arith, builds.literals, e, h);
+}
 
-pub divide_more : (old mid new : ClauseSet) (a b quotient remainder left more : List ℤ) (x fits : ℤ) (i at : ℕ) → i < length a → at ≡ length a - 1 - i → length a ≡ length b → x ≡ get_or a at x →
+pub divide_more : (old mid new : ClauseSet) (a b quotient remainder left more : List ℤ) (x fits : ℤ) (i at : ℕ) → i < length a → at ≡ length a - 1 - i
+    → length a ≡ length b → x ≡ get_or a at x →
     Divides old mid (180 * length a * i) quotient remainder a b i → DividesStep mid new fits left remainder x b → more ≡ fits ∷ quotient →
     Divides old new (180 * length a * (i + 1)) more left a b (i + 1)
 divide_more old mid new a b quotient remainder left more x fits i at lt at_is same x_is so_far one more_is =
     let rest_is : length a - i ≡ at + 1 = omega (arith, lt, at_is) in
     let here : length a - (i + 1) ≡ at = omega (arith, lt, at_is) in
     record {
-      builds = chained old mid new (180 * length a * i) (180 * length a) (180 * length a * (i + 1)) so_far.builds (cheaper mid new (length b) (length a) (sym same) lt one.builds) (omega arith);
-      over_quotient = subst (All (IsOver new.variables)) (sym more_is) (All-cons (IsOver new.variables) fits quotient one.over_fits (all_over_later mid new (108 * length b + 72) quotient one.builds so_far.over_quotient));
+      builds = chained old mid new (180 * length a * i) (180 * length a) (180 * length a * (i + 1)) so_far.builds
+          (cheaper mid new (length b) (length a) (sym same) lt one.builds) (omega arith);
+      over_quotient = subst (All (IsOver new.variables)) (sym more_is) (All-cons (IsOver new.variables) fits quotient one.over_fits
+          (all_over_later mid new (108 * length b + 72) quotient one.builds so_far.over_quotient));
       over_remainder = one.over;
       width_quotient = ap length more_is ∙ omega (arith, so_far.width_quotient);
       width_remainder = one.width;
       is = λ v h.
-          let before : IsDivided (number v (drop (length a - i) a)) (number v b) (number v quotient) (number v remainder) i = so_far.is v (one.builds.weaker v h) in
+          let before : IsDivided (number v (drop (length a - i) a)) (number v b) (number v quotient) (number v remainder) i =
+          so_far.is v (one.builds.weaker v h) in
           let longer : number v (drop (length a - (i + 1)) a) ≡ bit (truth v x) + 2 * number v (drop (length a - i) a) =
           ap (λ n. number v (drop n a)) here ∙ next_bit v a at (length a - i) x (omega (arith, lt, at_is)) rest_is x_is in
           let b_below : number v b < 2 ^ length b = number-below v b in
           let a_below : bit (truth v x) + 2 * number v (drop (length a - i) a) < 2 ^ length b =
           subst (λ n. n < 2 ^ length b) longer (subst (λ n. number v (drop (length a - (i + 1)) a) < 2 ^ n) same (high_below v a (length a - (i + 1)))) in
-          let stepped = divided_step (truth v x) (number v (drop (length a - i) a)) (number v b) (number v quotient) (number v remainder) i (2 ^ length b) before b_below a_below in
+          let stepped = divided_step (truth v x) (number v (drop (length a - i) a)) (number v b) (number v quotient) (number v remainder) i
+          (2 ^ length b) before b_below a_below in
           let q_is : bit (not (nat_lt (bit (truth v x) + 2 * number v remainder) (number v b))) + 2 * number v quotient ≡ number v more =
           sym (ap (number v) more_is ∙ ap (λ t. bit t + 2 * number v quotient) (one.fits_is v h)) in
           subst (λ n. IsDivided n (number v b) (number v more) (number v left) (i + 1)) (sym longer)
           (subst (λ n. IsDivided (bit (truth v x) + 2 * number v (drop (length a - i) a)) (number v b) n (number v left) (i + 1)) q_is
-          (subst (λ n. IsDivided (bit (truth v x) + 2 * number v (drop (length a - i) a)) (number v b) (bit (not (nat_lt (bit (truth v x) + 2 * number v remainder) (number v b))) + 2 * number v quotient) n (i + 1)) (sym (one.left_is v h)) stepped));
+          (subst (λ n. IsDivided (bit (truth v x) + 2 * number v (drop (length a - i) a)) (number v b)
+          (bit (not (nat_lt (bit (truth v x) + 2 * number v remainder) (number v b))) + 2 * number v quotient) n (i + 1)) (sym (one.left_is v h))
+          stepped));
     }
 
-pub divide_none : (set : ClauseSet) (a b quotient remainder : List ℤ) (f : ℤ) → IsNet set → f ≡ negsuc 0 → length a ≡ length b → quotient ≡ [] → remainder ≡ replicate (length a) f →
+pub divide_none : (set : ClauseSet) (a b quotient remainder : List ℤ) (f : ℤ) → IsNet set → f ≡ negsuc 0 → length a ≡ length b → quotient ≡ []
+    → remainder ≡ replicate (length a) f →
     Divides set set (180 * length a * 0) quotient remainder a b 0
 divide_none set a b quotient remainder f net f_is same q_is r_is = record {
   builds = nothing_built set (180 * length a * 0);
@@ -255,7 +285,10 @@ divide_none set a b quotient remainder f net f_is same q_is r_is = record {
       let q_zero : number v quotient ≡ 0 = ap (number v) q_is in
       let r_zero : number v remainder ≡ 0 = ap (number v) r_is ∙ number-zeros v f (length a) (ap (truth v) f_is ∙ falsity_false set v net h) in
       record {
-        whole = λ some. ((λ j. q_zero j * number v b + r_zero j) ∙ (let t : 0 * number v b + 0 ≡ 0 = omega arith in t) ∙ sym a_is, subst (λ n. n < number v b) (sym r_zero) some);
+        whole = λ some. (
+          (λ j. q_zero j * number v b + r_zero j) ∙ (let t : 0 * number v b + 0 ≡ 0 = omega arith in t) ∙ sym a_is,
+          subst (λ n. n < number v b) (sym r_zero) some,
+        );
         by_zero = λ none. (ap (λ n. n + 1) q_zero, r_zero ∙ sym a_is);
       };
 }

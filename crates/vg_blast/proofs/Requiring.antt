@@ -1,5 +1,6 @@
 -- The facts as clauses.
-use Rattle.std.proofs.Common.{◌≡◌, ℕ, zero, suc, ◌+◌, ◌<◌, ◌≤◌, List, map, length, get_or, Bool, true, false, cond, ◌⊎◌, refl, sym, ap, subst, ◌∙◌, inl, inr, arith, All, add-one}
+use Rattle.std.proofs.Common.{◌≡◌, ℕ, zero, suc, ◌+◌, ◌<◌, ◌≤◌, List, map, length, get_or, Bool, true, false, cond, ◌⊎◌, refl, sym, ap, subst, ◌∙◌}
+use Rattle.std.proofs.Common.{inl, inr, arith, All, add-one}
 use Rattle.std.specs.Prelude.{ℤ, ◌&&◌}
 use Rattle.std.proofs.lemmas.Bool.{cases_Bool, cases_lt, and_parts, true≢false}
 use Rattle.std.proofs.lemmas.List.{length-map}
@@ -27,21 +28,31 @@ bit_true false e = let none : ⊥ = omega (arith, e) in absurd none
 true_bit : (b : Bool) → b ≡ true → bit b ≡ 1
 true_bit b e = ap bit e
 
-has_literal : (terms : List Term) (marks : List Bool) (n : ℕ) (set : ClauseSet) (lists : List (List ℤ)) (names : List BitName) (id : TermId) → IsState terms marks n set lists names → id.0 < n → is_marked marks id ≡ true → width_at terms id ≡ 1 → HasLiteral set lists id
+has_literal : (terms : List Term) (marks : List Bool) (n : ℕ) (set : ClauseSet) (lists : List (List ℤ)) (names : List BitName) (id : TermId)
+    → IsState terms marks n set lists names → id.0 < n → is_marked marks id ≡ true → width_at terms id ≡ 1 → HasLiteral set lists id
 has_literal terms marks n set lists names id state below marked flag =
     let word = state.each id below marked in
     record { within = omega (arith, below, state.count); some = omega (arith, word.width, flag); over = word.over }
 
-later_literal : (old new : ClauseSet) (lists more : List (List ℤ)) (id : TermId) → new.variables ≡ old.variables → more ≡ lists → HasLiteral old lists id → HasLiteral new more id
+later_literal : (old new : ClauseSet) (lists more : List (List ℤ)) (id : TermId) → new.variables ≡ old.variables → more ≡ lists
+    → HasLiteral old lists id → HasLiteral new more id
 later_literal old new lists more id e same has =
-    subst (λ ls. HasLiteral new ls id) (sym same) (record { within = has.within; some = has.some; over = subst (λ n. All (IsOver n) (word_at lists id)) (sym e) has.over })
+    subst (λ ls. HasLiteral new ls id) (sym same) (record {
+      within = has.within;
+      some = has.some;
+      over =
+          subst (λ n. All (IsOver n) (word_at lists id)) (sym e) has.over;
+    })
 
 -- the parts of a term have literals, and keep them as clauses are added
-pub have_literals : {terms : List Term} → AreTerms terms → (marks : List Bool) (old new : ClauseSet) (lists more : List (List ℤ)) (names : List BitName) (id : TermId) → AreClosed terms marks → IsState terms marks (length terms) old lists names → id.0 < length terms → is_marked marks id ≡ true →
+pub have_literals : {terms : List Term} → AreTerms terms → (marks : List Bool) (old new : ClauseSet) (lists more : List (List ℤ))
+    (names : List BitName) (id : TermId) → AreClosed terms marks → IsState terms marks (length terms) old lists names → id.0 < length terms
+    → is_marked marks id ≡ true →
     width_at terms id ≡ 1 → new.variables ≡ old.variables → more ≡ lists → HaveLiterals terms new more id
 have_literals {terms} made marks old new lists more names id closed state stands marked one e same = λ parts split.
     All-weaker (IsFlagPart terms marks) (λ (p : Part). HasLiteral new more p.term)
-    (λ p flag. later_literal old new lists more p.term e same (has_literal terms marks (length terms) old lists names p.term state flag.stands flag.marked flag.one))
+    (λ p flag. later_literal old new lists more p.term e same (has_literal terms marks (length terms) old lists names p.term state flag.stands
+    flag.marked flag.one))
     parts (split_flags made marks closed id parts (record { stands = stands; marked = marked; one = one }) split)
 
 -- ---- one more term
@@ -58,11 +69,15 @@ requires_none terms names asserted set = record {
 below_cases : (m n : ℕ) → m < n + 1 → (m < n) ⊎ (m ≡ n)
 below_cases m n h = elim (cases_lt m n) [ inl less ↦ inl less | inr past ↦ inr (omega (arith, h, past)) ]
 
-pub requires_more : {terms : List Term} → AreTerms terms → (marks asserted : List Bool) (n : ℕ) (old mid new : ClauseSet) (lists : List (List ℤ)) (names : List BitName) (id : TermId) → id.0 ≡ n → id.0 < length terms → AreClosed terms marks → IsState terms marks (length terms) old lists names →
-    (is_marked asserted id ≡ true → is_marked marks id ≡ true) → (is_marked asserted id ≡ true → width_at terms id ≡ 1) → Requires terms names asserted n old mid →
+pub requires_more : {terms : List Term} → AreTerms terms → (marks asserted : List Bool) (n : ℕ) (old mid new : ClauseSet) (lists : List (List ℤ))
+    (names : List BitName) (id : TermId) → id.0 ≡ n → id.0 < length terms → AreClosed terms marks
+    → IsState terms marks (length terms) old lists names →
+    (is_marked asserted id ≡ true → is_marked marks id ≡ true) → (is_marked asserted id ≡ true → width_at terms id ≡ 1)
+    → Requires terms names asserted n old mid →
     AddsIf (is_marked asserted id && is_leaf terms id) terms mid new lists id → Requires terms names asserted (n + 1) old new
 requires_more {terms} made marks asserted n old mid new lists names id at below closed state marked flag before adds =
-    let cost_is : required_to asserted (n + 1) ≡ required_to asserted n + cond (is_marked asserted id) 128 0 = ap (required_to asserted) (add-one n) ∙ ap (λ k. required_to asserted n + cond (get_or asserted k false) 128 0) (sym at) in
+    let cost_is : required_to asserted (n + 1) ≡ required_to asserted n + cond (is_marked asserted id) 128 0 = ap (required_to asserted) (add-one n)
+    ∙ ap (λ k. required_to asserted n + cond (get_or asserted k false) 128 0) (sym at) in
     let same_id : (x : TermId) → x.0 ≡ n → x ≡ id = λ x e. (λ j. record { 0 = (e ∙ sym at) j }) in
     elim (cases_Bool (is_marked asserted id && is_leaf terms id)) [
       | inl asked ↦
@@ -71,11 +86,14 @@ requires_more {terms} made marks asserted n old mid new lists names id at below 
           let added = disjuncts.adds in
           let clause : List ℤ = map (literal_of lists) disjuncts.parts in
           let word = state.each id below (marked parts.0) in
-          let value : (words : List Word) (v : List Bool) → Assigns words terms → Agree v terms words names → Holds v old → value_of terms words id ≡ bit (truth v (first_of lists id)) =
+          let value : (words : List Word) (v : List Bool) → Assigns words terms → Agree v terms words names → Holds v old
+          → value_of terms words id ≡ bit (truth v (first_of lists id)) =
           λ words v assigns agree h. literal_value terms old names lists id words v word (flag parts.0) assigns h agree in
-          let whole : (words : List Word) (v : List Bool) → Assigns words terms → Agree v terms words names → Holds v old → makes_true v clause ≡ truth v (first_of lists id) =
+          let whole : (words : List Word) (v : List Bool) → Assigns words terms → Agree v terms words names → Holds v old
+          → makes_true v clause ≡ truth v (first_of lists id) =
           λ words v assigns agree h.
-          split_true marks old lists words v (seen made marks old lists names state closed words v assigns h agree) id disjuncts.parts (record { stands = below; marked = marked parts.0; one = flag parts.0 }) disjuncts.are.split in
+          split_true marks old lists words v (seen made marks old lists names state closed words v assigns h agree) id disjuncts.parts
+          (record { stands = below; marked = marked parts.0; one = flag parts.0 }) disjuncts.are.split in
           record {
             variables = added.variables ∙ before.variables;
             weaker = λ v h. before.weaker v (added.holds v h).0;
@@ -85,12 +103,15 @@ requires_more {terms} made marks asserted n old mid new lists names id at below 
                   | inl earlier ↦ before.sound words v assigns agree both.0 x earlier is_asked
                   | inr here ↦
                       subst (λ (y : TermId). value_of terms words y ≡ 1) (sym (same_id x here))
-                      (value words v assigns agree (before.weaker v both.0) ∙ true_bit (truth v (first_of lists id)) (sym (whole words v assigns agree (before.weaker v both.0)) ∙ both.1))
+                      (value words v assigns agree (before.weaker v both.0) ∙ true_bit (truth v (first_of lists id))
+                      (sym (whole words v assigns agree (before.weaker v both.0)) ∙ both.1))
                 ];
             held = λ words v assigns agree h all.
                 let earlier = before.held words v assigns agree h (λ x lower is_asked. all x (omega (arith, lower)) is_asked) in
-                added.held v earlier (whole words v assigns agree h ∙ bit_true (truth v (first_of lists id)) (sym (value words v assigns agree h) ∙ all id (omega (arith, at)) asked));
-            literals = let e : cond {A = ℕ} (is_marked asserted id) 128 0 ≡ cond {A = ℕ} true 128 0 = ap (λ b. cond {A = ℕ} b 128 0) parts.0 in omega (arith, cost_is, e, length-map disjuncts.parts (literal_of lists), disjuncts.are.most, added.literals, before.literals);
+                added.held v earlier (whole words v assigns agree h ∙ bit_true (truth v (first_of lists id))
+                (sym (value words v assigns agree h) ∙ all id (omega (arith, at)) asked));
+            literals = let e : cond {A = ℕ} (is_marked asserted id) 128 0 ≡ cond {A = ℕ} true 128 0 = ap (λ b. cond {A = ℕ} b 128 0) parts.0 in
+                omega (arith, cost_is, e, length-map disjuncts.parts (literal_of lists), disjuncts.are.most, added.literals, before.literals);
           }
       | inr not_asked ↦
           let same = adds.kept not_asked in

@@ -1,5 +1,7 @@
 -- Shifts in steps.
-use Rattle.std.proofs.Common.{◌≡◌, ℕ, zero, suc, ◌+◌, ◌-◌, ◌*◌, ◌/◌, ◌%◌, ◌^◌, ◌<◌, ◌≤◌, List, ◌++◌, length, take, drop, get_or, replicate, Bool, true, false, cond, refl, sym, ap, subst, ◌∙◌, inl, inr, arith, All, length-append, length-drop, length-take-le, Result, Ok, Err, Vec, Global}
+use Rattle.std.proofs.Common.{◌≡◌, ℕ, zero, suc, ◌+◌, ◌-◌, ◌*◌, ◌/◌, ◌%◌, ◌^◌, ◌<◌, ◌≤◌, List, ◌++◌, length, take, drop, get_or, replicate, Bool}
+use Rattle.std.proofs.Common.{true, false, cond, refl, sym, ap, subst, ◌∙◌, inl, inr, arith, All, length-append, length-drop, length-take-le, Result}
+use Rattle.std.proofs.Common.{Ok, Err, Vec, Global}
 use Rattle.std.specs.Prelude.{ℤ, neg_ℤ, negsuc, not, ◌||◌, nat_eq, IfOk}
 use Rattle.std.proofs.lemmas.Bool.{ne_eqb}
 use Rattle.std.proofs.lemmas.Bool.Decides.{eqb_tells}
@@ -37,21 +39,29 @@ low_moved w d m h =
     let r = m % 2 ^ (w - d) in
     let r_below : r < 2 ^ (w - d) = mod_below m (2 ^ (w - d)) (pow_pos (w - d)) in
     let split : m ≡ q * 2 ^ (w - d) + r = sym (shr_split m (w - d)) in
-    let moved : m * 2 ^ d ≡ q * 2 ^ w + r * 2 ^ d = ap (λ n. n * 2 ^ d) split ∙ regrouped q (2 ^ (w - d)) r (2 ^ d) ∙ ap (λ n. q * n + r * 2 ^ d) (sym (pow_split w d h)) in
-    let below : r * 2 ^ d < 2 ^ w = subst (λ n. r * 2 ^ d < n) (sym (pow_split w d h)) (omega (arith, mul-add-lt r (2 ^ d) 0 (2 ^ (w - d)) r_below (pow_pos d))) in
+    let moved : m * 2 ^ d ≡ q * 2 ^ w + r * 2 ^ d = ap (λ n. n * 2 ^ d) split ∙ regrouped q (2 ^ (w - d)) r (2 ^ d)
+    ∙ ap (λ n. q * n + r * 2 ^ d) (sym (pow_split w d h)) in
+    let below : r * 2 ^ d < 2 ^ w =
+    subst (λ n. r * 2 ^ d < n) (sym (pow_split w d h)) (omega (arith, mul-add-lt r (2 ^ d) 0 (2 ^ (w - d)) r_below (pow_pos d))) in
     let flipped : 2 ^ d * r ≡ r * 2 ^ d = omega arith in
     flipped ∙ sym (ap (λ n. n % 2 ^ w) moved ∙ mod_low q w (r * 2 ^ d) below)
 
 -- ---- what is moved is over the same variables, and as long
 
 pub left_long : (m : List ℤ) (f : ℤ) (d : ℕ) → d ≤ length m → length (replicate d f ++ take (length m - d) m) ≡ length m
-left_long m f d h = length-append (replicate d f) (take (length m - d) m) ∙ omega (arith, length-replicate d f, length-take-le (length m - d) m (omega arith), h)
+left_long m f d h = length-append (replicate d f) (take (length m - d) m) ∙ omega (
+  arith,
+  length-replicate d f,
+  length-take-le (length m - d) m (omega arith),
+  h,
+)
 
 pub right_long : (m : List ℤ) (f : ℤ) (d : ℕ) → d ≤ length m → length (drop d m ++ replicate d f) ≡ length m
 right_long m f d h = length-append (drop d m) (replicate d f) ∙ omega (arith, length-replicate d f, length-drop d m, h)
 
 pub over_left : (n : ℕ) (m : List ℤ) (f : ℤ) (d : ℕ) → All (IsOver n) m → IsOver n f → All (IsOver n) (replicate d f ++ take (length m - d) m)
-over_left n m f d over over_f = All-append (IsOver n) (replicate d f) (take (length m - d) m) (All-replicate (IsOver n) d f over_f) (All-take (IsOver n) (length m - d) m over)
+over_left n m f d over over_f = All-append (IsOver n) (replicate d f) (take (length m - d) m) (All-replicate (IsOver n) d f over_f)
+    (All-take (IsOver n) (length m - d) m over)
 
 pub over_right : (n : ℕ) (m : List ℤ) (f : ℤ) (d : ℕ) → All (IsOver n) m → IsOver n f → All (IsOver n) (drop d m ++ replicate d f)
 over_right n m f d over over_f = All-append (IsOver n) (drop d m) (replicate d f) (All-drop (IsOver n) d m over) (All-replicate (IsOver n) d f over_f)
@@ -59,7 +69,8 @@ over_right n m f d over over_f = All-append (IsOver n) (drop d m) (replicate d f
 pub falsity_over : (set : ClauseSet) (f : ℤ) → IsNet set → f ≡ negsuc 0 → IsOver set.variables f
 falsity_over set f net is = subst (IsOver set.variables) (sym is) (omega arith, omega (arith, net.some))
 
-pub number_left : (v : List Bool) (l : ℤ) (m : List ℤ) (d : ℕ) → d ≤ length m → truth v l ≡ false → number v (replicate d l ++ take (length m - d) m) ≡ (number v m * 2 ^ d) % 2 ^ length m
+pub number_left : (v : List Bool) (l : ℤ) (m : List ℤ) (d : ℕ) → d ≤ length m → truth v l ≡ false
+    → number v (replicate d l ++ take (length m - d) m) ≡ (number v m * 2 ^ d) % 2 ^ length m
 number_left v l m d h f =
     number-append v (replicate d l) (take (length m - d) m)
     ∙ (λ j. number-zeros v l d f j + 2 ^ length-replicate d l j * number-take v m (length m - d) (omega arith) j)
@@ -80,7 +91,8 @@ left_step true a n k w m e =
 left_step false a n k w m e = e ∙ ap (λ x. (a * 2 ^ x) % 2 ^ w) (let t : n ≡ n + 2 ^ k * 0 = omega arith in t)
 
 -- one step
-pub stepped_left : (old new : ClauseSet) (moved further chosen : List ℤ) (c f : ℤ) (d : ℕ) → IsNet old → f ≡ negsuc 0 → d ≤ length moved → further ≡ replicate d f ++ take (length moved - d) moved →
+pub stepped_left : (old new : ClauseSet) (moved further chosen : List ℤ) (c f : ℤ) (d : ℕ) → IsNet old → f ≡ negsuc 0 → d ≤ length moved
+    → further ≡ replicate d f ++ take (length moved - d) moved →
     MakesWord old new (36 * length further) chosen (length further) (λ v. cond (truth v c) (number v further) (number v moved)) →
     MakesWord old new (36 * length moved) chosen (length moved) (λ v. cond (truth v c) ((number v moved * 2 ^ d) % 2 ^ length moved) (number v moved))
 stepped_left old new moved further chosen c f d net f_is le is one =
@@ -109,7 +121,8 @@ left_more old mid new a by moved chosen c k w d d_is lt c_is word one = record {
       ∙ ap (λ n. (number v a * 2 ^ n) % 2 ^ w) (sym (number-more v by k c lt c_is));
 }
 
-pub left_none : (set : ClauseSet) (a by moved : List ℤ) → All (IsOver set.variables) a → moved ≡ a → MakesWord set set (36 * length a * 0) moved (length a) (λ v. (number v a * 2 ^ number v (take 0 by)) % 2 ^ length a)
+pub left_none : (set : ClauseSet) (a by moved : List ℤ) → All (IsOver set.variables) a → moved ≡ a
+    → MakesWord set set (36 * length a * 0) moved (length a) (λ v. (number v a * 2 ^ number v (take 0 by)) % 2 ^ length a)
 left_none set a by moved over is = record {
   builds = nothing_built set (36 * length a * 0);
   over = subst (All (IsOver set.variables)) (sym is) over;
@@ -122,7 +135,8 @@ left_none set a by moved over is = record {
 -- the whole number of places, by its low and its high bits
 halves_of : (v : List Bool) (by : List ℤ) (s : ℕ) → s ≤ length by → number v by ≡ number v (take s by) + 2 ^ s * number v (drop s by)
 halves_of v by s h =
-    ap (number v) (sym (take-append-drop s by)) ∙ number-append v (take s by) (drop s by) ∙ ap (λ n. number v (take s by) + 2 ^ n * number v (drop s by)) (length-take-le s by h)
+    ap (number v) (sym (take-append-drop s by)) ∙ number-append v (take s by) (drop s by) ∙ ap
+    (λ n. number v (take s by) + 2 ^ n * number v (drop s by)) (length-take-le s by h)
 
 positive : (n : ℕ) → (n ≡ 0 → ⊥) → 0 < n
 positive zero h = absurd (h refl)
@@ -131,7 +145,8 @@ positive (suc n) h = omega arith
 far_off : (s w low high : ℕ) → w ≤ 2 ^ s → 0 < high → w ≤ low + 2 ^ s * high
 far_off s w low high h some = omega (arith, mul-le-mul_left {m = 1} {n = high} (2 ^ s) some, h)
 
-left_last : (a low high s w m zeros : ℕ) → w ≤ 2 ^ s → m ≡ (a * 2 ^ low) % 2 ^ w → zeros ≡ 0 → cond (nat_eq high 0) m zeros ≡ (a * 2 ^ (low + 2 ^ s * high)) % 2 ^ w
+left_last : (a low high s w m zeros : ℕ) → w ≤ 2 ^ s → m ≡ (a * 2 ^ low) % 2 ^ w → zeros ≡ 0
+    → cond (nat_eq high 0) m zeros ≡ (a * 2 ^ (low + 2 ^ s * high)) % 2 ^ w
 left_last a low high s w m zeros h e z =
     elim (eqb_tells high 0) [
       | inl none ↦
@@ -150,10 +165,12 @@ not_chosen p true m n e = ap (λ b. cond b m n) e
 not_chosen p false m n e = ap (λ b. cond b m n) e
 
 -- the word or the filling
-pub past_made : (old mid new : ClauseSet) (moved far filled out : List ℤ) (past turned_past f : ℤ) → turned_past ≡ neg_ℤ past → filled ≡ replicate (length moved) f →
+pub past_made : (old mid new : ClauseSet) (moved far filled out : List ℤ) (past turned_past f : ℤ) → turned_past ≡ neg_ℤ past
+    → filled ≡ replicate (length moved) f →
     MakesBit old mid (12 * length far) past (λ v. not (nat_eq (number v far) 0)) →
     MakesWord mid new (36 * length moved) out (length moved) (λ v. cond (truth v turned_past) (number v moved) (number v filled)) →
-    MakesWord old new (12 * length far + 36 * length moved) out (length moved) (λ v. cond (nat_eq (number v far) 0) (number v moved) (number v (replicate (length moved) f)))
+    MakesWord old new (12 * length far + 36 * length moved) out (length moved) (λ v. cond (nat_eq (number v far) 0) (number v moved)
+    (number v (replicate (length moved) f)))
 past_made old mid new moved far filled out past turned_past f is filled_is any last = record {
   builds = chained old mid new (12 * length far) (36 * length moved) (12 * length far + 36 * length moved) any.builds last.builds (omega arith);
   over = last.over;
@@ -161,13 +178,16 @@ past_made old mid new moved far filled out past turned_past f is filled_is any l
   is = λ v h.
       let past_is = any.is v (last.builds.weaker v h) in
       last.is v h
-      ∙ not_chosen (truth v turned_past) (nat_eq (number v far) 0) (number v moved) (number v filled) (ap (truth v) is ∙ truth_neg v past any.over.0 ∙ ap not past_is)
+      ∙ not_chosen (truth v turned_past) (nat_eq (number v far) 0) (number v moved) (number v filled)
+      (ap (truth v) is ∙ truth_neg v past any.over.0 ∙ ap not past_is)
       ∙ ap (λ ls. cond (nat_eq (number v far) 0) (number v moved) (number v ls)) filled_is;
 }
 
-pub left_made : (old mid new : ClauseSet) (a by moved far out : List ℤ) (f : ℤ) (k s w : ℕ) → IsNet mid → f ≡ negsuc 0 → AreSteps w s → w ≡ length a → length a ≡ length by → s ≤ k → k ≤ s →
+pub left_made : (old mid new : ClauseSet) (a by moved far out : List ℤ) (f : ℤ) (k s w : ℕ) → IsNet mid → f ≡ negsuc 0 → AreSteps w s → w ≡ length a
+    → length a ≡ length by → s ≤ k → k ≤ s →
     MakesWord old mid (36 * w * k) moved w (λ v. (number v a * 2 ^ number v (take k by)) % 2 ^ w) → far ≡ drop s by →
-    MakesWord mid new (12 * length far + 36 * length moved) out (length moved) (λ v. cond (nat_eq (number v far) 0) (number v moved) (number v (replicate (length moved) f))) →
+    MakesWord mid new (12 * length far + 36 * length moved) out (length moved) (λ v. cond (nat_eq (number v far) 0) (number v moved)
+    (number v (replicate (length moved) f))) →
     MakesWord old new (36 * w * (w + 2)) out w (λ v. (number v a * 2 ^ number v by) % 2 ^ w)
 left_made old mid new a by moved far out f k s w net f_is steps wide same ge le word far_is last =
     let k_is : k ≡ s = omega arith in
@@ -175,16 +195,19 @@ left_made old mid new a by moved far out f k s w net f_is steps wide same ge le 
     let far_long : length far ≡ w - s = ap length far_is ∙ length-drop s by ∙ omega (arith, wide, same) in
     record {
       builds = chained old mid new (36 * w * s) (12 * (w - s) + 36 * w) (36 * w * (w + 2)) (subst (λ n. Builds old mid (36 * w * n)) k_is word.builds)
-          (subst (λ n. Builds mid new (12 * (w - s) + 36 * n)) word.width (subst (λ n. Builds mid new (12 * n + 36 * length moved)) far_long last.builds)) (past_cost w s steps.within);
+          (subst (λ n. Builds mid new (12 * (w - s) + 36 * n)) word.width (subst (λ n. Builds mid new (12 * n + 36 * length moved)) far_long
+          last.builds)) (past_cost w s steps.within);
       over = last.over;
       width = last.width ∙ word.width;
       is = λ v h.
           let h1 = last.builds.weaker v h in
           let f_false : truth v f ≡ false = ap (truth v) f_is ∙ falsity_false mid v net h1 in
-          let m_is : number v moved ≡ (number v a * 2 ^ number v (take s by)) % 2 ^ w = word.is v h1 ∙ ap (λ n. (number v a * 2 ^ number v (take n by)) % 2 ^ w) k_is in
+          let m_is : number v moved ≡ (number v a * 2 ^ number v (take s by)) % 2 ^ w = word.is v h1
+          ∙ ap (λ n. (number v a * 2 ^ number v (take n by)) % 2 ^ w) k_is in
           last.is v h
           ∙ ap (λ ls. cond (nat_eq (number v ls) 0) (number v moved) (number v (replicate (length moved) f))) far_is
-          ∙ left_last (number v a) (number v (take s by)) (number v (drop s by)) s w (number v moved) (number v (replicate (length moved) f)) steps.enough m_is (number-zeros v f (length moved) f_false)
+          ∙ left_last (number v a) (number v (take s by)) (number v (drop s by)) s w (number v moved) (number v (replicate (length moved) f))
+          steps.enough m_is (number-zeros v f (length moved) f_false)
           ∙ ap (λ n. (number v a * 2 ^ n) % 2 ^ w) (sym (halves_of v by s fits));
     }
 
@@ -217,7 +240,8 @@ turned_moved w d m z h below ones =
     left ∙ sym right
 
 -- with the bits turned where the filling literal is true
-turned_right : (v : List Bool) (l : ℤ) (m : List ℤ) (d : ℕ) (b : Bool) → truth v l ≡ b → d ≤ length m → turned b (length m) (number v (drop d m ++ replicate d l)) ≡ turned b (length m) (number v m) / 2 ^ d
+turned_right : (v : List Bool) (l : ℤ) (m : List ℤ) (d : ℕ) (b : Bool) → truth v l ≡ b → d ≤ length m
+    → turned b (length m) (number v (drop d m ++ replicate d l)) ≡ turned b (length m) (number v m) / 2 ^ d
 turned_right v l m d true e h =
     let rest : length (drop d m) ≡ length m - d = length-drop d m in
     ap (λ n. 2 ^ length m - 1 - n) (number-append v (drop d m) (replicate d l) ∙ (λ j. number-drop v m d h j + 2 ^ rest j * number v (replicate d l)))
@@ -227,7 +251,8 @@ turned_right v l m d false e h =
     ∙ (λ j. number-drop v m d h j + 2 ^ length (drop d m) * number-zeros v l d e j)
     ∙ (let t : number v m / 2 ^ d + 2 ^ length (drop d m) * 0 ≡ number v m / 2 ^ d = omega arith in t)
 
-right_step : (c b : Bool) (f m a n k w : ℕ) → turned b w f ≡ turned b w m / 2 ^ (2 ^ k) → turned b w m ≡ a / 2 ^ n → turned b w (cond c f m) ≡ a / 2 ^ (n + 2 ^ k * bit c)
+right_step : (c b : Bool) (f m a n k w : ℕ) → turned b w f ≡ turned b w m / 2 ^ (2 ^ k) → turned b w m ≡ a / 2 ^ n
+    → turned b w (cond c f m) ≡ a / 2 ^ (n + 2 ^ k * bit c)
 right_step true b f m a n k w e g =
     e ∙ ap (λ x. x / 2 ^ (2 ^ k)) g ∙ shr-shr a n (2 ^ k) ∙ ap (λ x. a / 2 ^ (n + x)) (let t : 2 ^ k ≡ 2 ^ k * 1 = omega arith in t)
 right_step false b f m a n k w e g = g ∙ ap (λ x. a / 2 ^ x) (let t : n ≡ n + 2 ^ k * 0 = omega arith in t)
@@ -245,7 +270,8 @@ stepped_right old new moved further chosen c f d le is one =
       is = λ v h. one.is v h ∙ ap (λ ls. cond (truth v c) (number v ls) (number v moved)) is;
     }
 
-pub right_more : (old mid new : ClauseSet) (a by moved chosen : List ℤ) (c f : ℤ) (k w d : ℕ) → w ≡ length a → d ≡ 2 ^ k → d ≤ w → k < length by → c ≡ get_or by k c →
+pub right_more : (old mid new : ClauseSet) (a by moved chosen : List ℤ) (c f : ℤ) (k w d : ℕ) → w ≡ length a → d ≡ 2 ^ k → d ≤ w → k < length by
+    → c ≡ get_or by k c →
     ShiftsRight old mid (36 * w * k) moved f a (λ v. number v (take k by)) →
     MakesWord mid new (36 * length moved) chosen (length moved) (λ v. cond (truth v c) (number v (drop d moved ++ replicate d f)) (number v moved)) →
     ShiftsRight old new (36 * w * (k + 1)) chosen f a (λ v. number v (take (k + 1) by))
@@ -256,15 +282,19 @@ right_more old mid new a by moved chosen c f k w d wide d_is le lt c_is word one
       over = one.over;
       width = one.width ∙ word.width;
       is = λ v h.
-          let moved_on : turned (truth v f) (length a) (number v (drop d moved ++ replicate d f)) ≡ turned (truth v f) (length a) (number v moved) / 2 ^ (2 ^ k) =
-          subst (λ n. turned (truth v f) n (number v (drop d moved ++ replicate d f)) ≡ turned (truth v f) n (number v moved) / 2 ^ d) word.width (turned_right v f moved d (truth v f) refl (omega (arith, as_long, le)))
+          let moved_on : turned (truth v f) (length a) (number v (drop d moved ++ replicate d f)) ≡ turned (truth v f) (length a) (number v moved) / 2
+          ^ (2 ^ k) =
+          subst (λ n. turned (truth v f) n (number v (drop d moved ++ replicate d f)) ≡ turned (truth v f) n (number v moved) / 2 ^ d) word.width
+          (turned_right v f moved d (truth v f) refl (omega (arith, as_long, le)))
           ∙ ap (λ n. turned (truth v f) (length a) (number v moved) / 2 ^ n) d_is in
           ap (turned (truth v f) (length a)) (one.is v h)
-          ∙ right_step (truth v c) (truth v f) (number v (drop d moved ++ replicate d f)) (number v moved) (turned (truth v f) (length a) (number v a)) (number v (take k by)) k (length a) moved_on (word.is v (one.builds.weaker v h))
+          ∙ right_step (truth v c) (truth v f) (number v (drop d moved ++ replicate d f)) (number v moved)
+          (turned (truth v f) (length a) (number v a)) (number v (take k by)) k (length a) moved_on (word.is v (one.builds.weaker v h))
           ∙ ap (λ n. turned (truth v f) (length a) (number v a) / 2 ^ n) (sym (number-more v by k c lt c_is));
     }
 
-pub right_none : (set : ClauseSet) (a by moved : List ℤ) (f : ℤ) → All (IsOver set.variables) a → moved ≡ a → ShiftsRight set set (36 * length a * 0) moved f a (λ v. number v (take 0 by))
+pub right_none : (set : ClauseSet) (a by moved : List ℤ) (f : ℤ) → All (IsOver set.variables) a → moved ≡ a
+    → ShiftsRight set set (36 * length a * 0) moved f a (λ v. number v (take 0 by))
 right_none set a by moved f over is = record {
   builds = nothing_built set (36 * length a * 0);
   over = subst (All (IsOver set.variables)) (sym is) over;
@@ -276,7 +306,8 @@ filled_zero : (v : List Bool) (l : ℤ) (w : ℕ) (b : Bool) → truth v l ≡ b
 filled_zero v l w true e = omega (arith, number-ones v l w e)
 filled_zero v l w false e = number-zeros v l w e
 
-right_last : (b : Bool) (a low high s w m filled : ℕ) → w ≤ 2 ^ s → a < 2 ^ w → turned b w m ≡ a / 2 ^ low → turned b w filled ≡ 0 → turned b w (cond (nat_eq high 0) m filled) ≡ a / 2 ^ (low + 2 ^ s * high)
+right_last : (b : Bool) (a low high s w m filled : ℕ) → w ≤ 2 ^ s → a < 2 ^ w → turned b w m ≡ a / 2 ^ low → turned b w filled ≡ 0
+    → turned b w (cond (nat_eq high 0) m filled) ≡ a / 2 ^ (low + 2 ^ s * high)
 right_last b a low high s w m filled h below e z =
     elim (eqb_tells high 0) [
       | inl none ↦
@@ -288,9 +319,11 @@ right_last b a low high s w m filled h below e z =
           ap (λ x. turned b w (cond x m filled)) some.0 ∙ z ∙ sym (div-eq_of_lt l)
     ]
 
-pub right_made : (old mid new : ClauseSet) (a by moved far out : List ℤ) (f : ℤ) (k s w : ℕ) → AreSteps w s → w ≡ length a → length a ≡ length by → s ≤ k → k ≤ s →
+pub right_made : (old mid new : ClauseSet) (a by moved far out : List ℤ) (f : ℤ) (k s w : ℕ) → AreSteps w s → w ≡ length a → length a ≡ length by
+    → s ≤ k → k ≤ s →
     ShiftsRight old mid (36 * w * k) moved f a (λ v. number v (take k by)) → far ≡ drop s by →
-    MakesWord mid new (12 * length far + 36 * length moved) out (length moved) (λ v. cond (nat_eq (number v far) 0) (number v moved) (number v (replicate (length moved) f))) →
+    MakesWord mid new (12 * length far + 36 * length moved) out (length moved) (λ v. cond (nat_eq (number v far) 0) (number v moved)
+    (number v (replicate (length moved) f))) →
     ShiftsRight old new (36 * w * (w + 2)) out f a (λ v. number v by)
 right_made old mid new a by moved far out f k s w steps wide same ge le word far_is last =
     let k_is : k ≡ s = omega arith in
@@ -299,7 +332,8 @@ right_made old mid new a by moved far out f k s w steps wide same ge le word far
     let far_long : length far ≡ w - s = ap length far_is ∙ length-drop s by ∙ omega (arith, wide, same) in
     record {
       builds = chained old mid new (36 * w * s) (12 * (w - s) + 36 * w) (36 * w * (w + 2)) (subst (λ n. Builds old mid (36 * w * n)) k_is word.builds)
-          (subst (λ n. Builds mid new (12 * (w - s) + 36 * n)) as_long (subst (λ n. Builds mid new (12 * n + 36 * length moved)) far_long last.builds)) (past_cost w s steps.within);
+          (subst (λ n. Builds mid new (12 * (w - s) + 36 * n)) as_long (subst (λ n. Builds mid new (12 * n + 36 * length moved)) far_long
+          last.builds)) (past_cost w s steps.within);
       over = last.over;
       width = last.width ∙ word.width;
       is = λ v h.
@@ -307,10 +341,12 @@ right_made old mid new a by moved far out f k s w steps wide same ge le word far
           let m_is : turned (truth v f) w (number v moved) ≡ turned (truth v f) w (number v a) / 2 ^ number v (take s by) =
           subst (λ n. turned (truth v f) n (number v moved) ≡ turned (truth v f) n (number v a) / 2 ^ number v (take s by)) (sym wide)
           (word.is v h1 ∙ ap (λ n. turned (truth v f) (length a) (number v a) / 2 ^ number v (take n by)) k_is) in
-          let below : turned (truth v f) w (number v a) < 2 ^ w = turned_below (truth v f) w (number v a) (subst (λ n. number v a < 2 ^ n) (sym wide) (number-below v a)) in
+          let below : turned (truth v f) w (number v a) < 2 ^ w = turned_below (truth v f) w (number v a)
+          (subst (λ n. number v a < 2 ^ n) (sym wide) (number-below v a)) in
           subst (λ n. turned (truth v f) n (number v out) ≡ turned (truth v f) n (number v a) / 2 ^ number v by) wide
           (ap (turned (truth v f) w) (last.is v h ∙ ap (λ ls. cond (nat_eq (number v ls) 0) (number v moved) (number v (replicate (length moved) f))) far_is)
-          ∙ right_last (truth v f) (turned (truth v f) w (number v a)) (number v (take s by)) (number v (drop s by)) s w (number v moved) (number v (replicate (length moved) f)) steps.enough below m_is
+          ∙ right_last (truth v f) (turned (truth v f) w (number v a)) (number v (take s by)) (number v (drop s by)) s w (number v moved)
+          (number v (replicate (length moved) f)) steps.enough below m_is
           (ap (λ n. turned (truth v f) w (number v (replicate n f))) as_long ∙ filled_zero v f w (truth v f) refl)
           ∙ ap (λ n. turned (truth v f) w (number v a) / 2 ^ n) (sym (halves_of v by s fits)));
     }
@@ -348,7 +384,8 @@ nonzero_more n p m true h e = or_true (not (nat_eq n 0)) ∙ sym (ap not (ne_eqb
 nonzero_more n p m false h e = or_false (not (nat_eq n 0)) ∙ ap (λ k. not (nat_eq k 0)) (let t : n ≡ m = omega arith in t)
 
 -- whether one more literal is true
-pub any_more : (old mid new : ClauseSet) (ls : List ℤ) (x some next : ℤ) (i : ℕ) → i < length ls → x ≡ get_or ls i x → MakesBit old mid (12 * i) some (λ v. not (nat_eq (number v (take i ls)) 0)) →
+pub any_more : (old mid new : ClauseSet) (ls : List ℤ) (x some next : ℤ) (i : ℕ) → i < length ls → x ≡ get_or ls i x
+    → MakesBit old mid (12 * i) some (λ v. not (nat_eq (number v (take i ls)) 0)) →
     MakesBit mid new 12 next (λ v. truth v some || truth v x) → MakesBit old new (12 * (i + 1)) next (λ v. not (nat_eq (number v (take (i + 1) ls)) 0))
 any_more old mid new ls x some next i h is so_far one = record {
   builds = chained old mid new (12 * i) 12 (12 * (i + 1)) so_far.builds one.builds (omega arith);
@@ -361,33 +398,44 @@ any_more old mid new ls x some next i h is so_far one = record {
 
 -- ---- the same of results
 
-pub stepped_left_result : {E : Type 0} (old new : ClauseSet) (moved further slice : List ℤ) (c f : ℤ) (d : ℕ) (result : Result (Vec ℤ Global) E) → IsNet old → f ≡ negsuc 0 → d ≤ length moved →
+pub stepped_left_result : {E : Type 0} (old new : ClauseSet) (moved further slice : List ℤ) (c f : ℤ) (d : ℕ) (result : Result (Vec ℤ Global) E)
+    → IsNet old → f ≡ negsuc 0 → d ≤ length moved →
     further ≡ replicate d f ++ take (length moved - d) moved → slice ≡ further →
     IfOk result (λ out. MakesWord old new (36 * length slice) out.items (length slice) (λ v. cond (truth v c) (number v slice) (number v moved))) →
-    IfOk result (λ out. MakesWord old new (36 * length moved) out.items (length moved) (λ v. cond (truth v c) ((number v moved * 2 ^ d) % 2 ^ length moved) (number v moved)))
-stepped_left_result old new moved further slice c f d (Ok out) net f_is le is same one = stepped_left old new moved slice out.items c f d net f_is le (same ∙ is) one
+    IfOk result (λ out. MakesWord old new (36 * length moved) out.items (length moved) (λ v. cond (truth v c)
+    ((number v moved * 2 ^ d) % 2 ^ length moved) (number v moved)))
+stepped_left_result old new moved further slice c f d (Ok out) net f_is le is same one = stepped_left old new moved slice out.items c f d net f_is le
+    (same ∙ is) one
 stepped_left_result old new moved further slice c f d (Err e) net f_is le is same one = one
 
-pub past_result : {E : Type 0} (old mid new : ClauseSet) (moved far filled slice : List ℤ) (past turned_past f : ℤ) (result : Result (Vec ℤ Global) E) → turned_past ≡ neg_ℤ past → filled ≡ replicate (length moved) f → slice ≡ filled →
+pub past_result : {E : Type 0} (old mid new : ClauseSet) (moved far filled slice : List ℤ) (past turned_past f : ℤ) (result : Result (Vec ℤ Global) E)
+    → turned_past ≡ neg_ℤ past → filled ≡ replicate (length moved) f → slice ≡ filled →
     MakesBit old mid (12 * length far) past (λ v. not (nat_eq (number v far) 0)) →
     IfOk result (λ out. MakesWord mid new (36 * length moved) out.items (length moved) (λ v. cond (truth v turned_past) (number v moved) (number v slice))) →
-    IfOk result (λ out. MakesWord old new (12 * length far + 36 * length moved) out.items (length moved) (λ v. cond (nat_eq (number v far) 0) (number v moved) (number v (replicate (length moved) f))))
-past_result old mid new moved far filled slice past turned_past f (Ok out) is filled_is same any last = past_made old mid new moved far slice out.items past turned_past f is (same ∙ filled_is) any last
+    IfOk result (λ out. MakesWord old new (12 * length far + 36 * length moved) out.items (length moved)
+    (λ v. cond (nat_eq (number v far) 0) (number v moved) (number v (replicate (length moved) f))))
+past_result old mid new moved far filled slice past turned_past f (Ok out) is filled_is same any last =
+    past_made old mid new moved far slice out.items past turned_past f is (same ∙ filled_is) any last
 past_result old mid new moved far filled slice past turned_past f (Err e) is filled_is same any last = last
 
-pub left_result : {E : Type 0} (old mid new : ClauseSet) (a by moved slice far : List ℤ) (f : ℤ) (k s : ℕ) (result : Result (Vec ℤ Global) E) → IsNet mid → f ≡ negsuc 0 → AreSteps (length a) s → length a ≡ length by → s ≤ k → k ≤ s →
+pub left_result : {E : Type 0} (old mid new : ClauseSet) (a by moved slice far : List ℤ) (f : ℤ) (k s : ℕ) (result : Result (Vec ℤ Global) E)
+    → IsNet mid → f ≡ negsuc 0 → AreSteps (length a) s → length a ≡ length by → s ≤ k → k ≤ s →
     MakesWord old mid (36 * length a * k) moved (length a) (λ v. (number v a * 2 ^ number v (take k by)) % 2 ^ length a) → slice ≡ moved → far ≡ drop s by →
-    IfOk result (λ out. MakesWord mid new (12 * length far + 36 * length slice) out.items (length slice) (λ v. cond (nat_eq (number v far) 0) (number v slice) (number v (replicate (length slice) f)))) →
+    IfOk result (λ out. MakesWord mid new (12 * length far + 36 * length slice) out.items (length slice)
+    (λ v. cond (nat_eq (number v far) 0) (number v slice) (number v (replicate (length slice) f)))) →
     IfOk result (λ out. MakesWord old new (36 * length a * (length a + 2)) out.items (length a) (λ v. (number v a * 2 ^ number v by) % 2 ^ length a))
 left_result old mid new a by moved slice far f k s (Ok out) net f_is steps same ge le word is far_is last =
     left_made old mid new a by slice far out.items f k s (length a) net f_is steps refl same ge le
     (subst (λ ls. MakesWord old mid (36 * length a * k) ls (length a) (λ v. (number v a * 2 ^ number v (take k by)) % 2 ^ length a)) (sym is) word) far_is last
 left_result old mid new a by moved slice far f k s (Err e) net f_is steps same ge le word is far_is last = last
 
-pub right_result : {E : Type 0} (old mid new : ClauseSet) (a by moved slice far : List ℤ) (f : ℤ) (k s : ℕ) (result : Result (Vec ℤ Global) E) → AreSteps (length a) s → length a ≡ length by → s ≤ k → k ≤ s →
+pub right_result : {E : Type 0} (old mid new : ClauseSet) (a by moved slice far : List ℤ) (f : ℤ) (k s : ℕ) (result : Result (Vec ℤ Global) E)
+    → AreSteps (length a) s → length a ≡ length by → s ≤ k → k ≤ s →
     ShiftsRight old mid (36 * length a * k) moved f a (λ v. number v (take k by)) → slice ≡ moved → far ≡ drop s by →
-    IfOk result (λ out. MakesWord mid new (12 * length far + 36 * length slice) out.items (length slice) (λ v. cond (nat_eq (number v far) 0) (number v slice) (number v (replicate (length slice) f)))) →
+    IfOk result (λ out. MakesWord mid new (12 * length far + 36 * length slice) out.items (length slice)
+    (λ v. cond (nat_eq (number v far) 0) (number v slice) (number v (replicate (length slice) f)))) →
     IfOk result (λ out. ShiftsRight old new (36 * length a * (length a + 2)) out.items f a (λ v. number v by))
 right_result old mid new a by moved slice far f k s (Ok out) steps same ge le word is far_is last =
-    right_made old mid new a by slice far out.items f k s (length a) steps refl same ge le (subst (λ ls. ShiftsRight old mid (36 * length a * k) ls f a (λ v. number v (take k by))) (sym is) word) far_is last
+    right_made old mid new a by slice far out.items f k s (length a) steps refl same ge le
+    (subst (λ ls. ShiftsRight old mid (36 * length a * k) ls f a (λ v. number v (take k by))) (sym is) word) far_is last
 right_result old mid new a by moved slice far f k s (Err e) steps same ge le word is far_is last = last

@@ -1,5 +1,6 @@
 -- From the literals of some terms to those of one more.
-use Rattle.std.proofs.Common.{◌≡◌, ℕ, zero, suc, ◌+◌, ◌-◌, ◌*◌, ◌<◌, ◌≤◌, List, [], ◌∷◌, ◌++◌, map, length, get_or, slice_get, Some, Bool, true, false, cond, refl, sym, ap, subst, ◌∙◌, inl, inr, arith, All, add-one, length-append, Result, Vec, Global, Contains}
+use Rattle.std.proofs.Common.{◌≡◌, ℕ, zero, suc, ◌+◌, ◌-◌, ◌*◌, ◌<◌, ◌≤◌, List, [], ◌∷◌, ◌++◌, map, length, get_or, slice_get, Some, Bool, true}
+use Rattle.std.proofs.Common.{false, cond, refl, sym, ap, subst, ◌∙◌, inl, inr, arith, All, add-one, length-append, Result, Vec, Global, Contains}
 use Rattle.std.specs.Prelude.{ℤ, IfOk}
 use Rattle.std.proofs.lemmas.Bool.{cases_lt}
 use Rattle.std.proofs.lemmas.List.{get_or_append_left}
@@ -48,49 +49,66 @@ cost_within op m n h = omega (arith, cost_grows op m n h)
 word_is : (lists : List (List ℤ)) (a : TermId) (slice : List ℤ) → slice_get lists a.0 ≡ Some slice → slice ≡ word_at lists a
 word_is lists a slice e = sym (get_or_from_slice_get lists a.0 slice [] e)
 
-pub part_over : (lists : List (List ℤ)) (n : ℕ) (a : TermId) (slice : List ℤ) → slice_get lists a.0 ≡ Some slice → All (IsOver n) (word_at lists a) → All (IsOver n) slice
+pub part_over : (lists : List (List ℤ)) (n : ℕ) (a : TermId) (slice : List ℤ) → slice_get lists a.0 ≡ Some slice → All (IsOver n) (word_at lists a)
+    → All (IsOver n) slice
 part_over lists n a slice here over = subst (All (IsOver n)) (sym (word_is lists a slice here)) over
 
 pub none_made : {E : Type 0} (old new : ClauseSet) (lists : List (List ℤ)) (op : Op) (parts : Parts) (result : Result (Vec ℤ Global) E) → listed parts ≡ [] →
-    IfOk result (λ out. MakesWord old new 0 out.items (width_of op []) (λ v. answer op [])) → IfOk result (λ out. MakesOperation old new lists op (listed parts) out.items)
+    IfOk result (λ out. MakesWord old new 0 out.items (width_of op []) (λ v. answer op []))
+    → IfOk result (λ out. MakesOperation old new lists op (listed parts) out.items)
 none_made old new lists op parts result is made =
     subst (λ ps. IfOk result (λ out. MakesOperation old new lists op ps out.items)) (sym is)
     (cheaper_result old new 0 (most_added lists op []) (width_of op []) (λ v. answer op []) (λ v. answer op []) result made (omega arith) (λ v. refl))
 
-pub one_made : {E : Type 0} (old new : ClauseSet) (lists : List (List ℤ)) (op : Op) (parts : Parts) (a : TermId) (slice : List ℤ) (result : Result (Vec ℤ Global) E) → listed parts ≡ a ∷ [] → slice_get lists a.0 ≡ Some slice →
-    IfOk result (λ out. MakesWord old new 0 out.items (width_one op (length slice)) (λ v. value_one op (bits_by v slice))) → IfOk result (λ out. MakesOperation old new lists op (listed parts) out.items)
+pub one_made : {E : Type 0} (old new : ClauseSet) (lists : List (List ℤ)) (op : Op) (parts : Parts) (a : TermId) (slice : List ℤ)
+    (result : Result (Vec ℤ Global) E) → listed parts ≡ a ∷ [] → slice_get lists a.0 ≡ Some slice →
+    IfOk result (λ out. MakesWord old new 0 out.items (width_one op (length slice)) (λ v. value_one op (bits_by v slice)))
+    → IfOk result (λ out. MakesOperation old new lists op (listed parts) out.items)
 one_made old new lists op parts a slice result is here made =
     let w = word_at lists a in
     subst (λ ps. IfOk result (λ out. MakesOperation old new lists op ps out.items)) (sym is)
-    (cheaper_result old new 0 (most_added lists op (a ∷ [])) (width_one op (length w)) (λ v. value_one op (bits_by v w)) (λ v. value_one op (bits_by v w)) result
-    (subst (λ ls. IfOk result (λ out. MakesWord old new 0 out.items (width_one op (length ls)) (λ v. value_one op (bits_by v ls)))) (word_is lists a slice here) made) (omega arith) (λ v. refl))
+    (cheaper_result old new 0 (most_added lists op (a ∷ [])) (width_one op (length w)) (λ v. value_one op (bits_by v w))
+    (λ v. value_one op (bits_by v w)) result
+    (subst (λ ls. IfOk result (λ out. MakesWord old new 0 out.items (width_one op (length ls)) (λ v. value_one op (bits_by v ls))))
+    (word_is lists a slice here) made) (omega arith) (λ v. refl))
 
-pub two_made : {E : Type 0} (old new : ClauseSet) (lists : List (List ℤ)) (op : Op) (parts : Parts) (a b : TermId) (left right : List ℤ) (result : Result (Vec ℤ Global) E) → listed parts ≡ a ∷ b ∷ [] →
+pub two_made : {E : Type 0} (old new : ClauseSet) (lists : List (List ℤ)) (op : Op) (parts : Parts) (a b : TermId) (left right : List ℤ)
+    (result : Result (Vec ℤ Global) E) → listed parts ≡ a ∷ b ∷ [] →
     slice_get lists a.0 ≡ Some left → slice_get lists b.0 ≡ Some right →
-    IfOk result (λ out. MakesWord old new (operation_cost op (length left) - 130) out.items (width_two op (length left) (length right)) (λ v. value_two op (bits_by v left) (bits_by v right))) →
+    IfOk result (λ out. MakesWord old new (operation_cost op (length left) - 130) out.items (width_two op (length left) (length right))
+    (λ v. value_two op (bits_by v left) (bits_by v right))) →
     IfOk result (λ out. MakesOperation old new lists op (listed parts) out.items)
 two_made old new lists op parts a b left right result is here there made =
     let x = word_at lists a in
     let y = word_at lists b in
-    let moved = subst (λ ls. IfOk result (λ out. MakesWord old new (operation_cost op (length ls) - 130) out.items (width_two op (length ls) (length right)) (λ v. value_two op (bits_by v ls) (bits_by v right)))) (word_is lists a left here) made in
+    let moved = subst (λ ls. IfOk result (λ out. MakesWord old new (operation_cost op (length ls) - 130) out.items
+    (width_two op (length ls) (length right)) (λ v. value_two op (bits_by v ls) (bits_by v right)))) (word_is lists a left here) made in
     subst (λ ps. IfOk result (λ out. MakesOperation old new lists op ps out.items)) (sym is)
-    (cheaper_result old new (operation_cost op (length x) - 130) (most_added lists op (a ∷ b ∷ [])) (width_two op (length x) (length y)) (λ v. value_two op (bits_by v x) (bits_by v y)) (λ v. value_two op (bits_by v x) (bits_by v y)) result
-    (subst (λ ls. IfOk result (λ out. MakesWord old new (operation_cost op (length x) - 130) out.items (width_two op (length x) (length ls)) (λ v. value_two op (bits_by v x) (bits_by v ls)))) (word_is lists b right there) moved)
+    (cheaper_result old new (operation_cost op (length x) - 130) (most_added lists op (a ∷ b ∷ [])) (width_two op (length x) (length y))
+    (λ v. value_two op (bits_by v x) (bits_by v y)) (λ v. value_two op (bits_by v x) (bits_by v y)) result
+    (subst (λ ls. IfOk result (λ out. MakesWord old new (operation_cost op (length x) - 130) out.items (width_two op (length x) (length ls))
+    (λ v. value_two op (bits_by v x) (bits_by v ls)))) (word_is lists b right there) moved)
     (cost_within op (length x) (greatest (map (part_width lists) (a ∷ b ∷ []))) (omega arith)) (λ v. refl))
 
-pub three_made : {E : Type 0} (old new : ClauseSet) (lists : List (List ℤ)) (op : Op) (parts : Parts) (c a b : TermId) (condition left right : List ℤ) (result : Result (Vec ℤ Global) E) → listed parts ≡ c ∷ a ∷ b ∷ [] →
+pub three_made : {E : Type 0} (old new : ClauseSet) (lists : List (List ℤ)) (op : Op) (parts : Parts) (c a b : TermId) (condition left right : List ℤ)
+    (result : Result (Vec ℤ Global) E) → listed parts ≡ c ∷ a ∷ b ∷ [] →
     slice_get lists c.0 ≡ Some condition → slice_get lists a.0 ≡ Some left → slice_get lists b.0 ≡ Some right →
-    IfOk result (λ out. MakesWord old new (operation_cost op (length left) - 130) out.items (length left) (λ v. value_three op (bits_by v condition) (bits_by v left) (bits_by v right))) →
+    IfOk result (λ out. MakesWord old new (operation_cost op (length left) - 130) out.items (length left)
+    (λ v. value_three op (bits_by v condition) (bits_by v left) (bits_by v right))) →
     IfOk result (λ out. MakesOperation old new lists op (listed parts) out.items)
 three_made old new lists op parts c a b condition left right result is first here there made =
     let z = word_at lists c in
     let x = word_at lists a in
     let y = word_at lists b in
-    let moved = subst (λ ls. IfOk result (λ out. MakesWord old new (operation_cost op (length ls) - 130) out.items (length ls) (λ v. value_three op (bits_by v condition) (bits_by v ls) (bits_by v right)))) (word_is lists a left here) made in
-    let again = subst (λ ls. IfOk result (λ out. MakesWord old new (operation_cost op (length x) - 130) out.items (length x) (λ v. value_three op (bits_by v condition) (bits_by v x) (bits_by v ls)))) (word_is lists b right there) moved in
+    let moved = subst (λ ls. IfOk result (λ out. MakesWord old new (operation_cost op (length ls) - 130) out.items (length ls)
+    (λ v. value_three op (bits_by v condition) (bits_by v ls) (bits_by v right)))) (word_is lists a left here) made in
+    let again = subst (λ ls. IfOk result (λ out. MakesWord old new (operation_cost op (length x) - 130) out.items (length x)
+    (λ v. value_three op (bits_by v condition) (bits_by v x) (bits_by v ls)))) (word_is lists b right there) moved in
     subst (λ ps. IfOk result (λ out. MakesOperation old new lists op ps out.items)) (sym is)
-    (cheaper_result old new (operation_cost op (length x) - 130) (most_added lists op (c ∷ a ∷ b ∷ [])) (length x) (λ v. value_three op (bits_by v z) (bits_by v x) (bits_by v y)) (λ v. value_three op (bits_by v z) (bits_by v x) (bits_by v y)) result
-    (subst (λ ls. IfOk result (λ out. MakesWord old new (operation_cost op (length x) - 130) out.items (length x) (λ v. value_three op (bits_by v ls) (bits_by v x) (bits_by v y)))) (word_is lists c condition first) again)
+    (cheaper_result old new (operation_cost op (length x) - 130) (most_added lists op (c ∷ a ∷ b ∷ [])) (length x)
+    (λ v. value_three op (bits_by v z) (bits_by v x) (bits_by v y)) (λ v. value_three op (bits_by v z) (bits_by v x) (bits_by v y)) result
+    (subst (λ ls. IfOk result (λ out. MakesWord old new (operation_cost op (length x) - 130) out.items (length x)
+    (λ v. value_three op (bits_by v ls) (bits_by v x) (bits_by v y)))) (word_is lists c condition first) again)
     (cost_within op (length x) (greatest (map (part_width lists) (c ∷ a ∷ b ∷ []))) (omega arith)) (λ v. refl))
 
 -- ---- widths of terms
@@ -130,7 +148,8 @@ all_mapped P f (id ∷ ids) all = All-cons P (f id) (map f ids) (All-head (λ x.
 
 width_to : {terms : List Term} → AreTerms terms → (k : ℕ) (id : TermId) (t : Term) → id.0 < k → slice_get terms id.0 ≡ Some t → HasWidth64 t.1
 width_to made zero id t h e = let none : ⊥ = omega (arith, h) in absurd none
-width_to made (suc k) id (nodes.Var number width, w) h e = let next = comes_next made id.0 (nodes.Var number width, w) e in record { some = next.2; most = next.3 }
+width_to made (suc k) id (nodes.Var number width, w) h e = let next = comes_next made id.0 (nodes.Var number width, w) e in
+    record { some = next.2; most = next.3 }
 width_to {terms} made (suc k) id (nodes.Op op parts, w) h e =
     let m = is_made made id.0 op parts w e in
     let d : Term = (nodes.Op op parts, w) in
@@ -157,15 +176,18 @@ abbrev Marked : List Bool → TermId → Type 0
 Marked marks id = is_marked marks id ≡ true
 
 -- each part has its word
-part_word : {terms : List Term} {marks : List Bool} {n : ℕ} {set : ClauseSet} {lists : List (List ℤ)} {names : List BitName} → IsState terms marks n set lists names → (p : TermId) → p.0 < n → Marked marks p →
+part_word : {terms : List Term} {marks : List Bool} {n : ℕ} {set : ClauseSet} {lists : List (List ℤ)} {names : List BitName}
+    → IsState terms marks n set lists names → (p : TermId) → p.0 < n → Marked marks p →
     IsWordOf terms set names p (word_at lists p)
 part_word state p below marked = state.each p below marked
 
 both : (P Q : TermId → Type 0) (ids : List TermId) → All P ids → All Q ids → All (λ id. P id × Q id) ids
 both P Q ids p q = λ k d h. (p k d h, q k d h)
 
-module _ {terms : List Term} (made : AreTerms terms) {marks : List Bool} {n : ℕ} {set : ClauseSet} {lists : List (List ℤ)} {names : List BitName} (state : IsState terms marks n set lists names)
-    (id : TermId) (at : id.0 ≡ n) (op : Op) (parts : Parts) (w : ℕ) (here : slice_get terms id.0 ≡ Some (nodes.Op op parts, w)) (closed : All (Marked marks) (listed parts)) where
+module _ {terms : List Term} (made : AreTerms terms) {marks : List Bool} {n : ℕ} {set : ClauseSet} {lists : List (List ℤ)} {names : List BitName}
+    (state : IsState terms marks n set lists names)
+    (id : TermId) (at : id.0 ≡ n) (op : Op) (parts : Parts) (w : ℕ) (here : slice_get terms id.0 ≡ Some (nodes.Op op parts, w))
+    (closed : All (Marked marks) (listed parts)) where
   abbrev IsPart : TermId → Type 0
   IsPart p = (p.0 < id.0) × Marked marks p
 
@@ -208,22 +230,27 @@ module _ {terms : List Term} (made : AreTerms terms) {marks : List Bool} {n : �
   }
 
   -- and no more literals were added than the term costs
-  pub operation_cost_within : (new : ClauseSet) (word : List ℤ) → MakesOperation set new lists op (listed parts) word → literals new ≤ literals set + (entry_cost terms (slice_get terms id.0) - 130)
+  pub operation_cost_within : (new : ClauseSet) (word : List ℤ) → MakesOperation set new lists op (listed parts) word
+      → literals new ≤ literals set + (entry_cost terms (slice_get terms id.0) - 130)
   operation_cost_within new word makes =
-      let cost_is : entry_cost terms (slice_get terms id.0) ≡ operation_cost op (greatest (w ∷ map (width_at terms) (listed parts))) = ap (entry_cost terms) here in
+      let cost_is : entry_cost terms (slice_get terms id.0) ≡ operation_cost op (greatest (w ∷ map (width_at terms) (listed parts))) =
+      ap (entry_cost terms) here in
       let le : operation_cost op (greatest (map (part_width lists) (listed parts))) ≤ operation_cost op (greatest (w ∷ map (width_at terms) (listed parts))) =
-      cost_grows op (greatest (map (part_width lists) (listed parts))) (greatest (w ∷ map (width_at terms) (listed parts))) (omega (arith, ap greatest same_widths)) in
+      cost_grows op (greatest (map (part_width lists) (listed parts))) (greatest (w ∷ map (width_at terms) (listed parts)))
+      (omega (arith, ap greatest same_widths)) in
       omega (arith, makes.builds.literals, cost_is, le)
 
 -- ---- one more term
 
 -- the words of the terms before stay where clauses are added
-pub agree_before : (v : List Bool) (terms : List Term) (words : List Word) (names more : List BitName) → Agree v terms words (names ++ more) → Agree v terms words names
+pub agree_before : (v : List Bool) (terms : List Term) (words : List Word) (names more : List BitName) → Agree v terms words (names ++ more)
+    → Agree v terms words names
 agree_before v terms words names more agree =
     λ k d h.
     subst (Agrees v terms words) (get_or_append_left names more d k h) (agree k d (omega (arith, h, length-append names more)))
 
-later_word : (terms : List Term) (set new : ClauseSet) (names more : List BitName) (cost : ℕ) (id : TermId) (word : List ℤ) → set.variables ≤ new.variables → ((v : List Bool) → Holds v new → Holds v set) →
+later_word : (terms : List Term) (set new : ClauseSet) (names more : List BitName) (cost : ℕ) (id : TermId) (word : List ℤ)
+    → set.variables ≤ new.variables → ((v : List Bool) → Holds v new → Holds v set) →
     IsWordOf terms set names id word → IsWordOf terms new (names ++ more) id word
 later_word terms set new names more cost id word le weaker is = record {
   over = λ k d h. let at = is.over k d h in omega (arith, at, le);
@@ -232,11 +259,15 @@ later_word terms set new names more cost id word le weaker is = record {
 }
 
 -- what holds of each of the terms so far, and of this one
-pub more_state : (terms : List Term) (marks : List Bool) (n : ℕ) (set new : ClauseSet) (lists : List (List ℤ)) (names more : List BitName) (word : List ℤ) (id : TermId) → id.0 ≡ n → IsState terms marks n set lists names →
-    set.variables ≤ new.variables → ((v : List Bool) → Holds v new → Holds v set) → AreNames terms new.variables (names ++ more) → All (λ name. name.0.0 < n + 1) (names ++ more) →
-    ((words : List Word) → Assigns words terms → (v : List Bool) × IsModel v new × Agree v terms words (names ++ more)) → (is_marked marks id ≡ true → IsWordOf terms new (names ++ more) id word) →
+pub more_state : (terms : List Term) (marks : List Bool) (n : ℕ) (set new : ClauseSet) (lists : List (List ℤ)) (names more : List BitName)
+    (word : List ℤ) (id : TermId) → id.0 ≡ n → IsState terms marks n set lists names →
+    set.variables ≤ new.variables → ((v : List Bool) → Holds v new → Holds v set) → AreNames terms new.variables (names ++ more)
+    → All (λ name. name.0.0 < n + 1) (names ++ more) →
+    ((words : List Word) → Assigns words terms → (v : List Bool) × IsModel v new × Agree v terms words (names ++ more))
+    → (is_marked marks id ≡ true → IsWordOf terms new (names ++ more) id word) →
     (is_marked marks id ≡ true → IsVariable terms id → (k : ℕ) → k < width_at terms id → (l : ℤ) × Contains (names ++ more) (id, k, l)) →
-    literals new ≤ literals set + cond (is_marked marks id) (entry_cost terms (slice_get terms n) - 130) 0 → IsState terms marks (n + 1) new (lists ++ word ∷ []) (names ++ more)
+    literals new ≤ literals set + cond (is_marked marks id) (entry_cost terms (slice_get terms n) - 130) 0
+    → IsState terms marks (n + 1) new (lists ++ word ∷ []) (names ++ more)
 more_state terms marks n set new lists names more word id at state le weaker names_ok low models here whole cost = record {
   count = length-append lists (word ∷ []) ∙ omega (arith, state.count);
   each = λ x below marked.
@@ -246,7 +277,8 @@ more_state terms marks n set new lists names more word id at state le weaker nam
             (later_word terms set new names more 0 x (word_at lists x) le weaker (state.each x earlier marked))
         | inr later ↦
             let x_is : x ≡ id = (let e : x.0 ≡ id.0 = omega (arith, below, later, at) in (λ j. record { 0 = e j })) in
-            let last : word_at (lists ++ word ∷ []) id ≡ word = ap (λ k. get_or (lists ++ word ∷ []) k []) (at ∙ sym state.count) ∙ get_or-append_seam lists word [] [] in
+            let last : word_at (lists ++ word ∷ []) id ≡ word = ap (λ k. get_or (lists ++ word ∷ []) k []) (at ∙ sym state.count)
+            ∙ get_or-append_seam lists word [] [] in
             subst (λ y. IsWordOf terms new (names ++ more) y (word_at (lists ++ word ∷ []) y)) (sym x_is)
             (subst (IsWordOf terms new (names ++ more) id) (sym last) (here (ap (is_marked marks) (sym x_is) ∙ marked)))
       ];
@@ -263,6 +295,7 @@ more_state terms marks n set new lists names more word id at state le weaker nam
   models = models;
   added =
       let e : added_to terms marks (n + 1) ≡ added_to terms marks n + cond (is_marked marks id) (entry_cost terms (slice_get terms n) - 130) 0 =
-      ap (added_to terms marks) (add-one n) ∙ ap (λ k. added_to terms marks n + cond (get_or marks k false) (entry_cost terms (slice_get terms n) - 130) 0) (sym at) in
+      ap (added_to terms marks) (add-one n)
+      ∙ ap (λ k. added_to terms marks n + cond (get_or marks k false) (entry_cost terms (slice_get terms n) - 130) 0) (sym at) in
       omega (arith, e, cost, state.added);
 }

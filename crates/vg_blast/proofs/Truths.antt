@@ -1,5 +1,6 @@
 -- The truth of literals and clauses under values, and under more values.
-use Rattle.std.proofs.Common.{◌≡◌, ℕ, zero, suc, ◌+◌, ◌<◌, List, [], ◌∷◌, ◌++◌, length, Bool, true, false, refl, sym, ap, subst, ◌∙◌, inl, inr, arith, add-one, All}
+use Rattle.std.proofs.Common.{◌≡◌, ℕ, zero, suc, ◌+◌, ◌<◌, List, [], ◌∷◌, ◌++◌, length, Bool, true, false, refl, sym, ap, subst, ◌∙◌, inl, inr, arith}
+use Rattle.std.proofs.Common.{add-one, All}
 use Rattle.std.specs.Prelude.{ℤ, pos, negsuc, neg_ℤ, unsigned_abs, not, ◌&&◌, ◌||◌, slice_index_or}
 use Rattle.std.specs.List.{list_all}
 use Rattle.std.specs.Ordering.{int_eq}
@@ -31,7 +32,8 @@ holds_true v (x ∷ c) k h t =
       | inr other ↦ or_right (truth v x) (makes_true v c) (holds_true v c k (sym (ap (λ b. b || holds c k) other) ∙ h) t)
     ]
 
-none_opposite : (v : List Bool) (n : ℕ) (whole c : List ℤ) → All (IsOver n) c → makes_true v whole ≡ false → makes_true v c ≡ false → list_all (λ l. not (holds whole (neg_ℤ l))) c ≡ true
+none_opposite : (v : List Bool) (n : ℕ) (whole c : List ℤ) → All (IsOver n) c → makes_true v whole ≡ false → makes_true v c ≡ false
+    → list_all (λ l. not (holds whole (neg_ℤ l))) c ≡ true
 none_opposite v n whole [] over f e = refl
 none_opposite v n whole (l ∷ c) over f e =
     let falses = or_parts (truth v l) (makes_true v c) e in
@@ -61,12 +63,15 @@ makes_true_more v more [] over = refl
 makes_true_more v more (l ∷ c) over =
     (λ j. truth_more v more l (All-head (IsOver (length v)) l c over) j || makes_true_more v more c (All-tail (IsOver (length v)) l c over) j)
 
-all_true_more : (v more : List Bool) (clauses : List (List ℤ)) → All (IsClauseOver (length v)) clauses → makes_all_true (v ++ more) clauses ≡ makes_all_true v clauses
+all_true_more : (v more : List Bool) (clauses : List (List ℤ)) → All (IsClauseOver (length v)) clauses
+    → makes_all_true (v ++ more) clauses ≡ makes_all_true v clauses
 all_true_more v more [] over = refl
 all_true_more v more (c ∷ clauses) over =
-    (λ j. makes_true_more v more c (All-head (IsClauseOver (length v)) c clauses over).over j && all_true_more v more clauses (All-tail (IsClauseOver (length v)) c clauses over) j)
+    (λ j. makes_true_more v more c (All-head (IsClauseOver (length v)) c clauses over).over j && all_true_more v more clauses
+    (All-tail (IsClauseOver (length v)) c clauses over) j)
 
-pub holds_more : (v more : List Bool) (set : ClauseSet) → length v ≡ set.variables → All (IsClauseOver set.variables) set.clauses → Holds v set → Holds (v ++ more) set
+pub holds_more : (v more : List Bool) (set : ClauseSet) → length v ≡ set.variables → All (IsClauseOver set.variables) set.clauses → Holds v set
+    → Holds (v ++ more) set
 holds_more v more set long over h = all_true_more v more set.clauses (subst (λ n. All (IsClauseOver n) set.clauses) (sym long) over) ∙ h
 
 -- the value of a new variable

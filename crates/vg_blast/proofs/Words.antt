@@ -1,5 +1,6 @@
 -- Loops over the bits of words: what one more bit does.
-use Rattle.std.proofs.Common.{◌≡◌, ℕ, zero, suc, ◌+◌, ◌*◌, ◌/◌, ◌%◌, ◌^◌, ◌<◌, ◌≤◌, List, [], ◌∷◌, ◌++◌, length, take, get_or, Bool, true, false, cond, refl, sym, ap, subst, ◌∙◌, inl, inr, arith, lt-ltb, le-ltb, eq-eqb, length-append}
+use Rattle.std.proofs.Common.{◌≡◌, ℕ, zero, suc, ◌+◌, ◌*◌, ◌/◌, ◌%◌, ◌^◌, ◌<◌, ◌≤◌, List, [], ◌∷◌, ◌++◌, length, take, get_or, Bool, true, false}
+use Rattle.std.proofs.Common.{cond, refl, sym, ap, subst, ◌∙◌, inl, inr, arith, lt-ltb, le-ltb, eq-eqb, length-append}
 use Rattle.std.specs.Prelude.{ℤ, neg_ℤ, not, ◌&&◌, ◌||◌, nat_lt, nat_eq, bit_and, bit_or, bit_xor}
 use Rattle.std.proofs.lemmas.Bool.{cases_lt, ne_eqb}
 use Rattle.std.proofs.lemmas.Bool.Decides.{eqb_tells}
@@ -19,7 +20,8 @@ use Rattle.vg_blast.proofs.Numbers.{number-push, number-more, number-below, pow_
 
 -- ---- one more bit of a word
 
-pub word_more : (old mid new : ClauseSet) (m n cost : ℕ) (out : List ℤ) (l : ℤ) (w : ℕ) (f g : List Bool → ℕ) (h : List Bool → Bool) → MakesWord old mid m out w f → MakesBit mid new n l h → m + n ≤ cost →
+pub word_more : (old mid new : ClauseSet) (m n cost : ℕ) (out : List ℤ) (l : ℤ) (w : ℕ) (f g : List Bool → ℕ) (h : List Bool → Bool)
+    → MakesWord old mid m out w f → MakesBit mid new n l h → m + n ≤ cost →
     ((v : List Bool) → f v + 2 ^ w * bit (h v) ≡ g v) → MakesWord old new cost (out ++ l ∷ []) (w + 1) g
 word_more old mid new m n cost out l w f g h word one le step = record {
   builds = chained old mid new m n cost word.builds one.builds le;
@@ -53,7 +55,8 @@ bits_xor false false = refl
 turned : (p x a : ℕ) → a + p * x ≡ x * p + a
 turned p x a = omega arith
 
-by_more : (op : Bitwise) (x y : Bool) (k a b : ℕ) → a < 2 ^ k → b < 2 ^ k → number_by op a b + 2 ^ k * bit (bit_by op x y) ≡ number_by op (a + 2 ^ k * bit x) (b + 2 ^ k * bit y)
+by_more : (op : Bitwise) (x y : Bool) (k a b : ℕ) → a < 2 ^ k → b < 2 ^ k → number_by op a b + 2 ^ k * bit (bit_by op x y) ≡ number_by op
+    (a + 2 ^ k * bit x) (b + 2 ^ k * bit y)
 by_more And x y k a b p q =
     turned (2 ^ k) (bit (x && y)) (bit_and a b)
     ∙ ap (λ n. n * 2 ^ k + bit_and a b) (sym (bits_and x y))
@@ -70,11 +73,14 @@ by_more Xor x y k a b p q =
     ∙ sym (xor_block k (bit x) (bit y) a b p q)
     ∙ sym (λ j. bit_xor (turned (2 ^ k) (bit x) a j) (turned (2 ^ k) (bit y) b j))
 
-pub bitwise_more : (old mid new : ClauseSet) (op : Bitwise) (a b out : List ℤ) (x y l : ℤ) (i : ℕ) → i < length a → i < length b → x ≡ get_or a i x → y ≡ get_or b i y →
-    MakesWord old mid (12 * i) out i (λ v. number_by op (number v (take i a)) (number v (take i b))) → MakesBit mid new 12 l (λ v. bit_by op (truth v x) (truth v y)) →
+pub bitwise_more : (old mid new : ClauseSet) (op : Bitwise) (a b out : List ℤ) (x y l : ℤ) (i : ℕ) → i < length a → i < length b → x ≡ get_or a i x
+    → y ≡ get_or b i y →
+    MakesWord old mid (12 * i) out i (λ v. number_by op (number v (take i a)) (number v (take i b)))
+    → MakesBit mid new 12 l (λ v. bit_by op (truth v x) (truth v y)) →
     MakesWord old new (12 * (i + 1)) (out ++ l ∷ []) (i + 1) (λ v. number_by op (number v (take (i + 1) a)) (number v (take (i + 1) b)))
 bitwise_more old mid new op a b out x y l i p q is_x is_y word one =
-    word_more old mid new (12 * i) 12 (12 * (i + 1)) out l i (λ v. number_by op (number v (take i a)) (number v (take i b))) (λ v. number_by op (number v (take (i + 1) a)) (number v (take (i + 1) b)))
+    word_more old mid new (12 * i) 12 (12 * (i + 1)) out l i (λ v. number_by op (number v (take i a)) (number v (take i b)))
+    (λ v. number_by op (number v (take (i + 1) a)) (number v (take (i + 1) b)))
     (λ v. bit_by op (truth v x) (truth v y)) word one (omega arith)
     (λ v.
     by_more op (truth v x) (truth v y) i (number v (take i a)) (number v (take i b)) (low_below v a i (omega (arith, p))) (low_below v b i (omega (arith, q)))
@@ -87,7 +93,8 @@ chosen_more true x y p a b = refl
 chosen_more false x y p a b = refl
 
 pub choice_more : (old mid new : ClauseSet) (c : ℤ) (a b out : List ℤ) (x y l : ℤ) (i : ℕ) → i < length a → i < length b → x ≡ get_or a i x → y ≡ get_or b i y →
-    MakesWord old mid (36 * i) out i (λ v. cond (truth v c) (number v (take i a)) (number v (take i b))) → MakesBit mid new 36 l (λ v. choose (truth v c) (truth v x) (truth v y)) →
+    MakesWord old mid (36 * i) out i (λ v. cond (truth v c) (number v (take i a)) (number v (take i b)))
+    → MakesBit mid new 36 l (λ v. choose (truth v c) (truth v x) (truth v y)) →
     MakesWord old new (36 * (i + 1)) (out ++ l ∷ []) (i + 1) (λ v. cond (truth v c) (number v (take (i + 1) a)) (number v (take (i + 1) b)))
 choice_more old mid new c a b out x y l i p q is_x is_y word one =
     word_more old mid new (36 * i) 36 (36 * (i + 1)) out l i (λ v. cond (truth v c) (number v (take i a)) (number v (take i b)))
@@ -107,13 +114,22 @@ and_false true = refl
 and_false false = refl
 
 less_more : (x y : Bool) (a b p c d : ℕ) → a < p → b < p → c ≡ a + p * bit x → d ≡ b + p * bit y → borrow x y (nat_lt a b) ≡ nat_lt c d
-less_more true true a b p c d h k e f = elim (cases_lt a b) [ inl l ↦ lt-ltb a b l ∙ sym (lt-ltb c d (omega arith)) | inr g ↦ le-ltb a b g ∙ sym (le-ltb c d (omega arith)) ]
+less_more true true a b p c d h k e f = elim (cases_lt a b) [
+  | inl l ↦ lt-ltb a b l ∙ sym (lt-ltb c d (omega arith))
+  | inr g ↦ le-ltb a b g
+      ∙ sym (le-ltb c d (omega arith))
+]
 less_more true false a b p c d h k e f = sym (le-ltb c d (omega arith))
 less_more false true a b p c d h k e f = sym (lt-ltb c d (omega arith))
-less_more false false a b p c d h k e f = elim (cases_lt a b) [ inl l ↦ lt-ltb a b l ∙ sym (lt-ltb c d (omega arith)) | inr g ↦ le-ltb a b g ∙ sym (le-ltb c d (omega arith)) ]
+less_more false false a b p c d h k e f = elim (cases_lt a b) [
+  | inl l ↦ lt-ltb a b l ∙ sym (lt-ltb c d (omega arith))
+  | inr g ↦ le-ltb a b g
+      ∙ sym (le-ltb c d (omega arith))
+]
 
 pub less_than_more : (old mid new : ClauseSet) (a b : List ℤ) (x y l next : ℤ) (i : ℕ) → i < length a → i < length b → x ≡ get_or a i x → y ≡ get_or b i y →
-    MakesBit old mid (48 * i) l (λ v. nat_lt (number v (take i a)) (number v (take i b))) → MakesBit mid new 48 next (λ v. borrow (truth v x) (truth v y) (truth v l)) →
+    MakesBit old mid (48 * i) l (λ v. nat_lt (number v (take i a)) (number v (take i b))) → MakesBit mid new 48 next
+    (λ v. borrow (truth v x) (truth v y) (truth v l)) →
     MakesBit old new (48 * (i + 1)) next (λ v. nat_lt (number v (take (i + 1) a)) (number v (take (i + 1) b)))
 less_than_more old mid new a b x y l next i p q is_x is_y so_far one = record {
   builds = chained old mid new (48 * i) 48 (48 * (i + 1)) so_far.builds one.builds (omega arith);
@@ -121,7 +137,8 @@ less_than_more old mid new a b x y l next i p q is_x is_y so_far one = record {
   is = λ v h.
       one.is v h
       ∙ ap (borrow (truth v x) (truth v y)) (so_far.is v (one.builds.weaker v h))
-      ∙ less_more (truth v x) (truth v y) (number v (take i a)) (number v (take i b)) (2 ^ i) (number v (take (i + 1) a)) (number v (take (i + 1) b)) (low_below v a i (omega (arith, p))) (low_below v b i (omega (arith, q)))
+      ∙ less_more (truth v x) (truth v y) (number v (take i a)) (number v (take i b)) (2 ^ i) (number v (take (i + 1) a)) (number v (take (i + 1) b))
+      (low_below v a i (omega (arith, p))) (low_below v b i (omega (arith, q)))
       (number-more v a i x p is_x) (number-more v b i y q is_y);
 }
 
@@ -134,9 +151,12 @@ equal_more true false a b p c d h k e f = and_false (nat_eq a b) ∙ sym (ne_eqb
 equal_more false true a b p c d h k e f = and_false (nat_eq a b) ∙ sym (ne_eqb c d (λ s. let none : ⊥ = omega arith in none))
 equal_more false false a b p c d h k e f = and_true (nat_eq a b) ∙ same_as a b c d (λ s. omega arith) (λ s. omega arith)
 
-pub equals_more : (old mid s new : ClauseSet) (a b : List ℤ) (x y l one n next : ℤ) (i : ℕ) → i < length a → i < length b → x ≡ get_or a i x → y ≡ get_or b i y →
-    MakesBit old mid (24 * i) l (λ v. nat_eq (number v (take i a)) (number v (take i b))) → MakesBit mid s 12 one (λ v. differ (truth v x) (truth v y)) → n ≡ neg_ℤ one →
-    MakesBit s new 12 next (λ v. truth v l && truth v n) → MakesBit old new (24 * (i + 1)) next (λ v. nat_eq (number v (take (i + 1) a)) (number v (take (i + 1) b)))
+pub equals_more : (old mid s new : ClauseSet) (a b : List ℤ) (x y l one n next : ℤ) (i : ℕ) → i < length a → i < length b → x ≡ get_or a i x
+    → y ≡ get_or b i y →
+    MakesBit old mid (24 * i) l (λ v. nat_eq (number v (take i a)) (number v (take i b))) → MakesBit mid s 12 one
+    (λ v. differ (truth v x) (truth v y)) → n ≡ neg_ℤ one →
+    MakesBit s new 12 next (λ v. truth v l && truth v n) → MakesBit old new (24 * (i + 1)) next
+    (λ v. nat_eq (number v (take (i + 1) a)) (number v (take (i + 1) b)))
 equals_more old mid s new a b x y l one n next i p q is_x is_y so_far other is last = record {
   builds = chained old mid new (24 * i) 24 (24 * (i + 1)) so_far.builds (chained mid s new 12 12 24 other.builds last.builds (omega arith)) (omega arith);
   over = last.over;
@@ -146,7 +166,8 @@ equals_more old mid s new a b x y l one n next i p q is_x is_y so_far other is l
       let negated : truth v n ≡ not (truth v one) = ap (truth v) is ∙ truth_neg v one other.over.0 in
       last.is v h
       ∙ (λ j. so_far.is v h1 j && (negated ∙ ap not (other.is v h2)) j)
-      ∙ equal_more (truth v x) (truth v y) (number v (take i a)) (number v (take i b)) (2 ^ i) (number v (take (i + 1) a)) (number v (take (i + 1) b)) (low_below v a i (omega (arith, p))) (low_below v b i (omega (arith, q)))
+      ∙ equal_more (truth v x) (truth v y) (number v (take i a)) (number v (take i b)) (2 ^ i) (number v (take (i + 1) a)) (number v (take (i + 1) b))
+      (low_below v a i (omega (arith, p))) (low_below v b i (omega (arith, q)))
       (number-more v a i x p is_x) (number-more v b i y q is_y);
 }
 
@@ -157,7 +178,8 @@ sum_step p o c a b x y s n e f =
     let g : p * (s + 2 * n) ≡ p * (x + y + c) = ap (λ m. p * m) f in
     omega arith
 
-pub sums_more : (old mid new : ClauseSet) (a b out : List ℤ) (carry x y l next : ℤ) (i : ℕ) → i < length a → i < length b → x ≡ get_or a i x → y ≡ get_or b i y →
+pub sums_more : (old mid new : ClauseSet) (a b out : List ℤ) (carry x y l next : ℤ) (i : ℕ) → i < length a → i < length b → x ≡ get_or a i x
+    → y ≡ get_or b i y →
     Sums old mid out carry a b i → AddsBits mid new l next x y carry → Sums old new (out ++ l ∷ []) next a b (i + 1)
 sums_more old mid new a b out carry x y l next i p q is_x is_y so_far one = record {
   builds = chained old mid new (72 * i) 72 (72 * (i + 1)) so_far.builds one.builds (omega arith);
@@ -165,9 +187,11 @@ sums_more old mid new a b out carry x y l next i p q is_x is_y so_far one = reco
   over_carry = one.over_next;
   width = length-append out (l ∷ []) ∙ omega (arith, so_far.width);
   is = λ v h.
-      let pushed : number v (out ++ l ∷ []) ≡ number v out + 2 ^ i * bit (truth v l) = number-push v out l ∙ ap (λ n. number v out + 2 ^ n * bit (truth v l)) so_far.width in
+      let pushed : number v (out ++ l ∷ []) ≡ number v out + 2 ^ i * bit (truth v l) = number-push v out l
+      ∙ ap (λ n. number v out + 2 ^ n * bit (truth v l)) so_far.width in
       (λ j. pushed j + pow_next i j * bit (truth v next))
-      ∙ sum_step (2 ^ i) (number v out) (bit (truth v carry)) (number v (take i a)) (number v (take i b)) (bit (truth v x)) (bit (truth v y)) (bit (truth v l)) (bit (truth v next)) (so_far.is v (one.builds.weaker v h)) (one.is v h)
+      ∙ sum_step (2 ^ i) (number v out) (bit (truth v carry)) (number v (take i a)) (number v (take i b)) (bit (truth v x)) (bit (truth v y))
+      (bit (truth v l)) (bit (truth v next)) (so_far.is v (one.builds.weaker v h)) (one.is v h)
       ∙ sym (λ j. number-more v a i x p is_x j + number-more v b i y q is_y j);
 }
 
@@ -176,7 +200,8 @@ difference_step p o c a b x y s n e f =
     let g : p * (s + y + c) ≡ p * (x + 2 * n) = ap (λ m. p * m) f in
     omega arith
 
-pub differs_more : (old mid new : ClauseSet) (a b out : List ℤ) (borrowed x y l next : ℤ) (i : ℕ) → i < length a → i < length b → x ≡ get_or a i x → y ≡ get_or b i y →
+pub differs_more : (old mid new : ClauseSet) (a b out : List ℤ) (borrowed x y l next : ℤ) (i : ℕ) → i < length a → i < length b → x ≡ get_or a i x
+    → y ≡ get_or b i y →
     Differs old mid out borrowed a b i → TakesBits mid new l next x y borrowed → Differs old new (out ++ l ∷ []) next a b (i + 1)
 differs_more old mid new a b out borrowed x y l next i p q is_x is_y so_far one = record {
   builds = chained old mid new (72 * i) 72 (72 * (i + 1)) so_far.builds one.builds (omega arith);
@@ -184,14 +209,17 @@ differs_more old mid new a b out borrowed x y l next i p q is_x is_y so_far one 
   over_borrowed = one.over_next;
   width = length-append out (l ∷ []) ∙ omega (arith, so_far.width);
   is = λ v h.
-      let pushed : number v (out ++ l ∷ []) ≡ number v out + 2 ^ i * bit (truth v l) = number-push v out l ∙ ap (λ n. number v out + 2 ^ n * bit (truth v l)) so_far.width in
+      let pushed : number v (out ++ l ∷ []) ≡ number v out + 2 ^ i * bit (truth v l) = number-push v out l
+      ∙ ap (λ n. number v out + 2 ^ n * bit (truth v l)) so_far.width in
       (λ j. pushed j + number-more v b i y q is_y j)
-      ∙ difference_step (2 ^ i) (number v out) (bit (truth v borrowed)) (number v (take i a)) (number v (take i b)) (bit (truth v x)) (bit (truth v y)) (bit (truth v l)) (bit (truth v next)) (so_far.is v (one.builds.weaker v h)) (one.is v h)
+      ∙ difference_step (2 ^ i) (number v out) (bit (truth v borrowed)) (number v (take i a)) (number v (take i b)) (bit (truth v x))
+      (bit (truth v y)) (bit (truth v l)) (bit (truth v next)) (so_far.is v (one.builds.weaker v h)) (one.is v h)
       ∙ sym (λ j. number-more v a i x p is_x j + pow_next i j * bit (truth v next));
 }
 
 -- the sum without its carry
-pub sum_made : (old new : ClauseSet) (out : List ℤ) (carry : ℤ) (a b : List ℤ) (i w : ℕ) → w ≡ length a → length a ≡ length b → w ≤ i → i ≤ w → Sums old new out carry a b i →
+pub sum_made : (old new : ClauseSet) (out : List ℤ) (carry : ℤ) (a b : List ℤ) (i w : ℕ) → w ≡ length a → length a ≡ length b → w ≤ i → i ≤ w
+    → Sums old new out carry a b i →
     MakesWord old new (72 * w) out w (λ v. (number v a + number v b) % 2 ^ w)
 sum_made old new out carry a b i w wide same h k sums =
     let e : i ≡ w = omega (arith, h, k) in
@@ -223,7 +251,8 @@ bit_of n set e =
       | inr zero_bit ↦ ap bit (e ∙ zero_bit.0) ∙ zero_of (n % 2) below zero_bit.1
     ]
 
-pub constant_more : (out : List ℤ) (i value : ℕ) (l : ℤ) (set : Bool) → IsConstant out i (value % 2 ^ i) → set ≡ nat_eq (value / 2 ^ i % 2) 1 → IsKnown l set → IsConstant (out ++ l ∷ []) (i + 1) (value % 2 ^ (i + 1))
+pub constant_more : (out : List ℤ) (i value : ℕ) (l : ℤ) (set : Bool) → IsConstant out i (value % 2 ^ i) → set ≡ nat_eq (value / 2 ^ i % 2) 1
+    → IsKnown l set → IsConstant (out ++ l ∷ []) (i + 1) (value % 2 ^ (i + 1))
 constant_more out i value l set so_far e known = record {
   width = length-append out (l ∷ []) ∙ omega (arith, so_far.width);
   over = λ n some. All-push (IsOver n) out l (so_far.over n some) (known.over n some);

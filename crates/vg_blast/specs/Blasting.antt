@@ -51,7 +51,8 @@ pub record IsBlasted (terms : List Term) (facts : List TermId) (set : ClauseSet)
   -- the entries name bits of variables, each once
   pub names_ok : AreNames terms set.variables names
   -- each bit of each variable under the facts has its entry
-  pub complete : (id : TermId) → is_reached terms facts id ≡ true → IsVariable terms id → (at : ℕ) → at < width_at terms id → (l : ℤ) × Contains names (id, at, l)
+  pub complete : (id : TermId) → is_reached terms facts id ≡ true → IsVariable terms id → (at : ℕ) → at < width_at terms id → (l : ℤ)
+      × Contains names (id, at, l)
   -- an assignment that makes every fact true gives a model that agrees with it: where the clauses have none, nothing makes the facts true
   pub sound : (words : List Word) → Assigns words terms → AreTrue terms words facts → (values : List Bool) × IsModel values set × Agree values terms words names
   -- and an assignment that agrees with a model makes every fact true

@@ -1,5 +1,6 @@
 -- A disjunction as the list of its parts. No public clause rests on this file.
-use Rattle.std.specs.Prelude.{◌≡◌, ℕ, ◌<◌, ◌≤◌, Bool, true, false, not, if◌then◌else◌, nat_eq, List, [], ◌∷◌, ◌++◌, length, slice_get, slice_set, slice_index_or, Option, Some, None, All}
+use Rattle.std.specs.Prelude.{◌≡◌, ℕ, ◌<◌, ◌≤◌, Bool, true, false, not, if◌then◌else◌, nat_eq, List, [], ◌∷◌, ◌++◌, length, slice_get, slice_set}
+use Rattle.std.specs.Prelude.{slice_index_or, Option, Some, None, All}
 use Rattle.vg_term.specs.Terms.{Term}
 use Rattle.vg_term.specs.declared.node.TermId.{TermId}
 use Rattle.vg_term.specs.declared.node.Op.TheVariants as ops
@@ -27,7 +28,8 @@ sides_of terms part = sides_in part.negated (slice_get terms part.term.0)
 -- the term alone, and each list that has the two parts of a disjunction in its place
 pub data SplitsInto (terms : List Term) (id : TermId) : List Part → Type 0 where
   alone : SplitsInto terms id (part_of terms false id ∷ [])
-  apart : (list : List Part) (at : ℕ) (x : Part) (a b : TermId) → SplitsInto terms id list → at < length list → slice_index_or list at x ≡ x → sides_of terms x ≡ Some (a, b) →
+  apart : (list : List Part) (at : ℕ) (x : Part) (a b : TermId) → SplitsInto terms id list → at < length list → slice_index_or list at x ≡ x
+      → sides_of terms x ≡ Some (a, b) →
       SplitsInto terms id (slice_set list at (part_of terms x.negated a) ++ part_of terms x.negated b ∷ [])
 
 -- the parts of a term as a disjunction: none is a disjunction itself, unless there are as many as there may be

@@ -1,5 +1,6 @@
 -- The facts as clauses. No public clause rests on this file.
-use Rattle.std.specs.Prelude.{◌≡◌, ℕ, zero, suc, ◌+◌, ◌<◌, ◌≤◌, ℤ, pos, neg_ℤ, Bool, true, false, ◌&&◌, if◌then◌else◌, List, [], ◌∷◌, map, length, slice_index_or, All}
+use Rattle.std.specs.Prelude.{◌≡◌, ℕ, zero, suc, ◌+◌, ◌<◌, ◌≤◌, ℤ, pos, neg_ℤ, Bool, true, false, ◌&&◌, if◌then◌else◌, List, [], ◌∷◌, map, length}
+use Rattle.std.specs.Prelude.{slice_index_or, All}
 use Rattle.vg_bits.specs.declared.word.Word.{Word}
 use Rattle.vg_cnf.specs.Clauses.{ClauseSet, IsOver}
 use Rattle.vg_term.specs.Terms.{Term}
@@ -59,7 +60,8 @@ required_to asserted (suc n) = required_to asserted n + (if is_marked asserted (
 pub record Requires (terms : List Term) (names : List BitName) (asserted : List Bool) (n : ℕ) (old new : ClauseSet) : Type 0 where
   pub variables : new.variables ≡ old.variables
   pub weaker : (v : List Bool) → Holds v new → Holds v old
-  pub sound : (words : List Word) (v : List Bool) → Assigns words terms → Agree v terms words names → Holds v new → (id : TermId) → id.0 < n → is_marked asserted id && is_leaf terms id ≡ true → value_of terms words id ≡ 1
+  pub sound : (words : List Word) (v : List Bool) → Assigns words terms → Agree v terms words names → Holds v new → (id : TermId) → id.0 < n
+      → is_marked asserted id && is_leaf terms id ≡ true → value_of terms words id ≡ 1
   pub held : (words : List Word) (v : List Bool) → Assigns words terms → Agree v terms words names → Holds v old →
       ((id : TermId) → id.0 < n → is_marked asserted id && is_leaf terms id ≡ true → value_of terms words id ≡ 1) → Holds v new
   pub literals : literals new ≤ literals old + required_to asserted n

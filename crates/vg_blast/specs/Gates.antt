@@ -37,4 +37,5 @@ pub record Folds (a b out : ℤ) (f : Bool → Bool → Bool) : Type 0 where
 -- where one literal tells whether just one of two variables is true, the other tells it of two literals
 pub record HasSigns (a b out signed : ℤ) : Type 0 where
   pub over : (n : ℕ) → IsOver n out → IsOver n signed
-  pub is : (v : List Bool) → truth v out ≡ differ (truth v (pos (unsigned_abs a))) (truth v (pos (unsigned_abs b))) → truth v signed ≡ differ (truth v a) (truth v b)
+  pub is : (v : List Bool) → truth v out ≡ differ (truth v (pos (unsigned_abs a))) (truth v (pos (unsigned_abs b)))
+      → truth v signed ≡ differ (truth v a) (truth v b)

@@ -1,5 +1,6 @@
 -- Marks on terms that are followed down from some. No public clause rests on this file.
-use Rattle.std.specs.Prelude.{◌≡◌, ℕ, ◌<◌, Bool, true, false, if◌then◌else◌, nat_eq, List, [], ◌∷◌, length, slice_get, slice_set, slice_index_or, Option, Some, All, Contains}
+use Rattle.std.specs.Prelude.{◌≡◌, ℕ, ◌<◌, Bool, true, false, if◌then◌else◌, nat_eq, List, [], ◌∷◌, length, slice_get, slice_set, slice_index_or}
+use Rattle.std.specs.Prelude.{Option, Some, All, Contains}
 use Rattle.vg_term.specs.Terms.{Term, listed}
 use Rattle.vg_term.specs.declared.node.TermId.{TermId}
 use Rattle.vg_term.specs.declared.node.Op.TheVariants as ops

@@ -1,5 +1,6 @@
 -- Clauses for the terms up to a number. No public clause rests on this file.
-use Rattle.std.specs.Prelude.{◌≡◌, ℕ, zero, suc, ◌+◌, ◌-◌, ◌<◌, ◌≤◌, ℤ, pos, Bool, true, if◌then◌else◌, List, [], ◌∷◌, ◌++◌, map, length, slice_get, slice_index_or, All, Contains}
+use Rattle.std.specs.Prelude.{◌≡◌, ℕ, zero, suc, ◌+◌, ◌-◌, ◌<◌, ◌≤◌, ℤ, pos, Bool, true, if◌then◌else◌, List, [], ◌∷◌, ◌++◌, map, length, slice_get}
+use Rattle.std.specs.Prelude.{slice_index_or, All, Contains}
 use Rattle.vg_bits.specs.declared.word.Word.{Word}
 use Rattle.vg_cnf.specs.Clauses.{ClauseSet, IsOver, IsModel}
 use Rattle.vg_term.specs.Operations.{Bits, Fits, answer, width_of}
@@ -77,6 +78,7 @@ pub record IsState (terms : List Term) (marks : List Bool) (n : ℕ) (set : Clau
   pub each : (id : TermId) → id.0 < n → is_marked marks id ≡ true → IsWordOf terms set names id (word_at lists id)
   pub names_ok : AreNames terms set.variables names
   pub low : All (λ name. name.0.0 < n) names
-  pub complete : (id : TermId) → id.0 < n → is_marked marks id ≡ true → IsVariable terms id → (at : ℕ) → at < width_at terms id → (l : ℤ) × Contains names (id, at, l)
+  pub complete : (id : TermId) → id.0 < n → is_marked marks id ≡ true → IsVariable terms id → (at : ℕ) → at < width_at terms id → (l : ℤ)
+      × Contains names (id, at, l)
   pub models : (words : List Word) → Assigns words terms → (v : List Bool) × IsModel v set × Agree v terms words names
   pub added : literals set ≤ 1 + added_to terms marks n

@@ -29,7 +29,8 @@ pub(crate) fn sum(
 ) -> Result<Vec<Lit>, AllocError>
     requires same { length a.now ≡ length b.now }
     requires over { All (IsOver gates.old.variables) a.now × All (IsOver gates.old.variables) b.now }
-    ensures { IfOk result (λ out. MakesWord gates.old gates.new (72 * length a.now) out.items (length a.now) (λ v. (number v a.now + number v b.now) % 2 ^ length a.now)) }
+    ensures { IfOk result (λ out. MakesWord gates.old gates.new (72 * length a.now) out.items (length a.now)
+        (λ v. (number v a.now + number v b.now) % 2 ^ length a.now)) }
 {
     let mut out = Vec::new(alloc);
     let mut carry = gates.falsity();

@@ -42,7 +42,8 @@ pub(crate) fn bit_by_bit(
 ) -> Result<Vec<Lit>, AllocError>
     requires same { length a.now ≡ length b.now }
     requires over { All (IsOver gates.old.variables) a.now × All (IsOver gates.old.variables) b.now }
-    ensures { IfOk result (λ out. MakesWord gates.old gates.new (12 * length a.now) out.items (length a.now) (λ v. number_by op (number v a.now) (number v b.now))) }
+    ensures { IfOk result (λ out. MakesWord gates.old gates.new (12 * length a.now) out.items (length a.now)
+        (λ v. number_by op (number v a.now) (number v b.now))) }
 {
     let mut out = Vec::new(alloc);
     for at in 0..a.len() {

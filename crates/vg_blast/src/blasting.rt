@@ -18,7 +18,8 @@ use vg_term::{TermId, Terms};
 pub struct Blasted {
     /// The clauses. They have a model exactly where some assignment makes every fact true.
     pub clauses: Clauses,
-    /// For each bit of each variable under the facts: the variable's term, the bit's number, counted from the lowest, and the literal that says that the bit is 1.
+    /// For each bit of each variable under the facts: the variable's term, the bit's number, counted from the lowest, and the literal that says that
+    /// the bit is 1.
     pub bits: Vec<(TermId, u8, Lit)>,
 }
 

@@ -47,7 +47,8 @@ pub(crate) fn choice(
 ) -> Result<Vec<Lit>, AllocError>
     requires same { length a.now ≡ length b.now }
     requires over { IsOver gates.old.variables condition × All (IsOver gates.old.variables) a.now × All (IsOver gates.old.variables) b.now }
-    ensures { IfOk result (λ out. MakesWord gates.old gates.new (36 * length a.now) out.items (length a.now) (λ v. if truth v condition then number v a.now else number v b.now)) }
+    ensures { IfOk result (λ out. MakesWord gates.old gates.new (36 * length a.now) out.items (length a.now)
+        (λ v. if truth v condition then number v a.now else number v b.now)) }
 {
     let mut out = Vec::new(alloc);
     for at in 0..a.len() {

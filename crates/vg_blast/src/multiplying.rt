@@ -22,7 +22,8 @@ fn row(
 ) -> Result<Vec<Lit>, AllocError>
     requires within { by ≤ length b.now }
     requires over { All (IsOver gates.old.variables) b.now × IsOver gates.old.variables bit }
-    ensures { IfOk result (λ out. MakesWord gates.old gates.new (36 * length b.now) out.items (length b.now) (λ v. if truth v bit then (number v b.now * 2 ^ by) % 2 ^ length b.now else 0)) }
+    ensures { IfOk result (λ out. MakesWord gates.old gates.new (36 * length b.now) out.items (length b.now)
+        (λ v. if truth v bit then (number v b.now * 2 ^ by) % 2 ^ length b.now else 0)) }
 {
     let falsity = gates.falsity();
     let moved = moved_left(alloc, b, falsity, by)?;
@@ -39,7 +40,8 @@ pub(crate) fn product(
 ) -> Result<Vec<Lit>, AllocError>
     requires same { length a.now ≡ length b.now }
     requires over { All (IsOver gates.old.variables) a.now × All (IsOver gates.old.variables) b.now }
-    ensures { IfOk result (λ out. MakesWord gates.old gates.new (108 * length a.now * length a.now) out.items (length a.now) (λ v. (number v a.now * number v b.now) % 2 ^ length a.now)) }
+    ensures { IfOk result (λ out. MakesWord gates.old gates.new (108 * length a.now * length a.now) out.items (length a.now)
+        (λ v. (number v a.now * number v b.now) % 2 ^ length a.now)) }
 {
     let mut product = repeated(alloc, gates.falsity(), a.len())?;
     for at in 0..a.len() {

@@ -3,7 +3,8 @@
 ghost use Rattle.std.specs.Prelude.{◌≡◌, ◌≢◌, ◌<◌, ◌≤◌, ◌+◌, ◌-◌, ◌*◌, ◌∷◌, [], length, int_lt, All, IfOk};
 ghost use Rattle.vg_bits.specs.Words as words;
 ghost use Rattle.vg_term.specs.declared.node.Op.TheVariants as ops;
-ghost use Rattle.vg_term.specs.Operations.{FitsNone, FitsOne, FitsTwo, FitsThree, width_none, width_one, width_two, value_none, value_one, value_two, value_three};
+ghost use Rattle.vg_term.specs.Operations.{FitsNone, FitsOne, FitsTwo, FitsThree, width_none, width_one, width_two, value_none, value_one, value_two};
+ghost use Rattle.vg_term.specs.Operations.{value_three};
 ghost use Rattle.vg_cnf.specs.Clauses.{IsOver};
 ghost use Rattle.vg_blast.specs.Circuits.{MakesBit, MakesWord, number, bits_by};
 ghost use Rattle.vg_blast.specs.Cost.{operation_cost};
@@ -73,7 +74,8 @@ fn subtracted(
 ) -> Result<Vec<Lit>, AllocError>
     requires same { length a.now ≡ length b.now }
     requires over { All (IsOver gates.old.variables) a.now × All (IsOver gates.old.variables) b.now }
-    ensures { IfOk result (λ out. MakesWord gates.old gates.new (72 * length a.now) out.items (length a.now) (λ v. words.sub (length a.now) (number v a.now) (number v b.now))) }
+    ensures { IfOk result (λ out. MakesWord gates.old gates.new (72 * length a.now) out.items (length a.now)
+        (λ v. words.sub (length a.now) (number v a.now) (number v b.now))) }
 {
     let (out, _borrowed) = difference(alloc, gates, a, b)?;
     Ok(out)
@@ -83,7 +85,8 @@ fn subtracted(
 fn quotient(alloc: Global, gates: &mut Gates, a: &[Lit], b: &[Lit]) -> Result<Vec<Lit>, AllocError>
     requires same { length a.now ≡ length b.now }
     requires over { All (IsOver gates.old.variables) a.now × All (IsOver gates.old.variables) b.now }
-    ensures { IfOk result (λ out. MakesWord gates.old gates.new (180 * length a.now * length a.now) out.items (length a.now) (λ v. words.udiv (length a.now) (number v a.now) (number v b.now))) }
+    ensures { IfOk result (λ out. MakesWord gates.old gates.new (180 * length a.now * length a.now) out.items (length a.now)
+        (λ v. words.udiv (length a.now) (number v a.now) (number v b.now))) }
 {
     let (out, _remainder) = divided(alloc, gates, a, b)?;
     Ok(out)
@@ -93,7 +96,8 @@ fn quotient(alloc: Global, gates: &mut Gates, a: &[Lit], b: &[Lit]) -> Result<Ve
 fn remainder(alloc: Global, gates: &mut Gates, a: &[Lit], b: &[Lit]) -> Result<Vec<Lit>, AllocError>
     requires same { length a.now ≡ length b.now }
     requires over { All (IsOver gates.old.variables) a.now × All (IsOver gates.old.variables) b.now }
-    ensures { IfOk result (λ out. MakesWord gates.old gates.new (180 * length a.now * length a.now) out.items (length a.now) (λ v. words.urem (number v a.now) (number v b.now))) }
+    ensures { IfOk result (λ out. MakesWord gates.old gates.new (180 * length a.now * length a.now) out.items (length a.now)
+        (λ v. words.urem (number v a.now) (number v b.now))) }
 {
     let (_quotient, out) = divided(alloc, gates, a, b)?;
     Ok(out)
@@ -109,7 +113,8 @@ fn logical_right(
     requires same { length a.now ≡ length by.now }
     requires at_most_64 { length a.now ≤ 64 }
     requires over { All (IsOver gates.old.variables) a.now × All (IsOver gates.old.variables) by.now }
-    ensures { IfOk result (λ out. MakesWord gates.old gates.new (36 * length a.now * (length a.now + 2)) out.items (length a.now) (λ v. words.lshr (number v a.now) (number v by.now))) }
+    ensures { IfOk result (λ out. MakesWord gates.old gates.new (36 * length a.now * (length a.now + 2)) out.items (length a.now)
+        (λ v. words.lshr (number v a.now) (number v by.now))) }
 {
     let falsity = gates.falsity();
     shifted_right(alloc, gates, a, by, falsity)
@@ -126,7 +131,8 @@ fn arithmetic_right(
     requires some { 0 < length a.now }
     requires at_most_64 { length a.now ≤ 64 }
     requires over { All (IsOver gates.old.variables) a.now × All (IsOver gates.old.variables) by.now }
-    ensures { IfOk result (λ out. MakesWord gates.old gates.new (36 * length a.now * (length a.now + 2)) out.items (length a.now) (λ v. words.ashr (length a.now) (number v a.now) (number v by.now))) }
+    ensures { IfOk result (λ out. MakesWord gates.old gates.new (36 * length a.now * (length a.now + 2)) out.items (length a.now)
+        (λ v. words.ashr (length a.now) (number v a.now) (number v by.now))) }
 {
     let sign = a[a.len() - 1];
     shifted_right(alloc, gates, a, by, sign)
@@ -137,7 +143,8 @@ fn less_signed(alloc: Global, gates: &mut Gates, a: &[Lit], b: &[Lit]) -> Result
     requires same { length a.now ≡ length b.now }
     requires some { 0 < length a.now }
     requires over { All (IsOver gates.old.variables) a.now × All (IsOver gates.old.variables) b.now }
-    ensures { IfOk result (λ out. MakesBit gates.old gates.new (48 * length a.now) out (λ v. int_lt (words.signed (length a.now) (number v a.now)) (words.signed (length a.now) (number v b.now)))) }
+    ensures { IfOk result (λ out. MakesBit gates.old gates.new (48 * length a.now) out (λ v. int_lt (words.signed (length a.now) (number v a.now))
+        (words.signed (length a.now) (number v b.now)))) }
 {
     let left = top_turned(alloc, a)?;
     let right = top_turned(alloc, b)?;
@@ -156,7 +163,8 @@ pub(crate) fn of_two(
     requires some { 0 < length a.now }
     requires at_most_64 { length a.now ≤ 64 }
     requires over { All (IsOver gates.old.variables) a.now × All (IsOver gates.old.variables) b.now }
-    ensures { IfOk result (λ out. MakesWord gates.old gates.new (operation_cost op (length a.now) - 130) out.items (width_two op (length a.now) (length b.now)) (λ v. value_two op (bits_by v a.now) (bits_by v b.now))) }
+    ensures { IfOk result (λ out. MakesWord gates.old gates.new (operation_cost op (length a.now) - 130) out.items
+        (width_two op (length a.now) (length b.now)) (λ v. value_two op (bits_by v a.now) (bits_by v b.now))) }
 {
     match op {
         Op::Concat => {
@@ -192,7 +200,8 @@ fn of_two_alike(
     requires some { 0 < length a.now }
     requires at_most_64 { length a.now ≤ 64 }
     requires over { All (IsOver gates.old.variables) a.now × All (IsOver gates.old.variables) b.now }
-    ensures { IfOk result (λ out. MakesWord gates.old gates.new (operation_cost op (length a.now) - 130) out.items (length a.now) (λ v. value_two op (bits_by v a.now) (bits_by v b.now))) }
+    ensures { IfOk result (λ out. MakesWord gates.old gates.new (operation_cost op (length a.now) - 130) out.items (length a.now)
+        (λ v. value_two op (bits_by v a.now) (bits_by v b.now))) }
 {
     match op {
         Op::Add => sum(alloc, gates, a, b),
@@ -222,7 +231,8 @@ pub(crate) fn of_three(
     requires fits { FitsThree op (length condition.now) (length a.now) (length b.now) }
     requires some { 0 < length a.now }
     requires over { All (IsOver gates.old.variables) condition.now × All (IsOver gates.old.variables) a.now × All (IsOver gates.old.variables) b.now }
-    ensures { IfOk result (λ out. MakesWord gates.old gates.new (operation_cost op (length a.now) - 130) out.items (length a.now) (λ v. value_three op (bits_by v condition.now) (bits_by v a.now) (bits_by v b.now))) }
+    ensures { IfOk result (λ out. MakesWord gates.old gates.new (operation_cost op (length a.now) - 130) out.items (length a.now)
+        (λ v. value_three op (bits_by v condition.now) (bits_by v a.now) (bits_by v b.now))) }
 {
     match op {
         Op::Ite => choice(alloc, gates, condition[0], a, b),

@@ -55,7 +55,8 @@ fn step_left(
 ) -> Result<Vec<Lit>, AllocError>
     requires within { distance ≤ length moved.now }
     requires over { All (IsOver gates.old.variables) moved.now × IsOver gates.old.variables by }
-    ensures { IfOk result (λ out. MakesWord gates.old gates.new (36 * length moved.now) out.items (length moved.now) (λ v. if truth v by then (number v moved.now * 2 ^ distance) % 2 ^ length moved.now else number v moved.now)) }
+    ensures { IfOk result (λ out. MakesWord gates.old gates.new (36 * length moved.now) out.items (length moved.now)
+        (λ v. if truth v by then (number v moved.now * 2 ^ distance) % 2 ^ length moved.now else number v moved.now)) }
 {
     let further = moved_left(alloc, moved, gates.falsity(), distance)?;
     choice(alloc, gates, by, &further, moved)
@@ -72,7 +73,8 @@ fn step_right(
 ) -> Result<Vec<Lit>, AllocError>
     requires within { distance ≤ length moved.now }
     requires over { All (IsOver gates.old.variables) moved.now × IsOver gates.old.variables by × IsOver gates.old.variables fill }
-    ensures { IfOk result (λ out. MakesWord gates.old gates.new (36 * length moved.now) out.items (length moved.now) (λ v. if truth v by then number v (drop distance moved.now ++ replicate distance fill) else number v moved.now)) }
+    ensures { IfOk result (λ out. MakesWord gates.old gates.new (36 * length moved.now) out.items (length moved.now)
+        (λ v. if truth v by then number v (drop distance moved.now ++ replicate distance fill) else number v moved.now)) }
 {
     let further = moved_right(alloc, moved, fill, distance)?;
     choice(alloc, gates, by, &further, moved)
@@ -87,7 +89,8 @@ fn unless_past(
     fill: Lit,
 ) -> Result<Vec<Lit>, AllocError>
     requires { All (IsOver gates.old.variables) moved.now × All (IsOver gates.old.variables) far.now × IsOver gates.old.variables fill }
-    ensures { IfOk result (λ out. MakesWord gates.old gates.new (12 * length far.now + 36 * length moved.now) out.items (length moved.now) (λ v. if nat_eq (number v far.now) 0 then number v moved.now else number v (replicate (length moved.now) fill))) }
+    ensures { IfOk result (λ out. MakesWord gates.old gates.new (12 * length far.now + 36 * length moved.now) out.items (length moved.now)
+        (λ v. if nat_eq (number v far.now) 0 then number v moved.now else number v (replicate (length moved.now) fill))) }
 {
     let past = any(gates, far)?;
     let filled = repeated(alloc, fill, moved.len())?;
@@ -104,7 +107,8 @@ pub(crate) fn shifted_left(
     requires same { length a.now ≡ length by.now }
     requires at_most_64 { length a.now ≤ 64 }
     requires over { All (IsOver gates.old.variables) a.now × All (IsOver gates.old.variables) by.now }
-    ensures { IfOk result (λ out. MakesWord gates.old gates.new (36 * length a.now * (length a.now + 2)) out.items (length a.now) (λ v. (number v a.now * 2 ^ number v by.now) % 2 ^ length a.now)) }
+    ensures { IfOk result (λ out. MakesWord gates.old gates.new (36 * length a.now * (length a.now + 2)) out.items (length a.now)
+        (λ v. (number v a.now * 2 ^ number v by.now) % 2 ^ length a.now)) }
 {
     let steps = steps(a.len());
     let mut moved = copied(alloc, a)?;

@@ -1,6 +1,7 @@
 // Words made of literals that stand, without a gate.
 
-ghost use Rattle.std.specs.Prelude.{◌≡◌, ◌<◌, ◌≤◌, ◌+◌, ◌-◌, ◌++◌, ◌∷◌, [], map, length, take, drop, replicate, get_or, neg_ℤ, pos, IfOk, nat_eq, ◌/◌, ◌%◌, ◌^◌};
+ghost use Rattle.std.specs.Prelude.{◌≡◌, ◌<◌, ◌≤◌, ◌+◌, ◌-◌, ◌++◌, ◌∷◌, [], map, length, take, drop, replicate, get_or, neg_ℤ, pos, IfOk, nat_eq, ◌/◌};
+ghost use Rattle.std.specs.Prelude.{◌%◌, ◌^◌};
 ghost use Rattle.vg_blast.specs.Circuits.{IsConstant, IsKnown};
 
 use crate::gate::truth;

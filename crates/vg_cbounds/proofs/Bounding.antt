@@ -64,7 +64,8 @@ loops_bounded u n of counter start tested bound stepped step body w c h e =
     loop_end u n (nodes.For of counter start tested bound stepped step body) w h e (subst (λ (k : Kind). is_counted u n k ≡ true) e (c n h)) in
     let few = few_turns u n of counter start tested bound stepped step body w h e in
     record {
-      same = λ s. turns_same u most_turns (counted_turns u n of start bound step) n (meaning_below u n body) (first_of u of start) (constant u bound) (step_of u step)
+      same = λ s. turns_same u most_turns (counted_turns u n of start bound step) n (meaning_below u n body) (first_of u of start) (constant u bound)
+          (step_of u step)
           (on_own (declare n) s) ends (omega arith);
       few = few;
     }

@@ -1,5 +1,6 @@
 -- The loops of a well typed text end in as many turns as typing counts.
-use Rattle.std.proofs.Common.{◌≡◌, ℕ, ◌+◌, ◌-◌, ◌%◌, ◌^◌, ◌≤◌, ◌<◌, Bool, true, false, if◌then◌else◌, nat_lt, nat_le, List, length, take, slice_get, ℤ, pos, negsuc, Option, Some, None, refl, sym, ap, subst, arith, ◌∙◌, inl, inr}
+use Rattle.std.proofs.Common.{◌≡◌, ℕ, ◌+◌, ◌-◌, ◌%◌, ◌^◌, ◌≤◌, ◌<◌, Bool, true, false, if◌then◌else◌, nat_lt, nat_le, List, length, take, slice_get}
+use Rattle.std.proofs.Common.{ℤ, pos, negsuc, Option, Some, None, refl, sym, ap, subst, arith, ◌∙◌, inl, inr}
 use Rattle.std.specs.Prelude.{int_lt}
 use Rattle.std.proofs.lemmas.Option.{get_or_from_slice_get, slice_get_within, slice_get_read}
 use Rattle.std.proofs.lemmas.List.{get_or-take, length-take}
@@ -176,7 +177,8 @@ number_at_is u n p a e =
 
 -- ---- what the rules say of a loop that breaks none
 
-for_sound : (u : Typed) (n : ℕ) (of : IntType) (counter : Name) (start : ℕ) (tested : Name) (bound : ℕ) (stepped : Name) (step : Option ℕ) (body : ℕ) → IsWellTyped u →
+for_sound : (u : Typed) (n : ℕ) (of : IntType) (counter : Name) (start : ℕ) (tested : Name) (bound : ℕ) (stepped : Name) (step : Option ℕ) (body : ℕ)
+    → IsWellTyped u →
     n < length u.tree.nodes → kind_at u n ≡ nodes.For of counter start tested bound stepped step body →
     for_fault (known u n) n (nodes.For of counter start tested bound stepped step body) ≡ None
 for_sound u n of counter start tested bound stepped step body w h e =
@@ -229,7 +231,8 @@ used_int k p t fault e h =
     subst (λ (o : Option CType). (o >>= λ d. used_as k p d fault) ≡ None) (type.1 ∙ ap Some is) h
 
 -- a step is at least 1
-step_some : (u : Typed) (n : ℕ) (step : Option ℕ) (c : ℕ) → rules.step_number (known u n) step ≡ Some c → rules.step_fault (known u n) step ≡ None → (0 < c) × (c < 2 ^ 32)
+step_some : (u : Typed) (n : ℕ) (step : Option ℕ) (c : ℕ) → rules.step_number (known u n) step ≡ Some c → rules.step_fault (known u n) step ≡ None
+    → (0 < c) × (c < 2 ^ 32)
 step_some u n None c e f = let same : 1 ≡ c = same_some 1 c e in (omega arith, omega arith)
 step_some u n (Some p) c e f =
     let number = number_at_is u n p c e in
@@ -239,7 +242,8 @@ step_some u n (Some p) c e f =
 
 -- ---- a loop whose start, bound and step are numbers
 
-pub loop_is_counted : (u : Typed) (n : ℕ) (of : IntType) (counter : Name) (start : ℕ) (tested : Name) (bound : ℕ) (stepped : Name) (step : Option ℕ) (body turns : ℕ) → IsWellTyped u →
+pub loop_is_counted : (u : Typed) (n : ℕ) (of : IntType) (counter : Name) (start : ℕ) (tested : Name) (bound : ℕ) (stepped : Name) (step : Option ℕ)
+    (body turns : ℕ) → IsWellTyped u →
     n < length u.tree.nodes → kind_at u n ≡ nodes.For of counter start tested bound stepped step body →
     rules.turns (known u n) of start bound step ≡ Some turns → rules.step_number (known u n) step ≡ Some (step_of u step) →
     EndsWithin turns (first_of u of start) (constant u bound) (step_of u step)
@@ -253,7 +257,8 @@ loop_is_counted u n of counter start tested bound stepped step body turns w h e 
     let both = sooner_none _ _ rest in
     let ranged = (sooner_none _ _ both.0).0 in
     let constants = (sooner_none _ _ (sooner_none _ _ both.1).1).1 in
-    let a = bind_some (number_at k start) (λ a. number_at k bound >>= λ b. integer_at k bound >>= λ v. rules.step_number k step >>= λ d. Some (rules.turns_of of v a b d)) turns counted in
+    let a = bind_some (number_at k start) (λ a. number_at k bound >>= λ b. integer_at k bound >>= λ v. rules.step_number k step >>= λ d. Some
+    (rules.turns_of of v a b d)) turns counted in
     let b = bind_some (number_at k bound) (λ b. integer_at k bound >>= λ v. rules.step_number k step >>= λ d. Some (rules.turns_of of v a.0 b d)) turns a.2 in
     let v = bind_some (integer_at k bound) (λ v. rules.step_number k step >>= λ d. Some (rules.turns_of of v a.0 b.0 d)) turns b.2 in
     let d = bind_some (rules.step_number k step) (λ d. Some (rules.turns_of of v.0 a.0 b.0 d)) turns v.2 in
@@ -270,7 +275,8 @@ loop_is_counted u n of counter start tested bound stepped step body turns w h e 
     let held : b.0 ≤ most_of v.0 = subst (λ (x : Integer). b.0 ≤ most_of x) same_type last.2.held in
     let ends = loop_ends of v.0 f b.0 c some.0 (omega (arith, some.1)) held last.2.small room f_small f_short in
     let first_is : first_of u of start ≡ at t f =
-    ap (values.converted_to t) first.2.value ∙ ap (at t) (ap (word_of t) (reading_pos first.0 a.0 first.2.held) ∙ sym (ap (word_of t) (reading_pos unsigned_64 a.0 (most_64 first.0 a.0 first.2.held)))) in
+    ap (values.converted_to t) first.2.value ∙ ap (at t) (ap (word_of t) (reading_pos first.0 a.0 first.2.held)
+    ∙ sym (ap (word_of t) (reading_pos unsigned_64 a.0 (most_64 first.0 a.0 first.2.held)))) in
     let bound_is : constant u bound ≡ at v.0 b.0 = last.2.value ∙ ap (λ (x : Integer). at x b.0) same_type in
     let count : rules.turns_of of v.0 a.0 b.0 c ≡ turns = ap (rules.turns_of of v.0 a.0 b.0) (sym same_step) ∙ same_some _ _ d.2 in
     subst (λ m. EndsWithin m (first_of u of start) (constant u bound) c) count
@@ -281,7 +287,8 @@ few_counted : (count : Option ℕ) (k : Known) (n : ℕ) → rules.turns_fault k
 few_counted None k n e = omega arith
 few_counted (Some count) k n e = grind (arith, nat_tests)
 
-pub few_turns : (u : Typed) (n : ℕ) (of : IntType) (counter : Name) (start : ℕ) (tested : Name) (bound : ℕ) (stepped : Name) (step : Option ℕ) (body : ℕ) → IsWellTyped u →
+pub few_turns : (u : Typed) (n : ℕ) (of : IntType) (counter : Name) (start : ℕ) (tested : Name) (bound : ℕ) (stepped : Name) (step : Option ℕ)
+    (body : ℕ) → IsWellTyped u →
     n < length u.tree.nodes → kind_at u n ≡ nodes.For of counter start tested bound stepped step body →
     or_zero (rules.turns (known u n) of start bound step) ≤ 4096
 few_turns u n of counter start tested bound stepped step body w h e =

@@ -25,7 +25,8 @@ use Rattle.vg_cbounds.specs.Bounds.{steps_after}
 use Rattle.vg_cbounds.proofs.Spent.{closing_steps}
 use Rattle.vg_cbounds.proofs.Sums.{capped_is, total, sum_is}
 use Rattle.vg_cbounds.proofs.Operands.{IsBounded, then_steps, gives_steps, unary_case, added, operation_case, choice_case, index_case}
-use Rattle.vg_cbounds.proofs.Statements.{AreBounded, EndsWithin, declaration_case, run_all_case, assignment_case, stepped_case, evaluate_case, branched_case, returned_case, called_case, library_case, turns_steps, stopped}
+use Rattle.vg_cbounds.proofs.Statements.{AreBounded, EndsWithin, declaration_case, run_all_case, assignment_case, stepped_case, evaluate_case}
+use Rattle.vg_cbounds.proofs.Statements.{branched_case, returned_case, called_case, library_case, turns_steps, stopped}
 
 -- ---- operators
 
@@ -39,17 +40,20 @@ binary_node : (u : Typed) (part : Parts_mean) (k : Known) (n : ℕ) (op : Binary
     steps_after (meaning.operation op (place_at u n) (part left) (part right) s) ≤ s.own.steps + notes.binary_steps op (steps_at k left) (steps_at k right)
 binary_node u part k n op left right s h small =
     let is = binary_is op (steps_at k left) (steps_at k right) small in
-    let e = operation_case op (place_at u n) (part left) (part right) (steps_at k left) (steps_at k right) s (h left (omega arith)) (h right (omega arith)) in omega arith
+    let e = operation_case op (place_at u n) (part left) (part right) (steps_at k left) (steps_at k right) s (h left (omega arith))
+    (h right (omega arith)) in omega arith
 
 choice_node : (u : Typed) (part : Parts_mean) (k : Known) (n condition one other : ℕ) (s : State) → AreBounded part k →
     capped (1 + steps_at k condition + max (steps_at k one) (steps_at k other)) ≤ 1000000 →
-    steps_after (meaning.choice u n (part condition) (part one) (part other) s) ≤ s.own.steps + capped (1 + steps_at k condition + max (steps_at k one) (steps_at k other))
+    steps_after (meaning.choice u n (part condition) (part one) (part other) s) ≤ s.own.steps + capped
+    (1 + steps_at k condition + max (steps_at k one) (steps_at k other))
 choice_node u part k n condition one other s h small =
     let is = capped_is (1 + steps_at k condition + max (steps_at k one) (steps_at k other)) small in
     let e = choice_case u n (part condition) (part one) (part other) (steps_at k condition) (steps_at k one) (steps_at k other) s
     (h condition (omega arith)) (h one (omega arith)) (h other (omega arith)) in omega arith
 
-index_node : (u : Typed) (part : Parts_mean) (k : Known) (n array index : ℕ) (s : State) → AreBounded part k → capped (steps_at k array + steps_at k index) ≤ 1000000 →
+index_node : (u : Typed) (part : Parts_mean) (k : Known) (n array index : ℕ) (s : State) → AreBounded part k
+    → capped (steps_at k array + steps_at k index) ≤ 1000000 →
     steps_after (meaning.index_of u part n array index s) ≤ s.own.steps + capped (steps_at k array + steps_at k index)
 index_node u part k n array index s h small =
     let is = capped_is (steps_at k array + steps_at k index) small in
@@ -66,14 +70,16 @@ abbrev pub IsCallee : Typed → Parts_mean → Known → Option Referent → Typ
 IsCallee u part k (Some (referents.Declared f)) = IsCalled u part k f (kind_at u f)
 IsCallee u part k _ = Unit {0}
 
-called_kind : (u : Typed) (part : Parts_mean) (k : Known) (f : ℕ) (arguments : List ℕ) (kind : Kind) (s : State) → AreBounded part k → IsCalled u part k f kind →
+called_kind : (u : Typed) (part : Parts_mean) (k : Known) (f : ℕ) (arguments : List ℕ) (kind : Kind) (s : State) → AreBounded part k
+    → IsCalled u part k f kind →
     1 + total k arguments + steps_at k f ≤ 1000000 →
     steps_after (meaning.call_of u part arguments kind s) ≤ s.own.steps + (1 + total k arguments + steps_at k f)
 called_kind u part k f arguments (nodes.Function is_static is_inline answer name params body) s h i small =
     called_case u part k arguments answer (listed u.tree.items params) body (steps_at k f) s h (i (omega arith)) (omega arith)
 called_kind u part k f arguments kind s h i small = omega arith
 
-call_referent : (u : Typed) (part : Parts_mean) (k : Known) (at : ℕ) (arguments : List ℕ) (r : Option Referent) (s : State) → AreBounded part k → IsCallee u part k r →
+call_referent : (u : Typed) (part : Parts_mean) (k : Known) (at : ℕ) (arguments : List ℕ) (r : Option Referent) (s : State) → AreBounded part k
+    → IsCallee u part k r →
     1 + total k arguments + callee_steps k r ≤ 1000000 →
     steps_after (meaning.call u part at arguments r s) ≤ s.own.steps + (1 + total k arguments + callee_steps k r)
 call_referent u part k at arguments None s h i small = omega arith
@@ -81,7 +87,8 @@ call_referent u part k at arguments (Some (referents.Declared f)) s h i small = 
 call_referent u part k at arguments (Some (referents.Library row)) s h i small =
     let e = library_case part k (call_in_row row) at arguments s h (omega arith) in omega arith
 
-call_node : (u : Typed) (part : Parts_mean) (k : Known) (at : ℕ) (arguments : List ℕ) (r : Option Referent) (s : State) → AreBounded part k → IsCallee u part k r →
+call_node : (u : Typed) (part : Parts_mean) (k : Known) (at : ℕ) (arguments : List ℕ) (r : Option Referent) (s : State) → AreBounded part k
+    → IsCallee u part k r →
     capped (1 + sum_of_steps k arguments + callee_steps k r) ≤ 1000000 →
     steps_after (meaning.call u part at arguments r s) ≤ s.own.steps + capped (1 + sum_of_steps k arguments + callee_steps k r)
 call_node u part k at arguments r s h i small =
@@ -110,7 +117,8 @@ IsFit u part k n (nodes.For of counter start tested bound stepped step body) =
     EndsWithin (or_zero (rules.turns k of start bound step)) (first_of u of start) (constant u bound) (step_of u step)
 IsFit u part k n _ = Unit {0}
 
-pub expression_node : (u : Typed) (part : Parts_mean) (k : Known) (n : ℕ) (kind : Kind) (s : State) → k.tree ≡ u.tree → AreBounded part k → IsFit u part k n kind →
+pub expression_node : (u : Typed) (part : Parts_mean) (k : Known) (n : ℕ) (kind : Kind) (s : State) → k.tree ≡ u.tree → AreBounded part k
+    → IsFit u part k n kind →
     node_steps k n kind ≤ 1000000 → steps_after (expression u part n kind s) ≤ s.own.steps + node_steps k n kind
 expression_node u part k n (nodes.Parens inner) s t h f small = (h inner small).gives s
 expression_node u part k n (nodes.Unary op operand) s t h f small = unary_case u op n (part operand) (steps_at k operand) s (h operand small)
@@ -120,19 +128,25 @@ expression_node u part k n (nodes.Cast base pointer operand) s t h f small =
     let e = then_steps (part operand) (steps_at k operand) s (λ d t. Gives (as_type (type_at u n) d) t) 0 (h operand small) (λ d t. omega arith) in omega arith
 expression_node u part k n (nodes.Index array index) s t h f small = index_node u part k n array index s h small
 expression_node u part k n (nodes.Member whole field) s t h f small =
-    let e = gives_steps (part whole) (steps_at k whole) s (λ d t. Gives (member u n whole (place_at u n) d) t) 0 (h whole small) (λ d t. omega arith) in omega arith
+    let e = gives_steps (part whole) (steps_at k whole) s (λ d t. Gives (member u n whole (place_at u n) d) t) 0 (h whole small) (λ d t. omega arith)
+    in omega arith
 expression_node u part k n (nodes.Arrow pointer field) s t h f small =
-    let e = then_steps (part pointer) (steps_at k pointer) s (λ d t. Gives (member u n pointer (place_at u n) d) t) 0 (h pointer small) (λ d t. omega arith) in omega arith
+    let e = then_steps (part pointer) (steps_at k pointer) s (λ d t. Gives (member u n pointer (place_at u n) d) t) 0 (h pointer small)
+    (λ d t. omega arith) in omega arith
 expression_node u part k n (nodes.Call name arguments) s t h f small =
-    subst (λ r. steps_after (meaning.call u part (place_at u n) (listed u.tree.items arguments) r s) ≤ s.own.steps + node_steps k n (nodes.Call name arguments)) (sym f.0)
-    (subst (λ tree. steps_after (meaning.call u part (place_at u n) (listed tree.items arguments) (callee k n name) s) ≤ s.own.steps + node_steps k n (nodes.Call name arguments)) t
+    subst (λ r. steps_after (meaning.call u part (place_at u n) (listed u.tree.items arguments) r s) ≤ s.own.steps + node_steps k n
+    (nodes.Call name arguments)) (sym f.0)
+    (subst (λ tree. steps_after (meaning.call u part (place_at u n) (listed tree.items arguments) (callee k n name) s) ≤ s.own.steps + node_steps k n
+    (nodes.Call name arguments)) t
     (call_node u part k (place_at u n) (listed k.tree.items arguments) (callee k n name) s h f.1 small))
 expression_node u part k n kind s t h f small = omega arith
 
-pub statement_node : (u : Typed) (part : Parts_mean) (k : Known) (n : ℕ) (kind : Kind) (s : State) → k.tree ≡ u.tree → AreBounded part k → IsFit u part k n kind →
+pub statement_node : (u : Typed) (part : Parts_mean) (k : Known) (n : ℕ) (kind : Kind) (s : State) → k.tree ≡ u.tree → AreBounded part k
+    → IsFit u part k n kind →
     node_steps k n kind ≤ 1000000 → steps_after (statement u part n kind s) ≤ s.own.steps + node_steps k n kind
 statement_node u part k n (nodes.Block statements end) s t h f small =
-    subst (λ tree. steps_after (closing (listed tree.items statements) (run_all part (listed tree.items statements) s)) ≤ s.own.steps + node_steps k n (nodes.Block statements end)) t
+    subst (λ tree. steps_after (closing (listed tree.items statements) (run_all part (listed tree.items statements) s)) ≤ s.own.steps + node_steps k n
+    (nodes.Block statements end)) t
     (let sum = sum_is k (listed k.tree.items statements) small in
     let e = run_all_case part k (listed k.tree.items statements) s h (omega arith) in
     let c = closing_steps (listed k.tree.items statements) (run_all part (listed k.tree.items statements) s) in omega arith)
@@ -154,7 +168,8 @@ statement_node u part k n (nodes.If condition body otherwise) s t h f small =
     let is = capped_is (2 + steps_at k condition + max (steps_at k body) (optional_steps k otherwise)) small in
     let e = branched_case part k condition body otherwise s h (omega arith) in omega arith
 statement_node u part k n (nodes.For of counter start tested bound stepped step body) s t h f small =
-    let e = loop_node u n (part body) (first_of u of start) (constant u bound) (step_of u step) (or_zero (rules.turns k of start bound step)) (steps_at k body) s (h body) f small in
+    let e = loop_node u n (part body) (first_of u of start) (constant u bound) (step_of u step) (or_zero (rules.turns k of start bound step))
+    (steps_at k body) s (h body) f small in
     let c = closing_steps (n ∷ []) (loop_of u part n of start bound step body (tick s)) in omega arith
 statement_node u part k n (nodes.Return v) s t h f small =
     let is = capped_is (1 + optional_steps k v) small in

@@ -29,12 +29,14 @@ value_steps m k s h =
     let e = bind_steps (m.gives s) read (s.own.steps + k) 0 (h.gives s) (λ d t. let r = read_steps d t in omega arith) in omega arith
 
 -- what goes on with a value and takes no step
-pub then_steps : (m : Meaning) (k : ℕ) (s : State) (f : Datum → State → Outcome) (b : ℕ) → IsBounded m k → ((d : Datum) (t : State) → steps_after (f d t) ≤ t.own.steps + b) →
+pub then_steps : (m : Meaning) (k : ℕ) (s : State) (f : Datum → State → Outcome) (b : ℕ) → IsBounded m k
+    → ((d : Datum) (t : State) → steps_after (f d t) ≤ t.own.steps + b) →
     steps_after (and_then (value m s) f) ≤ s.own.steps + (k + b)
 then_steps m k s f b h g =
     let e = bind_steps (value m s) f (s.own.steps + k) b (value_steps m k s h) g in omega arith
 
-pub gives_steps : (m : Meaning) (k : ℕ) (s : State) (f : Datum → State → Outcome) (b : ℕ) → IsBounded m k → ((d : Datum) (t : State) → steps_after (f d t) ≤ t.own.steps + b) →
+pub gives_steps : (m : Meaning) (k : ℕ) (s : State) (f : Datum → State → Outcome) (b : ℕ) → IsBounded m k
+    → ((d : Datum) (t : State) → steps_after (f d t) ≤ t.own.steps + b) →
     steps_after (and_then (m.gives s) f) ≤ s.own.steps + (k + b)
 gives_steps m k s f b h g =
     let e = bind_steps (m.gives s) f (s.own.steps + k) b (h.gives s) g in omega arith
@@ -43,10 +45,12 @@ gives_steps m k s f b h g =
 
 address_steps : (u : Typed) (d : Datum) (s : State) → steps_after (address u d s) ≤ s.own.steps + 0
 address_steps u (data_of.Lvalue place) s =
-    or_wrong_steps (tested (address_tests (layout u.notes place.of).size place s) place.pointer) place.at s (λ p. Gives (data_of.Address p) s) (s.own.steps + 0) (omega arith) (λ p. omega arith)
+    or_wrong_steps (tested (address_tests (layout u.notes place.of).size place s) place.pointer) place.at s (λ p. Gives (data_of.Address p) s)
+    (s.own.steps + 0) (omega arith) (λ p. omega arith)
 address_steps u _ s = omega arith
 
-pub unary_case : (u : Typed) (op : UnaryOp) (n : ℕ) (m : Meaning) (k : ℕ) (s : State) → IsBounded m k → steps_after (before_operand u op n m s) ≤ s.own.steps + k
+pub unary_case : (u : Typed) (op : UnaryOp) (n : ℕ) (m : Meaning) (k : ℕ) (s : State) → IsBounded m k
+    → steps_after (before_operand u op n m s) ≤ s.own.steps + k
 unary_case u unaries.Load n m k s h =
     let e = then_steps m k s (λ d t. Gives (pointed_to (type_at u n) (place_at u n) d) t) 0 h (λ d t. omega arith) in omega arith
 unary_case u unaries.Address n m k s h = let e = gives_steps m k s (address u) 0 h (λ d t. address_steps u d t) in omega arith
@@ -62,7 +66,8 @@ added binaries.AndThen = 1
 added binaries.OrElse = 1
 added _ = 0
 
-operated_steps : (op : BinaryOp) (at : ℕ) (m : Meaning) (k : ℕ) (a : Datum) (s : State) → IsBounded m k → steps_after (operated op at m a s) ≤ s.own.steps + (added op + k)
+operated_steps : (op : BinaryOp) (at : ℕ) (m : Meaning) (k : ℕ) (a : Datum) (s : State) → IsBounded m k
+    → steps_after (operated op at m a s) ≤ s.own.steps + (added op + k)
 operated_steps binaries.AndThen at m k a s h =
     let e = then_steps m k (tick s) is_truth 0 h truth_steps in
     if_steps (is_true a) (and_then (value m (tick s)) is_truth) (Gives (of_bool false) (tick s)) (s.own.steps + (1 + k)) (omega arith) (omega arith)
@@ -83,7 +88,8 @@ chosen_steps type one other a b d s h i =
     let v = value_steps one a s h in
     let w = value_steps other b s i in
     let c = if_steps (is_true d) (value one s) (value other s) (s.own.steps + max a b) (omega arith) (omega arith) in
-    let e = bind_steps (if is_true d then value one s else value other s) (λ e t. Gives (as_type type e) t) (s.own.steps + max a b) 0 c (λ e t. omega arith) in omega arith
+    let e = bind_steps (if is_true d then value one s else value other s) (λ e t. Gives (as_type type e) t) (s.own.steps + max a b) 0 c
+    (λ e t. omega arith) in omega arith
 
 pub choice_case : (u : Typed) (n : ℕ) (condition one other : Meaning) (c a b : ℕ) (s : State) → IsBounded condition c → IsBounded one a → IsBounded other b →
     steps_after (choice u n condition one other s) ≤ s.own.steps + (1 + c + max a b)
@@ -93,7 +99,8 @@ choice_case u n condition one other c a b s g h i =
 
 indexed_steps : (d : Datum) (s : State) → steps_after (indexed d s) ≤ s.own.steps
 indexed_steps (data_of.Lvalue place) s =
-    if_steps (is_array place.of) (Gives (data_of.Lvalue place) s) (read (data_of.Lvalue place) s) s.own.steps (omega arith) (read_steps (data_of.Lvalue place) s)
+    if_steps (is_array place.of) (Gives (data_of.Lvalue place) s) (read (data_of.Lvalue place) s) s.own.steps (omega arith)
+    (read_steps (data_of.Lvalue place) s)
 indexed_steps d s = read_steps d s
 
 element_steps : (size : ℕ) (type : CType) (at index_at : ℕ) (a i : Datum) (s : State) → steps_after (element size type at index_at a i s) ≤ s.own.steps

@@ -68,7 +68,8 @@ unfolding reading
 truth_bit true = refl
 truth_bit false = refl
 
-pub below_reads : (t tb : Integer) (x y : ℕ) (p q : ℤ) → reading (common t tb) (converted (common t tb) t x) ≡ p → reading (common t tb) (converted (common t tb) tb y) ≡ q →
+pub below_reads : (t tb : Integer) (x y : ℕ) (p q : ℤ) → reading (common t tb) (converted (common t tb) t x) ≡ p
+    → reading (common t tb) (converted (common t tb) tb y) ≡ q →
     is_below (at t x) (at tb y) ≡ int_lt p q
 below_reads t tb x y p q e f =
     truth_bit (less (common t tb) (converted (common t tb) t x) (converted (common t tb) tb y)) ∙ (λ j. int_lt (e j) (f j))

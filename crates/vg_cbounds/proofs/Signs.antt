@@ -1,5 +1,6 @@
 -- A loop's counter by its type: from 0 on, or from below 0.
-use Rattle.std.proofs.Common.{◌≡◌, ℕ, ◌+◌, ◌-◌, ◌%◌, ◌^◌, ◌≤◌, ◌<◌, min, Bool, true, false, if◌then◌else◌, pos, negsuc, refl, sym, ap, subst, arith, ◌∙◌, ◌⊎◌, inl, inr}
+use Rattle.std.proofs.Common.{◌≡◌, ℕ, ◌+◌, ◌-◌, ◌%◌, ◌^◌, ◌≤◌, ◌<◌, min, Bool, true, false, if◌then◌else◌, pos, negsuc, refl, sym, ap, subst, arith}
+use Rattle.std.proofs.Common.{◌∙◌, ◌⊎◌, inl, inr}
 use Rattle.std.specs.Prelude.{int_lt}
 use Rattle.std.proofs.Math.Nat.{mod-eq_of_lt}
 use Rattle.std.proofs.lemmas.Bool.{cases_lt, lt-ltb, le-ltb}
@@ -35,7 +36,8 @@ promoted_holds words.Uint16 v h = omega arith
 promoted_holds words.Uint32 v h = omega arith
 promoted_holds words.Uint64 v h = omega arith
 
-common_by : (p : IntType) (t : Integer) (v : ℕ) → v < 2 ^ 40 → v ≤ most_of (integer_of p) → (t.bits < 32) ⊎ (32 ≤ t.bits) → v ≤ most_of (common (integer_of p) t)
+common_by : (p : IntType) (t : Integer) (v : ℕ) → v < 2 ^ 40 → v ≤ most_of (integer_of p) → (t.bits < 32) ⊎ (32 ≤ t.bits)
+    → v ≤ most_of (common (integer_of p) t)
 common_by p t v small h (inl narrow) =
     let e : promoted t ≡ int = ap (λ (c : Bool). if c then int else t) (lt-ltb t.bits 32 narrow) in
     subst (λ (q : Integer). v ≤ most_of (usual (promoted (integer_of p)) q)) (sym e) (usual_holds p 32 true v (omega arith) small (promoted_holds p v h))
@@ -88,17 +90,20 @@ none_below v = grind (arith, nat_tests)
 not_negative : (t : Integer) (v : ℕ) → v ≤ most_of t → less t v 0 ≡ false
 not_negative t v h = (λ j. int_lt (reading_pos t v h j) (reading_pos t 0 (omega arith) j)) ∙ none_below v
 
-pub from_zero_on : (p : IntType) (tb : Integer) (f b c : ℕ) → 0 < c → IsUpTo (integer_of p) (at tb b) b c (most_counted p) → f < 2 ^ 32 → f ≤ most_of (integer_of p) →
+pub from_zero_on : (p : IntType) (tb : Integer) (f b c : ℕ) → 0 < c → IsUpTo (integer_of p) (at tb b) b c (most_counted p) → f < 2 ^ 32
+    → f ≤ most_of (integer_of p) →
     EndsWithin (steps_to (distance p tb f b) c) (at (integer_of p) f) (at tb b) c
 from_zero_on p tb f b c some k small held =
-    let far = if_false (less (integer_of p) f 0) (if (common (integer_of p) tb).signed then b + (rules.words p - f) else 0) (b - f) (not_negative (integer_of p) f held) in
+    let far = if_false (less (integer_of p) f 0) (if (common (integer_of p) tb).signed then b + (rules.words p - f) else 0) (b - f)
+    (not_negative (integer_of p) f held) in
     let cover = steps_cover (b - f) c some in
     subst (λ d. EndsWithin (steps_to d c) (at (integer_of p) f) (at tb b) c) (sym far)
     (ends_up (integer_of p) (at tb b) b c (most_counted p) (steps_to (b - f) c) f k (omega arith) (omega arith))
 
 -- ---- from below 0 on
 
-reading_neg_at : (s : Bool) (w f : ℕ) → s ≡ true → 0 < w → 2 ^ (w - 1) ≤ f → f < 2 ^ w → (if s then bits.signed w (f % 2 ^ w) else pos (f % 2 ^ w)) ≡ negsuc (2 ^ w - 1 - f)
+reading_neg_at : (s : Bool) (w f : ℕ) → s ≡ true → 0 < w → 2 ^ (w - 1) ≤ f → f < 2 ^ w → (if s then bits.signed w (f % 2 ^ w) else pos (f % 2 ^ w)) ≡
+    negsuc (2 ^ w - 1 - f)
 reading_neg_at false w f e some h k = cc
 reading_neg_at true w f e some h k = ap (bits.signed w) (mod-eq_of_lt k) ∙ signed_neg w f h k
 
@@ -164,15 +169,18 @@ record IsBelowZero (p : IntType) (f : ℕ) : Type 0 where
   pub narrow : 2 ^ width (integer_of p) ≤ 2 ^ 32
   pub words : rules.words p ≡ 2 ^ width (integer_of p)
 
-distance_signed : (p : IntType) (tb : Integer) (f b : ℕ) → IsBelowZero p f → (common (integer_of p) tb).signed ≡ true → distance p tb f b ≡ b + (2 ^ width (integer_of p) - f)
+distance_signed : (p : IntType) (tb : Integer) (f b : ℕ) → IsBelowZero p f → (common (integer_of p) tb).signed ≡ true
+    → distance p tb f b ≡ b + (2 ^ width (integer_of p) - f)
 distance_signed p tb f b z e =
-    if_true (less (integer_of p) f 0) (if (common (integer_of p) tb).signed then b + (rules.words p - f) else 0) (b - f) (is_negative (integer_of p) f z.signed z.half z.short)
+    if_true (less (integer_of p) f 0) (if (common (integer_of p) tb).signed then b + (rules.words p - f) else 0) (b - f)
+    (is_negative (integer_of p) f z.signed z.half z.short)
     ∙ if_true (common (integer_of p) tb).signed (b + (rules.words p - f)) 0 e
     ∙ ap (λ n. b + (n - f)) z.words
 
 distance_unsigned : (p : IntType) (tb : Integer) (f b : ℕ) → IsBelowZero p f → (common (integer_of p) tb).signed ≡ false → distance p tb f b ≡ 0
 distance_unsigned p tb f b z e =
-    if_true (less (integer_of p) f 0) (if (common (integer_of p) tb).signed then b + (rules.words p - f) else 0) (b - f) (is_negative (integer_of p) f z.signed z.half z.short)
+    if_true (less (integer_of p) f 0) (if (common (integer_of p) tb).signed then b + (rules.words p - f) else 0) (b - f)
+    (is_negative (integer_of p) f z.signed z.half z.short)
     ∙ if_false (common (integer_of p) tb).signed (b + (rules.words p - f)) 0 e
 
 up_from : (p : IntType) (tb : Integer) (f b c : ℕ) → 0 < c → c < 2 ^ 33 → IsUpTo (integer_of p) (at tb b) b c (most_counted p) → IsBelowZero p f →

@@ -64,7 +64,8 @@ tick_steps s = omega arith
 
 read_lvalue_steps : (type : CType) (p : Lvalue) (s : State) → steps_after (read_lvalue type p s) ≤ s.own.steps
 read_lvalue_steps (types.Int bits signed) p s =
-    or_wrong_steps (load s p.pointer p.room (size_of (record { bits = bits; signed = signed })) (align_of p.loose (record { bits = bits; signed = signed }))) p.at s
+    or_wrong_steps (load s p.pointer p.room (size_of (record { bits = bits; signed = signed }))
+    (align_of p.loose (record { bits = bits; signed = signed }))) p.at s
     (λ word. Gives (data_of.Word (record { of = record { bits = bits; signed = signed }; word = word })) s) s.own.steps (omega arith) (λ x. omega arith)
 read_lvalue_steps _ p s = omega arith
 
@@ -87,12 +88,14 @@ write_steps (data_of.Lvalue p) d s =
     let v = word_of d in
     let new = bytes_of_word (size_of t) (converted t v.of v.word) in
     let e = written_steps s p.pointer.object p.pointer.offset new in
-    tested_steps (write_tests s p.pointer p.room (size_of t) (align_of p.loose t)) (written s p.pointer.object p.pointer.offset new) p.at s Next s.own.steps (omega arith) (omega arith)
+    tested_steps (write_tests s p.pointer p.room (size_of t) (align_of p.loose t)) (written s p.pointer.object p.pointer.offset new) p.at s Next
+    s.own.steps (omega arith) (omega arith)
 write_steps (data_of.PointerVariable node at) d s = omega arith
 write_steps _ d s = omega arith
 
 pub binary_steps : (op : BinaryOp) (at : ℕ) (a b : Datum) (s : State) → steps_after (binary op at a b s) ≤ s.own.steps
-binary_steps op at a b s = or_wrong_steps (binary_of op (word_of a) (word_of b)) at s (λ v. Gives (data_of.Word v) s) s.own.steps (omega arith) (λ v. omega arith)
+binary_steps op at a b s = or_wrong_steps (binary_of op (word_of a) (word_of b)) at s (λ v. Gives (data_of.Word v) s) s.own.steps (omega arith)
+    (λ v. omega arith)
 
 pub unary_steps : (op : UnaryOp) (at : ℕ) (a : Datum) (s : State) → steps_after (unary op at a s) ≤ s.own.steps
 unary_steps op at a s = or_wrong_steps (unary_of op (word_of a)) at s (λ v. Gives (data_of.Word v) s) s.own.steps (omega arith) (λ v. omega arith)

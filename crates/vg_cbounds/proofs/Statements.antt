@@ -1,5 +1,6 @@
 -- Statements and calls, by the steps of their parts.
-use Rattle.std.proofs.Common.{◌≡◌, ℕ, zero, suc, ◌+◌, ◌*◌, ◌≤◌, max, Bool, true, false, if◌then◌else◌, List, [], ◌∷◌, ◌++◌, length, nat_le, Option, Some, None, refl, ap, arith, ◌∙◌, ◌⊎◌, inl, inr}
+use Rattle.std.proofs.Common.{◌≡◌, ℕ, zero, suc, ◌+◌, ◌*◌, ◌≤◌, max, Bool, true, false, if◌then◌else◌, List, [], ◌∷◌, ◌++◌, length, nat_le, Option}
+use Rattle.std.proofs.Common.{Some, None, refl, ap, arith, ◌∙◌, ◌⊎◌, inl, inr}
 use Rattle.vg_core.specs.Units.{Typed}
 use Rattle.vg_core.specs.declared.tree.BinaryOp.{BinaryOp}
 use Rattle.vg_core.specs.declared.tree.IntType.{IntType}
@@ -15,7 +16,9 @@ use Rattle.vg_cmean.specs.Typings.{kind_at, place_at}
 use Rattle.vg_cmean.specs.Values.{read, write, binary, is_true, word_of, pointer_of, converted_to}
 use Rattle.vg_cmean.specs.Places.{declared}
 use Rattle.vg_cmean.specs.Meaning as meaning
-use Rattle.vg_cmean.specs.Meaning.{Meaning, Parts_mean, value, one, run_all, updated, assignment, stepped, branch, taken, branched, returned, counted, turn, turns, is_below, next_of, parameter, given, function_called, answer_as, closing, end_of, packet_borrow, packet_return, packet_length, argument_at, frame_row, frame_call, library_row, most_arguments}
+use Rattle.vg_cmean.specs.Meaning.{Meaning, Parts_mean, value, one, run_all, updated, assignment, stepped, branch, taken, branched, returned, counted}
+use Rattle.vg_cmean.specs.Meaning.{turn, turns, is_below, next_of, parameter, given, function_called, answer_as, closing, end_of, packet_borrow}
+use Rattle.vg_cmean.specs.Meaning.{packet_return, packet_length, argument_at, frame_row, frame_call, library_row, most_arguments}
 use Rattle.vg_ctyper.specs.Names.{Known}
 use Rattle.vg_ctyper.specs.Notes.{steps_at, optional_steps}
 use Rattle.vg_cbounds.specs.Bounds.{steps_after}
@@ -41,7 +44,8 @@ pub run_all_case : (part : Parts_mean) (k : Known) (ns : List ℕ) (s : State) �
 run_all_case part k [] s h small = omega arith
 run_all_case part k (n ∷ ns) s h small =
     let one = (h n (omega arith)).does s in
-    let e = after_steps ((part n).does s) (run_all part ns) (s.own.steps + steps_at k n) (total k ns) one (λ t. run_all_case part k ns t h (omega arith)) in omega arith
+    let e = after_steps ((part n).does s) (run_all part ns) (s.own.steps + steps_at k n) (total k ns) one
+    (λ t. run_all_case part k ns t h (omega arith)) in omega arith
 
 updated_steps : (op : Option BinaryOp) (at : ℕ) (m : Meaning) (b : ℕ) (d : Datum) (s : State) → IsBounded m b →
     steps_after (updated op at m d s) ≤ s.own.steps + b
@@ -50,7 +54,8 @@ updated_steps None at m b d s h =
 updated_steps (Some op) at m b d s h =
     let last = λ (a : Datum) (c : Datum) (v : State). and_then (binary op at a c v) (write d) in
     let each : (a c : Datum) (v : State) → steps_after (last a c v) ≤ v.own.steps + (0 + 0) =
-    λ a c v. let e = bind_steps (binary op at a c v) (write d) v.own.steps 0 (binary_steps op at a c v) (λ x t. let w = write_steps d x t in omega arith) in omega arith in
+    λ a c v. let e = bind_steps (binary op at a c v) (write d) v.own.steps 0 (binary_steps op at a c v)
+    (λ x t. let w = write_steps d x t in omega arith) in omega arith in
     let mid = λ (a : Datum) (t : State). and_then (value m t) (last a) in
     let mids : (a : Datum) (t : State) → steps_after (mid a t) ≤ t.own.steps + (b + (0 + 0)) = λ a t. then_steps m b t (last a) (0 + 0) h (each a) in
     let e = bind_steps (read d s) mid s.own.steps (b + (0 + 0)) (read_steps d s) mids in omega arith
@@ -64,7 +69,8 @@ stepped_steps : (op : BinaryOp) (at : ℕ) (d : Datum) (s : State) → steps_aft
 stepped_steps op at d s =
     let last = λ (a : Datum) (t : State). and_then (binary op at a one t) (write d) in
     let each : (a : Datum) (t : State) → steps_after (last a t) ≤ t.own.steps + 0 =
-    λ a t. let e = bind_steps (binary op at a one t) (write d) t.own.steps 0 (binary_steps op at a one t) (λ x v. let w = write_steps d x v in omega arith) in omega arith in
+    λ a t. let e = bind_steps (binary op at a one t) (write d) t.own.steps 0 (binary_steps op at a one t)
+    (λ x v. let w = write_steps d x v in omega arith) in omega arith in
     let e = bind_steps (read d s) last s.own.steps 0 (read_steps d s) each in omega arith
 
 pub stepped_case : (op : BinaryOp) (at : ℕ) (target : Meaning) (a : ℕ) (s : State) → IsBounded target a →
@@ -90,7 +96,8 @@ branched_case part k condition body otherwise s h small =
     let one = (h body (omega arith)).does (tick t) in
     let other = branch_steps part k otherwise (tick t) h (omega arith) in
     if_steps (is_true d) ((part body).does (tick t)) (branch part otherwise (tick t)) (t.own.steps + (1 + most)) (omega arith) (omega arith) in
-    let e = then_steps (part condition) (steps_at k condition) (tick s) (λ d t. taken part body otherwise d (tick t)) (1 + most) (h condition (omega arith)) each in omega arith
+    let e = then_steps (part condition) (steps_at k condition) (tick s) (λ d t. taken part body otherwise d (tick t)) (1 + most)
+    (h condition (omega arith)) each in omega arith
 
 pub returned_case : (part : Parts_mean) (k : Known) (v : Option ℕ) (s : State) → AreBounded part k → optional_steps k v ≤ 1000000 →
     steps_after (returned part v (tick s)) ≤ s.own.steps + (1 + optional_steps k v)
@@ -124,7 +131,8 @@ called_case u part k arguments answer params body c s h b small =
     let d = b.does t in
     let e = answer_steps answer (end_of (kind_at u body)) (closing params ((part body).does t)) in
     let f = closing_steps params ((part body).does t) in omega arith in
-    let e = after_steps (given u part arguments params s) rest (s.own.steps + (1 + total k arguments)) c (given_steps u part k arguments params s h small) each in omega arith
+    let e = after_steps (given u part arguments params s) rest (s.own.steps + (1 + total k arguments)) c
+    (given_steps u part k arguments params s h small) each in omega arith
 
 frame_row_steps : (row : FrameCall) (at : ℕ) (arguments : List Datum) (s : State) → steps_after (frame_row row at arguments s) ≤ s.own.steps
 frame_row_steps calls.Length at arguments s = omega arith
@@ -148,7 +156,8 @@ pub library_case : (part : Parts_mean) (k : Known) (row : Option FrameCall) (at 
 library_case part k None at arguments s h small = omega arith
 library_case part k (Some row) at arguments s h small =
     let e = frame_call_steps part k row at [] arguments s h small in
-    if_steps (nat_le (length arguments) most_arguments) (frame_call part row at [] arguments s) (Gives data_of.Nothing s) (s.own.steps + (1 + total k arguments)) e (omega arith)
+    if_steps (nat_le (length arguments) most_arguments) (frame_call part row at [] arguments s) (Gives data_of.Nothing s)
+    (s.own.steps + (1 + total k arguments)) e (omega arith)
 
 -- ---- loops
 
@@ -192,5 +201,6 @@ turns_steps u (suc left) (suc most) n m c b step k s h (inr e) =
     let both = after_steps (turn u n m c s) (turns u left n m (next_of c step) b step) (s.own.steps + (1 + k)) (most * (1 + k)) one more in
     let both_two : steps_after (after (turn u n m c s) (turns u left n m (next_of c step) b step)) ≤ s.own.steps + (suc most) * (1 + k) = omega arith in
     let z = ap steps_after (turns_suc u left n m c b step s) in
-    let f = if_steps (is_below c b) (after (turn u n m c s) (turns u left n m (next_of c step) b step)) (Next s) (s.own.steps + (suc most) * (1 + k)) both_two (omega arith) in
+    let f = if_steps (is_below c b) (after (turn u n m c s) (turns u left n m (next_of c step) b step)) (Next s) (s.own.steps + (suc most) * (1 + k))
+    both_two (omega arith) in
     omega arith

@@ -1,5 +1,6 @@
 -- What typing notes of a node of a well typed text.
-use Rattle.std.proofs.Common.{◌≡◌, ℕ, ◌<◌, Bool, List, [], ◌∷◌, ◌++◌, length, take, slice_get, get_or, All, Option, Some, None, refl, sym, ap, subst, arith, ◌∙◌, ◌⊎◌, inl, inr}
+use Rattle.std.proofs.Common.{◌≡◌, ℕ, ◌<◌, Bool, List, [], ◌∷◌, ◌++◌, length, take, slice_get, get_or, All, Option, Some, None, refl, sym, ap, subst}
+use Rattle.std.proofs.Common.{arith, ◌∙◌, ◌⊎◌, inl, inr}
 use Rattle.std.proofs.lemmas.Option.{get_or_from_slice_get, slice_get_within, slice_get_read, slice_get-get_or}
 use Rattle.std.proofs.lemmas.List.{get_or-take}
 use Rattle.std.proofs.lemmas.List.Elements.{All-get_or}
@@ -45,7 +46,8 @@ get_take xs n p x h e =
     let here : p < length (take n xs) = grind (arith, length-take) in
     slice_get_read (take n xs) (length (take n xs)) p x refl here (sym (get_or_from_slice_get xs p x x e) ∙ sym (get_or-take n xs p x h))
 
-pub note_before : (u : Typed) (n p : ℕ) → IsWellTyped u → p < n → p < length u.tree.nodes → slice_get (take n u.notes) p ≡ Some (note_of (known u p) p (kind_at u p))
+pub note_before : (u : Typed) (n p : ℕ) → IsWellTyped u → p < n → p < length u.tree.nodes → slice_get (take n u.notes) p ≡ Some
+    (note_of (known u p) p (kind_at u p))
 note_before u n p w h l = get_take u.notes n p (note_of (known u p) p (kind_at u p)) h (note_is u p w l)
 
 pub steps_before : (u : Typed) (n p : ℕ) → IsWellTyped u → p < n → p < length u.tree.nodes → steps_at (known u n) p ≡ noted_steps u p
@@ -69,7 +71,8 @@ pub record IsBodyOf (u : Typed) (f body : ℕ) : Type 0 where
   pub there : f < length u.tree.nodes
   pub before : body < f
 
-body_of_there : (u : Typed) (f : ℕ) (node : Node) (is_static is_inline : Bool) (answer : Option IntType) (name : Name) (params : Parts) (body : ℕ) → IsWellTyped u →
+body_of_there : (u : Typed) (f : ℕ) (node : Node) (is_static is_inline : Bool) (answer : Option IntType) (name : Name) (params : Parts) (body : ℕ)
+    → IsWellTyped u →
     slice_get u.tree.nodes f ≡ Some node → node.kind ≡ nodes.Function is_static is_inline answer name params body → IsBodyOf u f body
 body_of_there u f node is_static is_inline answer name params body w e k =
     let behind = w.ordered f node e in

@@ -1,5 +1,6 @@
 -- All nodes, each by those before it, and a run.
-use Rattle.std.proofs.Common.{◌≡◌, ℕ, zero, suc, ◌+◌, ◌-◌, ◌≤◌, ◌<◌, Bool, true, false, if◌then◌else◌, nat_lt, List, [], ◌∷◌, length, take, Option, Some, None, refl, sym, ap, subst, arith, ◌∙◌, ◌⊎◌, inl, inr, ◌&&◌}
+use Rattle.std.proofs.Common.{◌≡◌, ℕ, zero, suc, ◌+◌, ◌-◌, ◌≤◌, ◌<◌, Bool, true, false, if◌then◌else◌, nat_lt, List, [], ◌∷◌, length, take, Option}
+use Rattle.std.proofs.Common.{Some, None, refl, sym, ap, subst, arith, ◌∙◌, ◌⊎◌, inl, inr, ◌&&◌}
 use Rattle.std.proofs.lemmas.List.{length-take}
 use Rattle.std.proofs.lemmas.Bool.{cases_lt}
 use Rattle.std.proofs.lemmas.Bool.Decides.{nat_tests}
@@ -15,7 +16,8 @@ use Rattle.vg_cmemory.specs.State.{State}
 use Rattle.vg_cmean.specs.Outcomes.{full}
 use Rattle.vg_cmean.specs.Typings as typings
 use Rattle.vg_cmean.specs.Typings.{kind_at, place_at, referent_at}
-use Rattle.vg_cmean.specs.Meaning.{Meaning, Parts_mean, nothing, of_node, meaning_below, meaning, parameter, answer_as, closing, end_of, first_of, constant, step_of}
+use Rattle.vg_cmean.specs.Meaning.{Meaning, Parts_mean, nothing, of_node, meaning_below, meaning, parameter, answer_as, closing, end_of, first_of}
+use Rattle.vg_cmean.specs.Meaning.{constant, step_of}
 use Rattle.vg_cmean.specs.Runs as runs
 use Rattle.vg_cmean.specs.Runs.{run, run_at, run_of, process_of, process_in, start, unsigned}
 use Rattle.vg_cmean.proofs.Below.{meaning_is, below_is, below_none}
@@ -56,15 +58,18 @@ part_of u n p w h below (inl less) small =
     let there : p < length u.tree.nodes = omega arith in
     let is = steps_before u n p w less there in
     let few : noted_steps u p ≤ 1000000 = omega arith in
-    subst (λ k. IsBounded (meaning_below u n p) k) (sym is) (subst (λ (m : Meaning). IsBounded m (noted_steps u p)) (sym (below_is u n p less)) (below p less there few))
-part_of u n p w h below (inr more) small = subst (λ (m : Meaning). IsBounded m (steps_at (known u n) p)) (sym (below_none u n p more)) (nothing_bounded (steps_at (known u n) p))
+    subst (λ k. IsBounded (meaning_below u n p) k) (sym is) (subst (λ (m : Meaning). IsBounded m (noted_steps u p)) (sym (below_is u n p less))
+    (below p less there few))
+part_of u n p w h below (inr more) small = subst (λ (m : Meaning). IsBounded m (steps_at (known u n) p)) (sym (below_none u n p more))
+    (nothing_bounded (steps_at (known u n) p))
 
 parts_of : (u : Typed) (n : ℕ) → IsWellTyped u → n < length u.tree.nodes → AreBoundedBelow u n → AreBounded (meaning_below u n) (known u n)
 parts_of u n w h below p small = part_of u n p w h below (cases_lt p n) small
 
 -- ---- what a call calls
 
-called_fit : (u : Typed) (n d : ℕ) (kind : Kind) → IsWellTyped u → n < length u.tree.nodes → AreBounded (meaning_below u n) (known u n) → d < n → kind_at u d ≡ kind →
+called_fit : (u : Typed) (n d : ℕ) (kind : Kind) → IsWellTyped u → n < length u.tree.nodes → AreBounded (meaning_below u n) (known u n) → d < n
+    → kind_at u d ≡ kind →
     IsCalled u (meaning_below u n) (known u n) d kind
 called_fit u n d (nodes.Function is_static is_inline answer name params body) w h parts less e = λ small.
     let there : d < length u.tree.nodes = omega arith in
@@ -98,7 +103,8 @@ callee_fit u n name (Some d) w h parts =
     let short = length-take n u.notes in
     called_fit u n d (kind_at u d) w h parts (omega arith) refl)
 
-fit : (u : Typed) (n : ℕ) (kind : Kind) → IsWellTyped u → LoopsEnd u → n < length u.tree.nodes → AreBounded (meaning_below u n) (known u n) → kind_at u n ≡ kind →
+fit : (u : Typed) (n : ℕ) (kind : Kind) → IsWellTyped u → LoopsEnd u → n < length u.tree.nodes → AreBounded (meaning_below u n) (known u n)
+    → kind_at u n ≡ kind →
     IsFit u (meaning_below u n) (known u n) n kind
 fit u n (nodes.Call name arguments) w ends h parts e = (
   ap typings.referent_of_note (note_is u n w h) ∙ ap (λ (k : Kind). referent (known u n) n k) e,
@@ -135,7 +141,8 @@ all_below : (u : Typed) (m : ℕ) → IsWellTyped u → LoopsEnd u → AreBounde
 all_below u zero w ends n less there small = absurd (omega arith)
 all_below u (suc m) w ends n less there small = all_next u m n w ends (all_below u m w ends) (split_below n m less) there small
 
-pub every_node : (u : Typed) (n : ℕ) → IsWellTyped u → LoopsEnd u → n < length u.tree.nodes → noted_steps u n ≤ 1000000 → IsBounded (meaning u n) (noted_steps u n)
+pub every_node : (u : Typed) (n : ℕ) → IsWellTyped u → LoopsEnd u → n < length u.tree.nodes → noted_steps u n ≤ 1000000
+    → IsBounded (meaning u n) (noted_steps u n)
 every_node u n w ends there small = all_below u (suc n) w ends n (omega arith) there small
 
 -- ---- a run
@@ -144,7 +151,8 @@ arguments_steps : (u : Typed) (ps : List ℕ) (port now : ℕ) (s : State) → s
 arguments_steps u [] port now s = omega arith
 arguments_steps u (p ∷ []) port now s = omega arith
 arguments_steps u (p ∷ t ∷ []) port now s =
-    let e = after_steps (parameter u p (unsigned 16 port) s) (parameter u t (unsigned 64 now)) (s.own.steps + 0) 0 (parameter_steps u p (unsigned 16 port) s) (parameter_steps u t (unsigned 64 now)) in omega arith
+    let e = after_steps (parameter u p (unsigned 16 port) s) (parameter u t (unsigned 64 now)) (s.own.steps + 0) 0
+    (parameter_steps u p (unsigned 16 port) s) (parameter_steps u t (unsigned 64 now)) in omega arith
 arguments_steps u (p ∷ t ∷ q ∷ ps) port now s = omega arith
 
 same_last : (u : Typed) (kind : Kind) → process_in u kind ≡ last_of (items_of u.tree kind)
@@ -155,7 +163,8 @@ few_steps : (steps : ℕ) (is_static is_inline : Bool) (answer : Option IntType)
     process_fault steps (nodes.Function is_static is_inline answer name params body) ≡ None → steps ≤ 1000000
 few_steps steps is_static is_inline answer name params body e = grind (arith, nat_tests)
 
-run_function : (u : Typed) (f : ℕ) (kind : Kind) (port now : ℕ) (s : State) → IsWellTyped u → LoopsEnd u → kind_at u f ≡ kind → process_fault (noted_steps u f) kind ≡ None →
+run_function : (u : Typed) (f : ℕ) (kind : Kind) (port now : ℕ) (s : State) → IsWellTyped u → LoopsEnd u → kind_at u f ≡ kind
+    → process_fault (noted_steps u f) kind ≡ None →
     (steps_after (run_of u kind port now s) ≤ s.own.steps + noted_steps u f) × (steps_after (run_of u kind port now s) ≤ s.own.steps + 1000000)
 run_function u f (nodes.Function is_static is_inline answer name params body) port now s w ends e short =
     let small = few_steps (noted_steps u f) is_static is_inline answer name params body short in
@@ -178,7 +187,8 @@ run_found : (u : Typed) (f : Option ℕ) (port now : ℕ) (s : State) → IsWell
     (steps_after (run_at u f port now s) ≤ s.own.steps + noted_at u f) × (steps_after (run_at u f port now s) ≤ s.own.steps + 1000000)
 run_found u None port now s w ends short = (omega arith, omega arith)
 run_found u (Some f) port now s w ends short =
-    run_function u f (kind_at u f) port now s w ends refl (ap (λ (k : Kind). process_fault (noted_steps u f) k) (Rattle.vg_cbounds.proofs.Ties.kinds_are_one u f) ∙ short)
+    run_function u f (kind_at u f) port now s w ends refl (ap (λ (k : Kind). process_fault (noted_steps u f) k)
+    (Rattle.vg_cbounds.proofs.Ties.kinds_are_one u f) ∙ short)
 
 pub run_bounded : (u : Typed) (port now : ℕ) (frame : List ℕ) → IsWellTyped u → LoopsEnd u →
     (steps_after (run u port now frame) ≤ noted_of_process u) × (steps_after (run u port now frame) ≤ 1000000)

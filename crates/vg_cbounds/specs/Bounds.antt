@@ -80,7 +80,8 @@ counted_turns u n of start bound step = or_zero (rules.turns (known u n) of star
 pub record TakesItsTurns (u : Typed) (n : ℕ) (of : IntType) (start bound : ℕ) (step : Option ℕ) (body : ℕ) : Type 0 where
   pub same : (s : State) →
       loop_of u (meaning_below u n) n of start bound step body s
-      ≡ turns u (counted_turns u n of start bound step) n (meaning_below u n body) (first_of u of start) (constant u bound) (step_of u step) (on_own (declare n) s)
+      ≡ turns u (counted_turns u n of start bound step) n (meaning_below u n body) (first_of u of start) (constant u bound) (step_of u step)
+      (on_own (declare n) s)
   pub few : counted_turns u n of start bound step ≤ 4096
 
 abbrev pub LoopsAreBounded : Type 0

@@ -16,11 +16,13 @@ use Rattle.vg_cint.specs.Tests.{Test, first_against, unless, tested, AllHold}
 use Rattle.vg_cint.specs.Types.{width}
 use Rattle.vg_cint.specs.Values.{low, reading, word_of, held_tests, truth, is_zero}
 use Rattle.vg_cint.specs.Operators as operators
-use Rattle.vg_cint.specs.Formulas.{IsFormula, OneIsFormula, ConvertedIsFormula, tests_of, formula, no, is_less, is_some, negative, signed_quotient, signed_remainder}
+use Rattle.vg_cint.specs.Formulas.{IsFormula, OneIsFormula, ConvertedIsFormula, tests_of, formula, no, is_less, is_some, negative, signed_quotient}
+use Rattle.vg_cint.specs.Formulas.{signed_remainder}
 use Rattle.vg_cint.proofs.Laws.{width_some}
 use Rattle.vg_cint.proofs.FirstAgainst.{nothing_against}
 use Rattle.vg_cint.proofs.Reduced.{read, sum_is, difference_is, negative_is, shifted_is, product_is}
-use Rattle.vg_cint.proofs.Compared.{no_bit, or_bit, and_bit, zero_is, at_most, equal_is, places_is, moved_is, some_word, unsigned_quotient, unsigned_remainder, signed_quotient_is, signed_remainder_is, small_word}
+use Rattle.vg_cint.proofs.Compared.{no_bit, or_bit, and_bit, zero_is, at_most, equal_is, places_is, moved_is, some_word, unsigned_quotient}
+use Rattle.vg_cint.proofs.Compared.{unsigned_remainder, signed_quotient_is, signed_remainder_is, small_word}
 
 -- ---- words and what they stand for
 
@@ -77,11 +79,13 @@ some_divisor t b h =
     some_word (low t b)
     (sym (zero_is t.signed (width t) (low t b) (low_below t b)) ∙ sym (ap is_zero (reading_is t b)) ∙ not_true (is_zero (reading t b)) h)
 
-quotient_at : (s : Bool) (w x y : ℕ) → x < 2 ^ w → y < 2 ^ w → 0 < y → bits.reduced w (int_div (read s w x) (read s w y)) ≡ (if s then signed_quotient w x y else bits.udiv w x y)
+quotient_at : (s : Bool) (w x y : ℕ) → x < 2 ^ w → y < 2 ^ w → 0 < y → bits.reduced w (int_div (read s w x) (read s w y)) ≡
+    (if s then signed_quotient w x y else bits.udiv w x y)
 quotient_at true w x y h k some = signed_quotient_is w x y h k some
 quotient_at false w x y h k some = unsigned_quotient w x y h some
 
-remainder_at : (s : Bool) (w x y : ℕ) → x < 2 ^ w → y < 2 ^ w → 0 < y → bits.reduced w (int_rem (read s w x) (read s w y)) ≡ (if s then signed_remainder w x y else bits.urem x y)
+remainder_at : (s : Bool) (w x y : ℕ) → x < 2 ^ w → y < 2 ^ w → 0 < y → bits.reduced w (int_rem (read s w x) (read s w y)) ≡
+    (if s then signed_remainder w x y else bits.urem x y)
 remainder_at true w x y h k some = signed_remainder_is w x y h k some
 remainder_at false w x y h k some = unsigned_remainder w x y h some
 
@@ -118,7 +122,8 @@ right_at false w x n h = moved_is w x n h
 pub right_is : IsFormula binary.ShiftRight
 right_is t u a b =
     same_tested (tests_of binary.ShiftRight t u a b) _ _
-    (λ h. word_is t (int_div_euclid (reading t a) (pos (2 ^ operators.places u b))) ∙ (λ j. bits.reduced (width t) (int_div_euclid (reading_is t a j) (pos (2 ^ places_at t u b h.0 j))))
+    (λ h. word_is t (int_div_euclid (reading t a) (pos (2 ^ operators.places u b)))
+    ∙ (λ j. bits.reduced (width t) (int_div_euclid (reading_is t a j) (pos (2 ^ places_at t u b h.0 j))))
     ∙ right_at t.signed (width t) (low t a) (low u b) (low_below t a))
 
 -- ---- comparisons
@@ -189,4 +194,5 @@ converted_at true v w x = refl
 converted_at false v w x = ap (λ n. n % 2 ^ w) (sym (whole x))
 
 pub converted_is : ConvertedIsFormula
-converted_is to from a = word_is to (reading from a) ∙ ap (bits.reduced (width to)) (reading_is from a) ∙ converted_at from.signed (width from) (width to) (low from a)
+converted_is to from a = word_is to (reading from a) ∙ ap (bits.reduced (width to)) (reading_is from a)
+    ∙ converted_at from.signed (width from) (width to) (low from a)

@@ -1,6 +1,8 @@
 -- Comparisons, truths, places and quotients of what words stand for, by the words.
-use Rattle.std.proofs.Common.{◌≡◌, ◌≢◌, ℕ, zero, suc, ◌+◌, ◌-◌, ◌*◌, ◌/◌, ◌%◌, ◌^◌, ◌<◌, ◌≤◌, Bool, true, false, ℤ, pos, negsuc, refl, sym, ap, subst, ◌∙◌, arith, inl, inr}
-use Rattle.std.specs.Prelude.{if◌then◌else◌, unsigned_abs, neg_ℤ, ◌+ℤ◌, ◌-ℤ◌, ◌*ℤ◌, nat_eq, nat_lt, nat_le, not, ◌&&◌, ◌||◌, int_lt, int_le, int_div, int_rem, bit_and, bit_or}
+use Rattle.std.proofs.Common.{◌≡◌, ◌≢◌, ℕ, zero, suc, ◌+◌, ◌-◌, ◌*◌, ◌/◌, ◌%◌, ◌^◌, ◌<◌, ◌≤◌, Bool, true, false, ℤ, pos, negsuc, refl, sym, ap, subst}
+use Rattle.std.proofs.Common.{◌∙◌, arith, inl, inr}
+use Rattle.std.specs.Prelude.{if◌then◌else◌, unsigned_abs, neg_ℤ, ◌+ℤ◌, ◌-ℤ◌, ◌*ℤ◌, nat_eq, nat_lt, nat_le, not, ◌&&◌, ◌||◌, int_lt, int_le, int_div}
+use Rattle.std.specs.Prelude.{int_rem, bit_and, bit_or}
 use Rattle.std.specs.Ordering.{int_eq}
 use Rattle.std.specs.Int.{int_div_euclid}
 use Rattle.std.proofs.lemmas.Bool.{cases_lt, lt-ltb, le-ltb}
@@ -186,8 +188,10 @@ signed_quotient_is w x y h k s =
             (λ j. bits.reduced w (int_div (signed_neg w x high h j) (signed_pos w y small j))) ∙ minus_quotient w (suc c) y (omega arith) s
             ∙ sym (quotient_with w x y (suc c) y true false (minus_high w x high h) (minus_low w y small) (magnitude_high w x high h) (magnitude_low w y small))
         | inr large ↦
-            (λ j. bits.reduced w (int_div (signed_neg w x high h j) (signed_neg w y large k j))) ∙ unsigned_quotient w (suc c) (suc d) (omega arith) (omega arith)
-            ∙ sym (quotient_with w x y (suc c) (suc d) true true (minus_high w x high h) (minus_high w y large k) (magnitude_high w x high h) (magnitude_high w y large k))
+            (λ j. bits.reduced w (int_div (signed_neg w x high h j) (signed_neg w y large k j)))
+            ∙ unsigned_quotient w (suc c) (suc d) (omega arith) (omega arith)
+            ∙ sym (quotient_with w x y (suc c) (suc d) true true (minus_high w x high h) (minus_high w y large k) (magnitude_high w x high h)
+            (magnitude_high w y large k))
       ]
     ]
 

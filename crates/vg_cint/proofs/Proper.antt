@@ -53,7 +53,8 @@ remaining_below t x y = tested_below t (operators.quotient_tests t x y) (int_rem
 
 left_below : (t u : Integer) (a b : ℕ) → Below t (operators.shift_left t u a b)
 left_below t u a b =
-    tested_below t (operators.shift_tests t (reading u b) ++ operators.left_tests t (reading t a) (operators.places u b)) (reading t a *ℤ pos (2 ^ operators.places u b))
+    tested_below t (operators.shift_tests t (reading u b) ++ operators.left_tests t (reading t a) (operators.places u b))
+    (reading t a *ℤ pos (2 ^ operators.places u b))
 
 right_below : (t u : Integer) (a b : ℕ) → Below t (operators.shift_right t u a b)
 right_below t u a b = tested_below t (operators.shift_tests t (reading u b)) (int_div_euclid (reading t a) (pos (2 ^ operators.places u b)))
@@ -79,7 +80,8 @@ words_below binary.Divide t u a b = quotient_below t (reading t a) (reading t b)
 words_below binary.Remainder t u a b = remaining_below t (reading t a) (reading t b)
 
 -- as the code has it, of the types that it found
-pub binary_below : (op : BinaryOp) (x y t u v : Integer) (a b w : ℕ) → t ≡ left_type op x y → v ≡ type_of_binary op x y → Ok w ≡ of_words op t u a b → w < 2 ^ width v
+pub binary_below : (op : BinaryOp) (x y t u v : Integer) (a b w : ℕ) → t ≡ left_type op x y → v ≡ type_of_binary op x y → Ok w ≡ of_words op t u a b
+    → w < 2 ^ width v
 binary_below op x y t u v a b w left whole e =
     let below : Below (type_of_binary op x y) (Ok w) =
     subst (λ (r : Result ℕ Reason). Below (type_of_binary op x y) r) (sym e)

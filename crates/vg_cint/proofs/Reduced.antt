@@ -1,5 +1,6 @@
 -- What the words of an operator's whole-number result are, by the words of its operands.
-use Rattle.std.proofs.Common.{◌≡◌, ℕ, zero, suc, ◌+◌, ◌-◌, ◌*◌, ◌/◌, ◌%◌, ◌^◌, ◌<◌, ◌≤◌, Bool, true, false, ℤ, pos, negsuc, refl, sym, ap, subst, ◌∙◌, arith, inl, inr}
+use Rattle.std.proofs.Common.{◌≡◌, ℕ, zero, suc, ◌+◌, ◌-◌, ◌*◌, ◌/◌, ◌%◌, ◌^◌, ◌<◌, ◌≤◌, Bool, true, false, ℤ, pos, negsuc, refl, sym, ap, subst, ◌∙◌}
+use Rattle.std.proofs.Common.{arith, inl, inr}
 use Rattle.std.specs.Prelude.{if◌then◌else◌, unsigned_abs, neg_ℤ, ◌+ℤ◌, ◌-ℤ◌, ◌*ℤ◌, nat_eq, nat_lt, not, int_lt, int_le}
 use Rattle.std.specs.Ordering.{int_eq}
 use Rattle.std.proofs.lemmas.Bool.{cases_lt, lt-ltb, le-ltb}
@@ -59,7 +60,11 @@ differences x y p q a b m h k l n = grind (arith, ints)
 
 less_small : (s : Bool) (w x : ℕ) → less s w x ≤ 1
 less_small false w x = omega arith
-less_small true w x = elim (cases_lt x (2 ^ (w - 1))) [ inl low ↦ rw (lt-ltb x (2 ^ (w - 1)) low) (omega arith) | inr high ↦ rw (le-ltb x (2 ^ (w - 1)) high) (omega arith) ]
+less_small true w x = elim (cases_lt x (2 ^ (w - 1))) [
+  | inl low ↦ rw (lt-ltb x (2 ^ (w - 1)) low) (omega arith)
+  | inr high ↦
+      rw (le-ltb x (2 ^ (w - 1)) high) (omega arith)
+]
 
 rest_of : (j k m : ℕ) → k ≤ 1 → (j + (1 - k)) * m ≡ j * m + (m - k * m)
 rest_of j zero m h = omega arith
@@ -76,7 +81,8 @@ difference_is s w x y h k =
     let below : y ≤ 2 ^ w = omega arith in
     reduced_by w (less s w x + (1 - less s w y)) (x + (2 ^ w - y)) (read s w x -ℤ read s w y)
     (ap (λ n. (read s w x -ℤ read s w y) +ℤ pos n) (rest_of (less s w x) (less s w y) (2 ^ w) (less_small s w y))
-    ∙ differences (read s w x) (read s w y) (less s w x * 2 ^ w) (less s w y * 2 ^ w) x y (2 ^ w) (up s w x h) (up s w y k) (once (less s w y) (2 ^ w) (less_small s w y)) below)
+    ∙ differences (read s w x) (read s w y) (less s w x * 2 ^ w) (less s w y * 2 ^ w) x y (2 ^ w) (up s w x h) (up s w y k)
+    (once (less s w y) (2 ^ w) (less_small s w y)) below)
     ∙ sym (sub-is w x y below)
 
 minus : (z : ℤ) → neg_ℤ z ≡ pos 0 -ℤ z

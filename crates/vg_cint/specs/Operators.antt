@@ -1,6 +1,7 @@
 -- The operators of C on words of integer types: what the whole-number result is, and where there is none (C11 6.5.3.3, 6.5.5 to 6.5.12).
 -- But for a shift, both operands are of the type t, which is the result's.
-use Rattle.std.specs.Prelude.{ℕ, ◌^◌, Bool, not, ◌&&◌, ◌||◌, ℤ, pos, neg_ℤ, ◌+ℤ◌, ◌-ℤ◌, ◌*ℤ◌, int_lt, int_le, int_div, int_rem, unsigned_abs, bit_and, bit_or, bit_xor, List, [], ◌∷◌, ◌++◌, Result}
+use Rattle.std.specs.Prelude.{ℕ, ◌^◌, Bool, not, ◌&&◌, ◌||◌, ℤ, pos, neg_ℤ, ◌+ℤ◌, ◌-ℤ◌, ◌*ℤ◌, int_lt, int_le, int_div, int_rem, unsigned_abs, bit_and}
+use Rattle.std.specs.Prelude.{bit_or, bit_xor, List, [], ◌∷◌, ◌++◌, Result}
 use Rattle.std.specs.Int.{int_div_euclid}
 use Rattle.std.specs.Ordering.{int_eq}
 use Rattle.vg_bits.specs.Words as bits

@@ -1,5 +1,6 @@
 -- Laws of slots that change.
-use Rattle.std.proofs.Common.{◌≡◌, ◌≢◌, ℕ, zero, suc, ◌<◌, nat_eq, false, true, Bool, List, [], ◌∷◌, slice_set, slice_index_or, Option, Some, None, IfOk, refl, ap, subst, ◌∙◌, arith}
+use Rattle.std.proofs.Common.{◌≡◌, ◌≢◌, ℕ, zero, suc, ◌<◌, nat_eq, false, true, Bool, List, [], ◌∷◌, slice_set, slice_index_or, Option, Some, None}
+use Rattle.std.proofs.Common.{IfOk, refl, ap, subst, ◌∙◌, arith}
 use Rattle.std.proofs.lemmas.Grind.{common_steps}
 use Rattle.vg_core.specs.declared.reason.Reason.{Reason}
 use Rattle.vg_cmemory.specs.declared.object.Object.{Object}
@@ -34,7 +35,8 @@ later born number h = grind (arith, common_steps)
 made_gone : (own : Own) (number : ℕ) (s : Slot) → number < own.born → content_of_life (made own.born s).life number ≡ Gone
 made_gone own number s h = rw (later own.born number h) refl
 
-by_place : (own : Own) (node k number : ℕ) (same : Bool) → nat_eq node k ≡ same → number < own.born → content own (objects.Declared k number) ≡ Gone → content (declare node own) (objects.Declared k number) ≡ Gone
+by_place : (own : Own) (node k number : ℕ) (same : Bool) → nat_eq node k ≡ same → number < own.born → content own (objects.Declared k number) ≡ Gone
+    → content (declare node own) (objects.Declared k number) ≡ Gone
 by_place own node k number true e h gone =
     let at : node ≡ k = grind (arith, common_steps) in
     subst (λ (j : ℕ). content_of_life (slice_index_or (slice_set own.slots node (made own.born (slot own node))) j no_slot).life number ≡ Gone) at

@@ -27,16 +27,20 @@ map_length : (xs : List ℕ) → length (map set xs) ≡ length xs
 map_length [] = refl
 map_length (x ∷ xs) = ap suc (map_length xs)
 
-all_hold : (x v y z : Bool) (word : ℕ) → first_against (test reasons.OutOfObject x ∷ test reasons.OutOfObject v ∷ test reasons.Misaligned y ∷ []) ≡ None → z ≡ true →
-    unless (first_against (test reasons.Dead true ∷ test reasons.OutOfObject x ∷ test reasons.OutOfObject v ∷ test reasons.Misaligned y ∷ test reasons.Unset z ∷ [])) word ≡ Ok word
+all_hold : (x v y z : Bool) (word : ℕ) → first_against (test reasons.OutOfObject x ∷ test reasons.OutOfObject v ∷ test reasons.Misaligned y ∷ []) ≡
+    None → z ≡ true →
+    unless (first_against (test reasons.Dead true ∷ test reasons.OutOfObject x ∷ test reasons.OutOfObject v ∷ test reasons.Misaligned y
+    ∷ test reasons.Unset z ∷ [])) word ≡ Ok word
 all_hold true true true true word e h = refl
 all_hold true true true false word e h = cc
 all_hold true true false z word e h = cc
 all_hold true false y z word e h = cc
 all_hold false v y z word e h = cc
 
-pub chunk_read : (from size : ℕ) (bytes : List ℕ) (room : Option Room) (offset count align : ℕ) → first_against (place_tests (length bytes) room offset count align) ≡ None →
+pub chunk_read : (from size : ℕ) (bytes : List ℕ) (room : Option Room) (offset count align : ℕ)
+    → first_against (place_tests (length bytes) room offset count align) ≡ None →
     load_from (Lent from size) (map set bytes) room offset count align ≡ Ok (word_of (map set (part bytes offset count)))
 chunk_read from size bytes room offset count align e =
     rw (map_length bytes, map_part bytes offset count, map_set (part bytes offset count))
-    (all_hold (nat_le (offset + count) (length bytes)) (lies_in room offset count) (nat_eq (offset % align) 0) true (word_of (map set (part bytes offset count))) e refl)
+    (all_hold (nat_le (offset + count) (length bytes)) (lies_in room offset count) (nat_eq (offset % align) 0) true
+    (word_of (map set (part bytes offset count))) e refl)

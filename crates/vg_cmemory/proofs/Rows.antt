@@ -15,7 +15,8 @@ joined_below byte rest size h b r =
 
 power_mono : (m n : ℕ) → 256 ^ m ≤ 256 ^ (m + n)
 power_mono m zero = let e : m ≡ m + 0 = omega arith in subst (λ k. 256 ^ m ≤ 256 ^ k) e (omega arith)
-power_mono m (suc n) = let h = power_mono m n in let p = power_suc (m + n) in let e : m + suc n ≡ suc (m + n) = omega arith in subst (λ k. 256 ^ m ≤ 256 ^ k) (sym e) (omega arith)
+power_mono m (suc n) = let h = power_mono m n in let p = power_suc (m + n) in let e : m + suc n ≡ suc (m + n) = omega arith in
+    subst (λ k. 256 ^ m ≤ 256 ^ k) (sym e) (omega arith)
 
 -- eight bytes are a word of 64 bits
 pub at_most_a_word : (size : ℕ) → size ≤ 8 → 256 ^ size ≤ 2 ^ 64

@@ -1,5 +1,6 @@
 -- What a write leaves in its own object.
-use Rattle.std.proofs.Common.{◌≡◌, ℕ, zero, suc, ◌+◌, nat_eq, Bool, true, false, if◌then◌else◌, List, [], ◌∷◌, length, map, take, drop, slice_set, slice_index_or, Option, Some, None, IfOk, refl, ap, subst, sym, ◌∙◌, arith}
+use Rattle.std.proofs.Common.{◌≡◌, ℕ, zero, suc, ◌+◌, nat_eq, Bool, true, false, if◌then◌else◌, List, [], ◌∷◌, length, map, take, drop, slice_set}
+use Rattle.std.proofs.Common.{slice_index_or, Option, Some, None, IfOk, refl, ap, subst, sym, ◌∙◌, arith}
 use Rattle.vg_core.specs.declared.reason.Reason.{Reason}
 use Rattle.vg_core.specs.declared.reason.Reason.TheVariants as reasons
 use Rattle.vg_cmemory.specs.declared.object.Object.TheVariants as objects
@@ -7,7 +8,8 @@ use Rattle.vg_cmemory.specs.declared.object.Object.{Object}
 use Rattle.vg_cmemory.specs.declared.object.Chunk.{Chunk}
 use Rattle.vg_cmemory.specs.State.{State, Slot, Life, no_slot}
 use Rattle.vg_cint.specs.Tests.{Test, test, first_against, unless}
-use Rattle.vg_cmemory.specs.Access.{Content, Bytes, Lent, Gone, lives, set, part, put, bytes_of, bytes_of_word, content, content_of_life, content_of_chunk, put_in_slot, written, place_tests, start_in_frame}
+use Rattle.vg_cmemory.specs.Access.{Content, Bytes, Lent, Gone, lives, set, part, put, bytes_of, bytes_of_word, content, content_of_life}
+use Rattle.vg_cmemory.specs.Access.{content_of_chunk, put_in_slot, written, place_tests, start_in_frame}
 use Rattle.vg_cmemory.specs.Laws.{WritesAreSeen, bytes_in}
 
 -- ---- parts of a list
@@ -24,7 +26,8 @@ drop_set [] (suc from) at place v e = refl
 drop_set (x ∷ xs) (suc from) at zero v e = absurd (omega arith)
 drop_set (x ∷ xs) (suc from) at (suc place) v e = drop_set xs from at place v (omega arith)
 
-part_set : {A : Type 0} (xs : List A) (from size at place : ℕ) (v : A) → place ≡ from + at → part (slice_set xs place v) from size ≡ slice_set (part xs from size) at v
+part_set : {A : Type 0} (xs : List A) (from size at place : ℕ) (v : A) → place ≡ from + at
+    → part (slice_set xs place v) from size ≡ slice_set (part xs from size) at v
 part_set xs from size at place v e = ap (take size) (drop_set xs from at place v e) ∙ take_set (drop from xs) size at v
 
 part_put : {A : Type 0} (xs new : List A) (from size at place : ℕ) → place ≡ from + at → part (put xs place new) from size ≡ put (part xs from size) at new
@@ -48,7 +51,8 @@ done_if : {A : Type 0} (r : Option Reason) (done : A) (P : A → Type 0) → P d
 done_if None done P h = h
 done_if (Some reason) done P h = tt
 
-if_alive : {A : Type 0} (b : Bool) (ts : List Test) (done : A) (P : A → Type 0) → (b ≡ true → P done) → IfOk (unless (first_against (test reasons.Dead b ∷ ts)) done) P
+if_alive : {A : Type 0} (b : Bool) (ts : List Test) (done : A) (P : A → Type 0) → (b ≡ true → P done)
+    → IfOk (unless (first_against (test reasons.Dead b ∷ ts)) done) P
 if_alive true ts done P h = done_if (first_against ts) done P (h refl)
 if_alive false ts done P h = tt
 
@@ -60,11 +64,13 @@ seen_life true bytes frame other at new h = refl
 seen_life false bytes frame other at new h = cc
 
 seen_option : (life : Option Life) (size number at : ℕ) (new : List ℕ) (frame other : List ℕ) → lives (content_of_life life number) ≡ true →
-    bytes_of other (content_of_life (put_in_slot at new (record { size = size; life = life })).life number) ≡ put (bytes_of frame (content_of_life life number)) at (map set new)
+    bytes_of other (content_of_life (put_in_slot at new (record { size = size; life = life })).life number) ≡ put
+    (bytes_of frame (content_of_life life number)) at (map set new)
 seen_option None size number at new frame other h = cc
 seen_option (Some life) size number at new frame other h = seen_life (nat_eq life.number number) life.bytes frame other at (map set new) h
 
-seen_slot : (slots : List Slot) (node number at : ℕ) (new : List ℕ) (frame other : List ℕ) → lives (content_of_life (slice_index_or slots node no_slot).life number) ≡ true →
+seen_slot : (slots : List Slot) (node number at : ℕ) (new : List ℕ) (frame other : List ℕ)
+    → lives (content_of_life (slice_index_or slots node no_slot).life number) ≡ true →
     bytes_of other (content_of_life (slice_index_or (slice_set slots node (put_in_slot at new (slice_index_or slots node no_slot))) node no_slot).life number)
     ≡ put (bytes_of frame (content_of_life (slice_index_or slots node no_slot).life number)) at (map set new)
 seen_slot [] node number at new frame other h = cc
@@ -79,7 +85,8 @@ either false P x y h i = i
 
 pub by_chunk : (chunks : List Chunk) (number : ℕ) (P : Content → Type 0) → ((from size : ℕ) → P (Lent from size)) → P Gone → P (content_of_chunk chunks number)
 by_chunk [] number P one none = none
-by_chunk (c ∷ cs) number P one none = either (nat_eq c.number number) P (Lent c.from c.size) (content_of_chunk cs number) (one c.from c.size) (by_chunk cs number P one none)
+by_chunk (c ∷ cs) number P one none = either (nat_eq c.number number) P (Lent c.from c.size) (content_of_chunk cs number) (one c.from c.size)
+    (by_chunk cs number P one none)
 
 seen_lent : (frame new : List ℕ) (from size at : ℕ) →
     bytes_of (put frame (from + at) new) (Lent from size) ≡ put (bytes_of frame (Lent from size)) at (map set new)
@@ -102,6 +109,7 @@ seen_at s (objects.Chunk number) at new h = seen_chunk s number at new h
 
 pub writes_are_seen : WritesAreSeen
 writes_are_seen s p room size align word =
-    if_alive (lives (content s.own p.object)) (place_tests (length (bytes_in s p.object)) room p.offset size align) (written s p.object p.offset (bytes_of_word size word))
+    if_alive (lives (content s.own p.object)) (place_tests (length (bytes_in s p.object)) room p.offset size align)
+    (written s p.object p.offset (bytes_of_word size word))
     (λ t. bytes_in t p.object ≡ put (bytes_in s p.object) p.offset (map set (bytes_of_word size word)))
     (λ h. seen_at s p.object p.offset (bytes_of_word size word) h)

@@ -1,5 +1,6 @@
 -- One slot of a memory changed, and all of them at rest.
-use Rattle.std.proofs.Common.{◌≡◌, ◌≢◌, ℕ, zero, suc, ◌+◌, ◌<◌, ◌≤◌, nat_eq, false, List, [], ◌∷◌, ◌++◌, All, length, slice_set, slice_index_or, None, refl, ap, ◌∙◌, arith}
+use Rattle.std.proofs.Common.{◌≡◌, ◌≢◌, ℕ, zero, suc, ◌+◌, ◌<◌, ◌≤◌, nat_eq, false, List, [], ◌∷◌, ◌++◌, All, length, slice_set, slice_index_or, None}
+use Rattle.std.proofs.Common.{refl, ap, ◌∙◌, arith}
 use Rattle.std.proofs.lemmas.Grind.{common_steps}
 use Rattle.vg_cmemory.specs.declared.local.Local.{Local}
 use Rattle.vg_cmemory.specs.declared.object.Pointer.{Pointer}
@@ -8,12 +9,14 @@ use Rattle.vg_cmemory.specs.Access.{put_in_slot, written_in}
 use Rattle.vg_cmemory.specs.Kept.{slot_of, slots_of}
 
 pub changed : (run : ℕ) (locals : List Local) (node : ℕ) (old new : Local) (g : Slot → Slot) → node < length locals → old ≡ slice_index_or locals node old →
-    slot_of run new ≡ g (slot_of run old) → slots_of run (slice_set locals node new) ≡ slice_set (slots_of run locals) node (g (slice_index_or (slots_of run locals) node no_slot))
+    slot_of run new ≡ g (slot_of run old) → slots_of run (slice_set locals node new) ≡ slice_set (slots_of run locals) node
+    (g (slice_index_or (slots_of run locals) node no_slot))
 changed run [] node old new g h is e = absurd (omega arith)
 changed run (l ∷ ls) zero old new g h is e = ap (λ (s : Slot). s ∷ slots_of run ls) (e ∙ ap (λ (x : Local). g (slot_of run x)) is)
 changed run (l ∷ ls) (suc node) old new g h is e = ap (λ (ss : List Slot). slot_of run l ∷ ss) (changed run ls node old new g (omega arith) is e)
 
-sizes_kept : (slots : List Slot) (node : ℕ) (g : Slot → Slot) → ((s : Slot) → (g s).size ≡ s.size) → sizes_of (slice_set slots node (g (slice_index_or slots node no_slot))) ≡ sizes_of slots
+sizes_kept : (slots : List Slot) (node : ℕ) (g : Slot → Slot) → ((s : Slot) → (g s).size ≡ s.size)
+    → sizes_of (slice_set slots node (g (slice_index_or slots node no_slot))) ≡ sizes_of slots
 sizes_kept [] node g h = refl
 sizes_kept (s ∷ ss) zero g h = ap (λ (n : ℕ). n ∷ sizes_of ss) (h s)
 sizes_kept (s ∷ ss) (suc node) g h = ap (λ (ns : List ℕ). s.size ∷ ns) (sizes_kept ss node g h)
@@ -45,7 +48,8 @@ rested : (run now : ℕ) (l : Local) → l.run ≢ now → slot_of now l ≡ end
 rested run now l h = rw (not_equal l.run now h) refl
 
 -- a run of a higher number than all before finds nothing that lives
-pub all_rested : (run now : ℕ) (locals : List Local) → run < now → All (λ (l : Local). l.run ≤ run) locals → slots_of now locals ≡ at_rest (sizes_of (slots_of run locals))
+pub all_rested : (run now : ℕ) (locals : List Local) → run < now → All (λ (l : Local). l.run ≤ run) locals
+    → slots_of now locals ≡ at_rest (sizes_of (slots_of run locals))
 all_rested run now [] less h = refl
 all_rested run now (l ∷ ls) less h =
     let first : l.run ≤ run = h zero l (omega arith) in
@@ -66,7 +70,8 @@ pub rest_is_one : (run now : ℕ) (locals : List Local) → sizes_of (slots_of r
 rest_is_one run now [] = refl
 rest_is_one run now (l ∷ ls) = ap (λ (ns : List ℕ). length l.bytes.items ∷ ns) (rest_is_one run now ls)
 
-pub forgotten_more : (locals : List Local) (k : ℕ) (new : Local) → k < length locals → new.run ≡ 0 → ((j : ℕ) (d : Local) → j < k → (slice_index_or locals j d).run ≤ 0) →
+pub forgotten_more : (locals : List Local) (k : ℕ) (new : Local) → k < length locals → new.run ≡ 0
+    → ((j : ℕ) (d : Local) → j < k → (slice_index_or locals j d).run ≤ 0) →
     (j : ℕ) (d : Local) → j < k + 1 → (slice_index_or (slice_set locals k new) j d).run ≤ 0
 forgotten_more [] k new within e h j d b = absurd (omega arith)
 forgotten_more (l ∷ ls) zero new within e h zero d b = omega arith

@@ -1,5 +1,6 @@
 -- Chunks that are lent, one behind the other.
-use Rattle.std.proofs.Common.{◌≡◌, ℕ, zero, suc, ◌+◌, ◌-◌, ◌<◌, ◌≤◌, nat_eq, Bool, true, false, if◌then◌else◌, List, [], ◌∷◌, ◌++◌, length, take, slice_get, slice_index_or, refl, sym, ap, subst, ◌∙◌, arith}
+use Rattle.std.proofs.Common.{◌≡◌, ℕ, zero, suc, ◌+◌, ◌-◌, ◌<◌, ◌≤◌, nat_eq, Bool, true, false, if◌then◌else◌, List, [], ◌∷◌, ◌++◌, length, take}
+use Rattle.std.proofs.Common.{slice_get, slice_index_or, refl, sym, ap, subst, ◌∙◌, arith}
 use Rattle.std.specs.List.{AllPairs}
 use Rattle.std.proofs.lemmas.Grind.{common_steps}
 use Rattle.vg_cmemory.specs.declared.object.Object.{Object}
@@ -59,7 +60,8 @@ gone_more : (chunks : List Chunk) (new : Chunk) (number : ℕ) → nat_eq new.nu
     content_of_chunk (chunks ++ new ∷ []) number ≡ Gone
 gone_more [] new number other e = ap (λ (b : Bool). if b then Lent new.from new.size else Gone) other
 gone_more (c ∷ cs) new number other e =
-    same_if (nat_eq c.number number) (Lent c.from c.size) (content_of_chunk cs number) (content_of_chunk (cs ++ new ∷ []) number) (gone_more cs new number other) e
+    same_if (nat_eq c.number number) (Lent c.from c.size) (content_of_chunk cs number) (content_of_chunk (cs ++ new ∷ []) number)
+    (gone_more cs new number other) e
 
 pub stays_gone_at_loans : StaysGoneAtLoans
 stays_gone_at_loans own count (objects.Declared node number) h gone = gone

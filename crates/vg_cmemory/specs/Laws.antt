@@ -54,7 +54,8 @@ abbrev pub StartsStacked : Type 0
 StartsStacked = (sizes : List ℕ) → IsStacked (start sizes)
 
 abbrev pub StaysStacked : Type 0
-StaysStacked = (own : Own) (count : ℕ) → IsStacked own → IsStacked (with_loan own count) × (0 < length own.chunks → IsStacked (without_loan own)) × IsStacked (take_back_all own)
+StaysStacked = (own : Own) (count : ℕ) → IsStacked own → IsStacked (with_loan own count) × (0 < length own.chunks → IsStacked (without_loan own))
+    × IsStacked (take_back_all own)
 
 -- and so no two chunks have a byte in common
 abbrev pub ChunksAreApart : Type 0
@@ -76,7 +77,8 @@ abbrev pub StaysGone : Type 0
 StaysGone = (own : Own) (node : ℕ) (object : Object) → number_of_name object < own.born → content own object ≡ Gone → content (declare node own) object ≡ Gone
 
 abbrev pub StaysGoneAtLoans : Type 0
-StaysGoneAtLoans = (own : Own) (count : ℕ) (object : Object) → number_of_name object < own.born → content own object ≡ Gone → content (with_loan own count) object ≡ Gone
+StaysGoneAtLoans = (own : Own) (count : ℕ) (object : Object) → number_of_name object < own.born → content own object ≡ Gone
+    → content (with_loan own count) object ≡ Gone
 
 abbrev pub EndsLife : Type 0
 EndsLife = (own : Own) (node number : ℕ) → content (end_life node own) (objects.Declared node number) ≡ Gone

@@ -1,7 +1,8 @@
 //! Reads and writes of objects.
 ghost use Rattle.std.specs.Prelude.{◌≡◌, ◌≤◌, ◌<◌, ◌+◌, ◌-◌, ◌^◌, IfNone, OnOk, OnErr, Some, List, ℕ, length, map};
 ghost use Rattle.vg_cmemory.specs.Access as accesses;
-ghost use Rattle.vg_cmemory.specs.Access.{Bytes, Lent, place_tests, access_tests, write_tests, put, load_from, bytes_of, content_of_chunk, content_of_option, load, store, leaves, ends_at, part, bytes_of_word, set};
+ghost use Rattle.vg_cmemory.specs.Access.{Bytes, Lent, place_tests, access_tests, write_tests, put, load_from, bytes_of, content_of_chunk};
+ghost use Rattle.vg_cmemory.specs.Access.{content_of_option, load, store, leaves, ends_at, part, bytes_of_word, set};
 ghost use Rattle.vg_cmemory.specs.State.{sizes};
 ghost use Rattle.vg_cint.specs.Tests.{first_against, unless, tested};
 
@@ -168,7 +169,8 @@ impl FrameMemory {
         word: u64,
     ) -> Result<(), Reason>
         requires aligned { 0 < align }
-        ensures value { leaves result (record { own = self.new; frame = frame.new }) ≡ store (record { own = self.old; frame = frame.old }) pointer room size align word }
+        ensures value { leaves result (record { own = self.new; frame = frame.new }) ≡ store (record { own = self.old; frame = frame.old }) pointer
+            room size align word }
         ensures kept { OnErr result (self.new ≡ self.old) }
         ensures frame_kept { OnErr result (frame.new ≡ frame.old) }
         ensures sizes { sizes self.new ≡ sizes self.old }
@@ -197,7 +199,8 @@ impl FrameMemory {
         word: u64,
     ) -> Result<(), Reason>
         requires aligned { 0 < align }
-        ensures value { (frame : List ℕ) → leaves result (record { own = self.new; frame = frame }) ≡ store (record { own = self.old; frame = frame }) (record { object = Object.Declared node number; offset = offset }) room size align word }
+        ensures value { (frame : List ℕ) → leaves result (record { own = self.new; frame = frame }) ≡ store (record { own = self.old; frame = frame })
+            (record { object = Object.Declared node number; offset = offset }) room size align word }
         ensures kept { OnErr result (self.new ≡ self.old) }
         ensures sizes { sizes self.new ≡ sizes self.old }
     {
@@ -217,7 +220,12 @@ impl FrameMemory {
         align: u32,
     ) -> Result<(), Reason>
         requires aligned { 0 < align }
-        ensures value { (frame : List ℕ) → result ≡ tested (write_tests (record { own = self.now; frame = frame }) (record { object = Object.Declared node number; offset = offset }) room size align) tt }
+        ensures value { (frame : List ℕ)
+            → result ≡ tested (write_tests (record { own = self.now; frame = frame }) (record {
+              object = Object.Declared node number;
+              offset =
+                  offset;
+            }) room size align) tt }
         ensures near { OnOk result (offset + size < 2 ^ 64) }
     {
         let Some(local) = self.local_list.as_slice().get(node as usize) else {
@@ -293,7 +301,9 @@ fn store_lent(
     word: u64,
 ) -> Result<(), Reason>
     requires aligned { 0 < align }
-    ensures value { leaves result frame.new ≡ tested (access_tests (Lent chunk.from chunk.size) (length (bytes_of frame.old (Lent chunk.from chunk.size))) room offset size align) (put frame.old (chunk.from + offset) (bytes_of_word size word)) }
+    ensures value { leaves result frame.new ≡ tested (access_tests (Lent chunk.from chunk.size)
+        (length (bytes_of frame.old (Lent chunk.from chunk.size))) room offset size align)
+        (put frame.old (chunk.from + offset) (bytes_of_word size word)) }
     ensures kept { OnErr result (frame.new ≡ frame.old) }
 {
     let bytes = part_of(frame, chunk.from as usize, chunk.size as usize).len() as u64;

@@ -1,5 +1,6 @@
 //! Laws of the memory's definitions, each as the contract of a function that does nothing.
-ghost use Rattle.vg_cmemory.specs.Laws.{RowsAreNamed, WritesAreSeen, WritesAreSeenThereAlone, WritesStayInside, FrameWritesStayInside, StartsStacked, StaysStacked, ChunksAreApart, StaysGone, StaysGoneAtLoans, EndsLife};
+ghost use Rattle.vg_cmemory.specs.Laws.{RowsAreNamed, WritesAreSeen, WritesAreSeenThereAlone, WritesStayInside, FrameWritesStayInside, StartsStacked};
+ghost use Rattle.vg_cmemory.specs.Laws.{StaysStacked, ChunksAreApart, StaysGone, StaysGoneAtLoans, EndsLife};
 
 /// A write is seen in its own object, and changes no other.
 pub fn writes_stay_inside()

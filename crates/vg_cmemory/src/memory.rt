@@ -28,7 +28,14 @@ impl Model for FrameMemory {
 
     ghost use Rattle.vg_cmemory.specs.Kept.{slots_of, AreOfRuns};
 
-    ghost view = { λ m. record { slots = slots_of m.run m.local_list.items; chunks = m.chunk_list.items; lent = m.next; steps = m.taken; born = m.next_object } };
+    ghost view = { λ m. record {
+      slots = slots_of m.run m.local_list.items;
+      chunks = m.chunk_list.items;
+      lent = m.next;
+      steps = m.taken;
+      born =
+          m.next_object;
+    } };
 
     ghost invariant = { λ m. AreOfRuns m.run m.local_list.items };
 }

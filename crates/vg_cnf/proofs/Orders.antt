@@ -15,7 +15,8 @@ use Rattle.vg_cnf.proofs.Settled.{settled-unit, settled-propagated, propagated-s
 settled-at : (ls c : List ℤ) (clauses : List (List ℤ)) → Contains clauses c → All (Settled ls) clauses → Settled ls c
 settled-at ls c clauses at all = subst (Settled ls) at.2 (all at.0 c at.1)
 
-no_conflict : (ls made c : List ℤ) → IsConsistent ls → ((l : ℤ) → holds made l ≡ true → holds ls l ≡ true) → Settled ls c → ((k : ℤ) → holds c k ≡ true → holds made (neg_ℤ k) ≡ true) → ⊥
+no_conflict : (ls made c : List ℤ) → IsConsistent ls → ((l : ℤ) → holds made l ≡ true → holds ls l ≡ true) → Settled ls c
+    → ((k : ℤ) → holds c k ≡ true → holds made (neg_ℤ k) ≡ true) → ⊥
 no_conflict ls made c consistent within (by_true l here t) falses =
     true≢false (sym (within (neg_ℤ l) (falses l here)) ∙ consistent l t)
 no_conflict ls made c consistent within (by_two k l here there apart p q) falses =
@@ -38,7 +39,8 @@ unit_within ls made c l consistent within (by_two x y here there apart p q) fals
       | inr other ↦ absurd (true≢false (sym (within (neg_ℤ x) (falses x here other)) ∙ p))
     ]
 
-within_more : (ls made : List ℤ) (l : ℤ) → holds ls l ≡ true → ((k : ℤ) → holds made k ≡ true → holds ls k ≡ true) → (k : ℤ) → holds (l ∷ made) k ≡ true → holds ls k ≡ true
+within_more : (ls made : List ℤ) (l : ℤ) → holds ls l ≡ true → ((k : ℤ) → holds made k ≡ true → holds ls k ≡ true) → (k : ℤ)
+    → holds (l ∷ made) k ≡ true → holds ls k ≡ true
 within_more ls made l here within k e =
     elim (cases_Bool (int_eq k l)) [
       | inl is_l ↦ ap (holds ls) (same_literal k l is_l) ∙ here
@@ -46,7 +48,8 @@ within_more ls made l here within k e =
     ]
 
 -- where literals settle the clauses, no order of units reaches an empty one
-pub settled-reaches : (ls : List ℤ) (clauses : List (List ℤ)) (made : List ℤ) → IsConsistent ls → All (Settled ls) clauses → ((k : ℤ) → holds made k ≡ true → holds ls k ≡ true) → Reaches clauses made → ⊥
+pub settled-reaches : (ls : List ℤ) (clauses : List (List ℤ)) (made : List ℤ) → IsConsistent ls → All (Settled ls) clauses
+    → ((k : ℤ) → holds made k ≡ true → holds ls k ≡ true) → Reaches clauses made → ⊥
 settled-reaches ls clauses made consistent all within (conflict c at falses) =
     no_conflict ls made c consistent within (settled-at ls c clauses at all) falses
 settled-reaches ls clauses made consistent all within (unit c l at falses rest) =
@@ -63,7 +66,8 @@ falsified-settled ls (l ∷ c) clauses all =
     let rest = falsified-settled ls c clauses (All-tail (Settled ls) (neg_ℤ l ∷ []) (falsified c ++ clauses) all) in
     (within_more ls (negations c) (neg_ℤ l) here rest.0, rest.1)
 
-pub settled-falsified : (made c : List ℤ) (clauses : List (List ℤ)) → ((k : ℤ) → holds (negations c) k ≡ true → holds made k ≡ true) → All (Settled made) clauses →
+pub settled-falsified : (made c : List ℤ) (clauses : List (List ℤ)) → ((k : ℤ) → holds (negations c) k ≡ true → holds made k ≡ true)
+    → All (Settled made) clauses →
     All (Settled made) (falsified c ++ clauses)
 settled-falsified made [] clauses within all = all
 settled-falsified made (l ∷ c) clauses within all =
@@ -84,7 +88,8 @@ negation-nonzero l e =
       | inr not_zero ↦ not_zero
     ]
 
-falsified-nonzero : (c : List ℤ) (clauses : List (List ℤ)) → holds c (pos 0) ≡ false → occurs clauses (pos 0) ≡ false → occurs (falsified c ++ clauses) (pos 0) ≡ false
+falsified-nonzero : (c : List ℤ) (clauses : List (List ℤ)) → holds c (pos 0) ≡ false → occurs clauses (pos 0) ≡ false
+    → occurs (falsified c ++ clauses) (pos 0) ≡ false
 falsified-nonzero [] clauses no_zero none = none
 falsified-nonzero (l ∷ c) clauses no_zero none =
     let parts = or_parts (int_eq (pos 0) l) (holds c (pos 0)) no_zero in
@@ -98,18 +103,21 @@ reaches-propagated clauses c no_zero nonzero reaches =
     elim (cases_Option (propagated (falsified c ++ clauses))) [
       | inl none ↦ none
       | inr some ↦
-          let settles = propagated-settles (length (falsified c ++ clauses)) (falsified c ++ clauses) some.0 (omega arith) (falsified-nonzero c clauses nonzero no_zero) some.1 in
+          let settles = propagated-settles (length (falsified c ++ clauses)) (falsified c ++ clauses) some.0 (omega arith)
+          (falsified-nonzero c clauses nonzero no_zero) some.1 in
           let parts = falsified-settled some.0 c clauses settles.1 in
           absurd (settled-reaches some.0 clauses (negations c) settles.0 parts.1 parts.0 reaches)
     ]
 
-pub reaches-follows : (clauses : List (List ℤ)) (c : List ℤ) → occurs clauses (pos 0) ≡ false → is_clause c ≡ true → Reaches clauses (negations c) → follows clauses c ≡ true
+pub reaches-follows : (clauses : List (List ℤ)) (c : List ℤ) → occurs clauses (pos 0) ≡ false → is_clause c ≡ true → Reaches clauses (negations c)
+    → follows clauses c ≡ true
 reaches-follows clauses c no_zero clause reaches =
     and_from (is_clause c) (is_none (propagated (falsified c ++ clauses))) clause
     (ap is_none (reaches-propagated clauses c no_zero (clause-nonzero c clause) reaches))
 
 -- and a clause whose literals are false where all clauses are settled doesn't follow
-pub settled-follows : (clauses : List (List ℤ)) (c made : List ℤ) → IsConsistent made → All (Settled made) clauses → ((k : ℤ) → holds (negations c) k ≡ true → holds made k ≡ true) → follows clauses c ≡ false
+pub settled-follows : (clauses : List (List ℤ)) (c made : List ℤ) → IsConsistent made → All (Settled made) clauses
+    → ((k : ℤ) → holds (negations c) k ≡ true → holds made k ≡ true) → follows clauses c ≡ false
 settled-follows clauses c made consistent all within =
     let some = settled-propagated (length (falsified c ++ clauses)) made (falsified c ++ clauses) consistent (settled-falsified made c clauses within all) in
     and_right (is_clause c) (is_none (propagated (falsified c ++ clauses))) (ap is_none some.1)

@@ -1,5 +1,6 @@
 -- Lists kept as one list and the ends of its pieces.
-use Rattle.std.proofs.Common.{◌≡◌, ℕ, zero, suc, ◌+◌, ◌-◌, ◌<◌, ◌≤◌, List, [], ◌∷◌, ◌++◌, length, take, drop, Some, refl, sym, ap, subst, ◌∙◌, arith, length-append, length-drop, length-take}
+use Rattle.std.proofs.Common.{◌≡◌, ℕ, zero, suc, ◌+◌, ◌-◌, ◌<◌, ◌≤◌, List, [], ◌∷◌, ◌++◌, length, take, drop, Some, refl, sym, ap, subst, ◌∙◌, arith}
+use Rattle.std.proofs.Common.{length-append, length-drop, length-take}
 use Rattle.std.specs.Prelude.{slice_range, slice_get, slice_index, sum_by}
 use Rattle.std.proofs.Math.Seq.{drop-append_seam}
 use Rattle.std.proofs.lemmas.List.Sums.{sum_by-cons}
@@ -18,7 +19,8 @@ pub Cuts-push : (total more start : ℕ) (ends : List ℕ) → total ≤ more �
 Cuts-push total more start [] le e = (omega (arith, e), refl)
 Cuts-push total more start (end ∷ ends) le cuts = (cuts.0, Cuts-push total more end ends le cuts.1)
 
-range-append : {A : Type 0} (items new : List A) (start end : ℕ) → start ≤ end → end ≤ length items → slice_range (items ++ new) start end ≡ slice_range items start end
+range-append : {A : Type 0} (items new : List A) (start end : ℕ) → start ≤ end → end ≤ length items
+    → slice_range (items ++ new) start end ≡ slice_range items start end
 range-append items new start end p q =
     ap (take (end - start)) (drop-append-le start items new (omega arith))
     ∙ take-append-le (end - start) (drop start items) new (simp length-drop (omega arith))
@@ -32,13 +34,15 @@ pub pieces-push : {A : Type 0} (items new : List A) (start : ℕ) (ends : List �
     pieces (items ++ new) start (ends ++ (length items + length new) ∷ []) ≡ pieces items start ends ++ new ∷ []
 pieces-push items new start [] e = ap (λ x. x ∷ []) (range_new items new start e)
 pieces-push items new start (end ∷ ends) cuts =
-    ap (λ x. x ∷ pieces (items ++ new) end (ends ++ (length items + length new) ∷ [])) (range-append items new start end cuts.0 (Cuts-le (length items) end ends cuts.1))
+    ap (λ x. x ∷ pieces (items ++ new) end (ends ++ (length items + length new) ∷ [])) (range-append items new start end cuts.0
+    (Cuts-le (length items) end ends cuts.1))
     ∙ ap (λ x. slice_range items start end ∷ x) (pieces-push items new end ends cuts.1)
 
 length-range : {A : Type 0} (items : List A) (start end : ℕ) → start ≤ end → end ≤ length items → length (slice_range items start end) + start ≡ end
 length-range items start end p q = simp (length-take, length-drop) (omega arith)
 
-pub sum-pieces : {A : Type 0} (items : List A) (start : ℕ) (ends : List ℕ) → Cuts (length items) start ends → sum_by length (pieces items start ends) + start ≡ length items
+pub sum-pieces : {A : Type 0} (items : List A) (start : ℕ) (ends : List ℕ) → Cuts (length items) start ends
+    → sum_by length (pieces items start ends) + start ≡ length items
 sum-pieces items start [] e = omega (arith, e)
 sum-pieces {A = A} items start (end ∷ ends) cuts =
     let here = length-range items start end cuts.0 (Cuts-le (length items) end ends cuts.1) in
@@ -71,13 +75,15 @@ piece-is items start (end ∷ ends) (suc at) h =
 
 -- ---- a list more at the end
 
-pub pushed-cuts : {A : Type 0} (old list : List A) (ends : List ℕ) (new : List A) (more : List ℕ) (n : ℕ) → new ≡ old ++ list → n ≡ length new → more ≡ ends ++ n ∷ [] →
+pub pushed-cuts : {A : Type 0} (old list : List A) (ends : List ℕ) (new : List A) (more : List ℕ) (n : ℕ) → new ≡ old ++ list → n ≡ length new
+    → more ≡ ends ++ n ∷ [] →
     Cuts (length old) 0 ends → Cuts (length new) 0 more
 pushed-cuts old list ends new more n items count places cuts =
     let longer : length old ≤ length new = omega (arith, ap length items, length-append old list) in
     subst (λ xs. Cuts (length new) 0 xs) (sym (places ∙ ap (λ k. ends ++ k ∷ []) count)) (Cuts-push (length old) (length new) 0 ends longer cuts)
 
-pub pushed-pieces : {A : Type 0} (old list : List A) (ends : List ℕ) (new : List A) (more : List ℕ) (n : ℕ) → new ≡ old ++ list → n ≡ length new → more ≡ ends ++ n ∷ [] →
+pub pushed-pieces : {A : Type 0} (old list : List A) (ends : List ℕ) (new : List A) (more : List ℕ) (n : ℕ) → new ≡ old ++ list → n ≡ length new
+    → more ≡ ends ++ n ∷ [] →
     Cuts (length old) 0 ends → pieces new 0 more ≡ pieces old 0 ends ++ list ∷ []
 pushed-pieces old list ends new more n items count places cuts =
     let total : n ≡ length old + length list = count ∙ ap length items ∙ length-append old list in

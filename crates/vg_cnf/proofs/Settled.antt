@@ -1,4 +1,5 @@
--- Unit propagation in any order. Literals that are made true settle clauses where nothing is left to propagate; what the recursion answers is compared with them.
+-- Unit propagation in any order. Literals that are made true settle clauses where nothing is left to propagate; what the recursion answers is
+-- compared with them.
 use Rattle.std.proofs.Common.{◌≡◌, ℕ, zero, suc, ◌<◌, ◌≤◌, List, [], ◌∷◌, length, Option, Some, None, true, false, refl, sym, ap, subst, ◌∙◌, inl, inr, arith}
 use Rattle.std.specs.Prelude.{ℤ, pos, negsuc, neg_ℤ, ◌||◌, All}
 use Rattle.std.specs.List.{list_all}
@@ -10,7 +11,8 @@ use Rattle.std.proofs.lemmas.List.Elements.{All-cons, All-head, All-tail}
 use Rattle.vg_cnf.specs.Clauses.{holds, without}
 use Rattle.vg_cnf.specs.Orders.{IsConsistent, Settled, by_true, by_two, occurs}
 use Rattle.vg_cnf.specs.Propagation.{has_empty, first_unit, given, propagated_in}
-use Rattle.vg_cnf.proofs.Steps.{clash, or_rest, same_literal, same_test, without-kept, without-dropped, given-kept, given-dropped, first_unit-here, first_unit-later, propagated-empty, propagated-done, propagated-out, propagated-unit, cases_Option}
+use Rattle.vg_cnf.proofs.Steps.{clash, or_rest, same_literal, same_test, without-kept, without-dropped, given-kept, given-dropped, first_unit-here}
+use Rattle.vg_cnf.proofs.Steps.{first_unit-later, propagated-empty, propagated-done, propagated-out, propagated-unit, cases_Option}
 
 -- ---- literals of a list
 
@@ -119,7 +121,8 @@ settled-without made c l consistent t (by_two x y here there apart p q) =
           | inr not_k ↦ not_k
         ]
 
-given-settled : (made : List ℤ) (l : ℤ) (clauses : List (List ℤ)) → IsConsistent made → holds made l ≡ true → All (Settled made) clauses → All (Settled made) (given l clauses)
+given-settled : (made : List ℤ) (l : ℤ) (clauses : List (List ℤ)) → IsConsistent made → holds made l ≡ true → All (Settled made) clauses
+    → All (Settled made) (given l clauses)
 given-settled made l [] consistent t all = all
 given-settled made l (c ∷ clauses) consistent t all =
     let rest = given-settled made l clauses consistent t (All-tail (Settled made) c clauses all) in
@@ -373,7 +376,8 @@ negation-unmade steps clauses l ls e =
     ]
 
 -- what propagation makes true settles the clauses, if 0 stands in none
-pub propagated-settles : (steps : ℕ) (clauses : List (List ℤ)) (ls : List ℤ) → length clauses ≤ steps → occurs clauses (pos 0) ≡ false → propagated_in steps clauses ≡ Some ls →
+pub propagated-settles : (steps : ℕ) (clauses : List (List ℤ)) (ls : List ℤ) → length clauses ≤ steps → occurs clauses (pos 0) ≡ false
+    → propagated_in steps clauses ≡ Some ls →
     IsConsistent ls × All (Settled ls) clauses
 propagated-settles zero [] ls enough no_zero e = let nothing : ls ≡ [] = cc e in nothing_made [] ls nothing (none_left [] refl refl)
 propagated-settles zero (c ∷ clauses) ls enough no_zero e = absurd (omega arith)
@@ -389,7 +393,8 @@ propagated-settles (suc steps) clauses ls enough no_zero e =
             | inr unit ↦
                 let l = unit.0 in
                 let rest = some_above l (propagated_in steps (given l clauses)) ls (sym (propagated-unit steps clauses l none unit.1) ∙ e) in
-                let before = propagated-settles steps (given l clauses) rest.0 (omega (arith, length-unit clauses l unit.1)) (given-no_zero l clauses no_zero) rest.1 in
+                let before = propagated-settles steps (given l clauses) rest.0 (omega (arith, length-unit clauses l unit.1))
+                (given-no_zero l clauses no_zero) rest.1 in
                 subst (λ (xs : List ℤ). IsConsistent xs × All (Settled xs) clauses) (sym rest.2) (
                   consistent-more l rest.0 (unit-nonzero clauses l no_zero unit.1) (negation-unmade steps clauses l rest.0 rest.1) before.0,
                   settled-before l rest.0 clauses before.1,

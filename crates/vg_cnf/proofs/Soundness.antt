@@ -9,7 +9,9 @@ use Rattle.std.proofs.lemmas.List.Folds.{list_all-append}
 use Rattle.vg_cnf.specs.Clauses.{ClauseSet, holds, without, is_clause, makes_literal_true, makes_true, makes_all_true, IsModel}
 use Rattle.vg_cnf.specs.Propagation.{has_empty, first_unit, given, propagated_in, propagated, falsified, follows}
 use Rattle.vg_cnf.specs.Refutations.{first_unfollowed, ends_empty, IsRefutation}
-use Rattle.vg_cnf.proofs.Steps.{not_true_back, not_false_back, clash, or_rest, same_literal, without-kept, without-dropped, given-kept, given-dropped, first_unit-here, first_unit-later, propagated-done, propagated-out, propagated-unit, cases_Option, none_numbered, unfollowed-here, unfollowed-later}
+use Rattle.vg_cnf.proofs.Steps.{not_true_back, not_false_back, clash, or_rest, same_literal, without-kept, without-dropped, given-kept, given-dropped}
+use Rattle.vg_cnf.proofs.Steps.{first_unit-here, first_unit-later, propagated-done, propagated-out, propagated-unit, cases_Option, none_numbered}
+use Rattle.vg_cnf.proofs.Steps.{unfollowed-here, unfollowed-later}
 
 -- ---- literals
 
@@ -34,7 +36,8 @@ empty_false values ((l ∷ rest) ∷ clauses) e =
     and_right (makes_true values (l ∷ rest)) (makes_all_true values clauses) (empty_false values clauses e)
 
 -- a list of one literal, however often it stands there, is true where that is
-repeated_true : (values : List Bool) (l : ℤ) (rest : List ℤ) → list_all (int_eq l) rest ≡ true → makes_true values rest ≡ true → makes_literal_true values l ≡ true
+repeated_true : (values : List Bool) (l : ℤ) (rest : List ℤ) → list_all (int_eq l) rest ≡ true → makes_true values rest ≡ true
+    → makes_literal_true values l ≡ true
 repeated_true values l [] all e = absurd (false≢true e)
 repeated_true values l (k ∷ rest) all e =
     let parts = and_parts (int_eq l k) (list_all (int_eq l) rest) all in
@@ -43,14 +46,16 @@ repeated_true values l (k ∷ rest) all e =
       | inr f ↦ repeated_true values l rest parts.1 (or_rest (makes_literal_true values k) (makes_true values rest) e f)
     ]
 
-unit_clause_true : (values : List Bool) (l : ℤ) (rest : List ℤ) → list_all (int_eq l) rest ≡ true → makes_true values (l ∷ rest) ≡ true → makes_literal_true values l ≡ true
+unit_clause_true : (values : List Bool) (l : ℤ) (rest : List ℤ) → list_all (int_eq l) rest ≡ true → makes_true values (l ∷ rest) ≡ true
+    → makes_literal_true values l ≡ true
 unit_clause_true values l rest all e =
     elim (cases_Bool (makes_literal_true values l)) [
       | inl t ↦ t
       | inr f ↦ repeated_true values l rest all (or_rest (makes_literal_true values l) (makes_true values rest) e f)
     ]
 
-unit_true : (values : List Bool) (clauses : List (List ℤ)) (l : ℤ) → first_unit clauses ≡ Some l → makes_all_true values clauses ≡ true → makes_literal_true values l ≡ true
+unit_true : (values : List Bool) (clauses : List (List ℤ)) (l : ℤ) → first_unit clauses ≡ Some l → makes_all_true values clauses ≡ true
+    → makes_literal_true values l ≡ true
 unit_true values [] l unit e = absurd (cc)
 unit_true values ([] ∷ clauses) l unit e = absurd (false≢true e)
 unit_true values ((k ∷ rest) ∷ clauses) l unit e =
@@ -64,12 +69,14 @@ unit_true values ((k ∷ rest) ∷ clauses) l unit e =
     ]
 
 -- what is struck out is false
-struck_true : (values : List Bool) (l : ℤ) (c : List ℤ) → makes_literal_true values l ≡ true → makes_true values c ≡ true → makes_true values (without (neg_ℤ l) c) ≡ true
+struck_true : (values : List Bool) (l : ℤ) (c : List ℤ) → makes_literal_true values l ≡ true → makes_true values c ≡ true
+    → makes_true values (without (neg_ℤ l) c) ≡ true
 struck_true values l [] t e = e
 struck_true values l (k ∷ c) t e =
     elim (cases_Bool (int_eq (neg_ℤ l) k)) [
       | inl struck ↦
-          let false_k : makes_literal_true values k ≡ false = ap (makes_literal_true values) (sym (same_literal (neg_ℤ l) k struck)) ∙ negation_false values l t in
+          let false_k : makes_literal_true values k ≡ false = ap (makes_literal_true values) (sym (same_literal (neg_ℤ l) k struck))
+          ∙ negation_false values l t in
           ap (makes_true values) (without-dropped (neg_ℤ l) k c struck)
           ∙ struck_true values l c t (or_rest (makes_literal_true values k) (makes_true values c) e false_k)
       | inr kept ↦
@@ -82,7 +89,8 @@ struck_true values l (k ∷ c) t e =
           ]
     ]
 
-given_true : (values : List Bool) (l : ℤ) (clauses : List (List ℤ)) → makes_literal_true values l ≡ true → makes_all_true values clauses ≡ true → makes_all_true values (given l clauses) ≡ true
+given_true : (values : List Bool) (l : ℤ) (clauses : List (List ℤ)) → makes_literal_true values l ≡ true → makes_all_true values clauses ≡ true
+    → makes_all_true values (given l clauses) ≡ true
 given_true values l [] t e = refl
 given_true values l (c ∷ clauses) t e =
     let parts = and_parts (makes_true values c) (makes_all_true values clauses) e in
@@ -101,7 +109,8 @@ none_below l None e = refl
 none_below l (Some ls) e = absurd (cc)
 
 -- clauses from which an empty one is reached have no model
-pub propagated_in-sound : (steps : ℕ) (values : List Bool) (clauses : List (List ℤ)) → propagated_in steps clauses ≡ None → makes_all_true values clauses ≡ false
+pub propagated_in-sound : (steps : ℕ) (values : List Bool) (clauses : List (List ℤ)) → propagated_in steps clauses ≡ None
+    → makes_all_true values clauses ≡ false
 propagated_in-sound zero values clauses e =
     elim (cases_Bool (has_empty clauses)) [
       | inl empty ↦ empty_false values clauses empty
@@ -118,7 +127,8 @@ propagated_in-sound (suc steps) values clauses e =
                 (none_below unit.0 (propagated_in steps (given unit.0 clauses)) (sym (propagated-unit steps clauses unit.0 none unit.1) ∙ e)) in
                 elim (cases_Bool (makes_all_true values clauses)) [
                   | inl t ↦
-                      clash (makes_all_true values (given unit.0 clauses)) (given_true values unit.0 clauses (unit_true values clauses unit.0 unit.1 t) t) smaller
+                      clash (makes_all_true values (given unit.0 clauses)) (given_true values unit.0 clauses
+                      (unit_true values clauses unit.0 unit.1 t) t) smaller
                   | inr f ↦ f
                 ]
           ]
@@ -156,18 +166,22 @@ none_from None e = refl
 none_from (Some x) e = absurd (false≢true e)
 
 -- what follows by unit propagation is true in each model
-pub follows-sound : (values : List Bool) (clauses : List (List ℤ)) (c : List ℤ) → follows clauses c ≡ true → makes_all_true values clauses ≡ true → makes_true values c ≡ true
+pub follows-sound : (values : List Bool) (clauses : List (List ℤ)) (c : List ℤ) → follows clauses c ≡ true → makes_all_true values clauses ≡ true
+    → makes_true values c ≡ true
 follows-sound values clauses c e model =
     let parts = and_parts (is_clause c) (is_none (propagated (falsified c ++ clauses))) e in
-    let no_model = propagated_in-sound (length (falsified c ++ clauses)) values (falsified c ++ clauses) (none_from (propagated (falsified c ++ clauses)) parts.1) in
+    let no_model = propagated_in-sound (length (falsified c ++ clauses)) values (falsified c ++ clauses)
+    (none_from (propagated (falsified c ++ clauses)) parts.1) in
     elim (cases_Bool (makes_true values c)) [
       | inl t ↦ t
       | inr f ↦
-          let all = and_from (makes_all_true values (falsified c)) (makes_all_true values clauses) (falsified_true values c (clause-nonzero c parts.0) f) model in
+          let all = and_from (makes_all_true values (falsified c)) (makes_all_true values clauses)
+          (falsified_true values c (clause-nonzero c parts.0) f) model in
           clash (makes_all_true values (falsified c ++ clauses)) (list_all-append (makes_true values) (falsified c) clauses ∙ all) no_model
     ]
 
-one_more_true : (values : List Bool) (clauses : List (List ℤ)) (c : List ℤ) → makes_all_true values clauses ≡ true → makes_true values c ≡ true → makes_all_true values (clauses ++ c ∷ []) ≡ true
+one_more_true : (values : List Bool) (clauses : List (List ℤ)) (c : List ℤ) → makes_all_true values clauses ≡ true → makes_true values c ≡ true
+    → makes_all_true values (clauses ++ c ∷ []) ≡ true
 one_more_true values clauses c model here =
     list_all-append (makes_true values) clauses (c ∷ [])
     ∙ and_from (makes_all_true values clauses) (makes_all_true values (c ∷ [])) model (and_from (makes_true values c) true here refl)
@@ -181,7 +195,8 @@ followed clauses c steps e =
       | inr not_here ↦ let no : None ≡ Some 1 = sym e ∙ unfollowed-here clauses c steps not_here in absurd (cc no)
     ]
 
-in_turn-sound : (values : List Bool) (clauses steps : List (List ℤ)) → first_unfollowed clauses steps ≡ None → ends_empty steps ≡ true → makes_all_true values clauses ≡ true → ⊥
+in_turn-sound : (values : List Bool) (clauses steps : List (List ℤ)) → first_unfollowed clauses steps ≡ None → ends_empty steps ≡ true
+    → makes_all_true values clauses ≡ true → ⊥
 in_turn-sound values clauses [] each last model = false≢true last
 in_turn-sound values clauses ([] ∷ []) each last model =
     false≢true (follows-sound values clauses [] (followed clauses [] [] each).0 model)
@@ -199,4 +214,5 @@ refutation-sound clauses steps good values =
     ]
 
 pub IsRefutation-IsModel : (set : ClauseSet) (steps : List (List ℤ)) (values : List Bool) → IsRefutation set.clauses steps → ¬ IsModel values set
-IsRefutation-IsModel set steps values good model = in_turn-sound values set.clauses steps (none_from (first_unfollowed set.clauses steps) (ap not good.each_follows)) good.ends model.each_clause
+IsRefutation-IsModel set steps values good model =
+    in_turn-sound values set.clauses steps (none_from (first_unfollowed set.clauses steps) (ap not good.each_follows)) good.ends model.each_clause

@@ -59,7 +59,8 @@ given-dropped l c clauses e = ap (λ b. map (without (neg_ℤ l)) (cond (not b) 
 pub first_unit-here : (l : ℤ) (rest : List ℤ) (clauses : List (List ℤ)) → list_all (int_eq l) rest ≡ true → first_unit ((l ∷ rest) ∷ clauses) ≡ Some l
 first_unit-here l rest clauses e = ap (λ b. cond b (Some l) (first_unit clauses)) e
 
-pub first_unit-later : (l : ℤ) (rest : List ℤ) (clauses : List (List ℤ)) → list_all (int_eq l) rest ≡ false → first_unit ((l ∷ rest) ∷ clauses) ≡ first_unit clauses
+pub first_unit-later : (l : ℤ) (rest : List ℤ) (clauses : List (List ℤ)) → list_all (int_eq l) rest ≡ false
+    → first_unit ((l ∷ rest) ∷ clauses) ≡ first_unit clauses
 first_unit-later l rest clauses e = ap (λ b. cond b (Some l) (first_unit clauses)) e
 
 -- ---- propagation

@@ -1,7 +1,8 @@
 -- Clauses and their models.
 -- A literal is a whole number other than 0, as in the DIMACS format: n stands for variable n, and -n for its negation. The variables are numbered from 1.
 -- A clause is written as a list of literals, in which one that is repeated counts once.
-use Rattle.std.specs.Prelude.{◌≡◌, ℕ, zero, suc, ◌<◌, ◌≤◌, ℤ, pos, negsuc, neg_ℤ, unsigned_abs, Bool, false, not, IsTrue, List, length, filter, All, slice_index_or}
+use Rattle.std.specs.Prelude.{◌≡◌, ℕ, zero, suc, ◌<◌, ◌≤◌, ℤ, pos, negsuc, neg_ℤ, unsigned_abs, Bool, false, not, IsTrue, List, length, filter, All}
+use Rattle.std.specs.Prelude.{slice_index_or}
 use Rattle.std.specs.List.{list_any, list_all}
 use Rattle.std.specs.Ordering.{int_eq}
 

@@ -1,5 +1,6 @@
 -- Lists of clauses that each follow by unit propagation: refutations, and the lists with which a search is given up.
-use Rattle.std.specs.Prelude.{◌≡◌, ℕ, ◌+◌, ℤ, Bool, true, false, if◌then◌else◌, Option, Some, None, IsTrue, IfSome, IsSome, IsNone, List, [], ◌∷◌, ◌++◌, All, Any, AllPairs, Contains, ◌↔◌}
+use Rattle.std.specs.Prelude.{◌≡◌, ℕ, ◌+◌, ℤ, Bool, true, false, if◌then◌else◌, Option, Some, None, IsTrue, IfSome, IsSome, IsNone, List, [], ◌∷◌}
+use Rattle.std.specs.Prelude.{◌++◌, All, Any, AllPairs, Contains, ◌↔◌}
 use Rattle.std.specs.Option.{option_map}
 use Rattle.vg_cnf.specs.Clauses.{ClauseSet, without, IsClauseOver}
 use Rattle.vg_cnf.specs.Propagation.{propagated, falsified, follows}

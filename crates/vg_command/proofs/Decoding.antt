@@ -1,11 +1,13 @@
 -- Words spell one command at most: the one that is decoded from them.
-use Rattle.std.proofs.Common.{◌≡◌, ◌∙◌, ◌<◌, ◌/◌, ◌^◌, ℕ, List, [], ◌∷◌, ◌++◌, length, take, drop, codes, decimal, cond, Option, Some, None, IfNone, refl, sym, ap, arith}
+use Rattle.std.proofs.Common.{◌≡◌, ◌∙◌, ◌<◌, ◌/◌, ◌^◌, ℕ, List, [], ◌∷◌, ◌++◌, length, take, drop, codes, decimal, cond, Option, Some, None, IfNone}
+use Rattle.std.proofs.Common.{refl, sym, ap, arith}
 use Rattle.std.specs.Str.{bytes_eq}
 use Rattle.std.specs.Str.Parse.{digits_value}
 use Rattle.std.proofs.lemmas.Fmt.{decimal_is_IsNumeral}
 use Rattle.std.proofs.lemmas.List.{length-append}
 use Rattle.std.proofs.Math.Seq.{take-append_seam, drop-append_seam}
-use Rattle.vg_command.specs.Commands.{Files, words_after_texts, Command, Run, Verify, Check, Replay, Try, Rerun, Show, Bench, words_of, IsAllowed, Spells, SpellsNone}
+use Rattle.vg_command.specs.Commands.{Files, words_after_texts, Command, Run, Verify, Check, Replay, Try, Rerun, Show, Bench, words_of, IsAllowed}
+use Rattle.vg_command.specs.Commands.{Spells, SpellsNone}
 use Rattle.vg_command.specs.Reading.{Splits}
 
 -- files by their words, where those of captures that come in are one half of the rest
@@ -73,11 +75,14 @@ found (Bench name seed count) allowed =
     (λ i. Some (Bench name (value seed allowed.1 i) (value count (omega (arith, allowed.3)) i)))
 
 -- a replay is found from its words, allowed or not
-pub found-replay : (words : List (List ℕ)) (c spec certificate : List ℕ) (rest : List (List ℕ)) (n : Files) → words ≡ c ∷ spec ∷ certificate ∷ rest → Splits c spec rest n →
+pub found-replay : (words : List (List ℕ)) (c spec certificate : List ℕ) (rest : List (List ℕ)) (n : Files) → words ≡ c ∷ spec ∷ certificate ∷ rest
+    → Splits c spec rest n →
     decoded (codes "replay" ∷ words) ≡ Some (Replay certificate n)
 found-replay words c spec certificate rest n words_are splits =
-    let named : c ∷ spec ∷ certificate ∷ rest ≡ n.c ∷ n.spec ∷ certificate ∷ words_after_texts n = (λ i. sym splits.c_is i ∷ sym splits.spec_is i ∷ certificate ∷ splits.words_are i) in
-    ap (λ (l : List (List ℕ)). decoded (codes "replay" ∷ l)) (words_are ∙ named) ∙ ap (λ (m : Files). Some (Replay certificate m)) (files_found n splits.files.ports)
+    let named : c ∷ spec ∷ certificate ∷ rest ≡ n.c ∷ n.spec ∷ certificate ∷ words_after_texts n =
+    (λ i. sym splits.c_is i ∷ sym splits.spec_is i ∷ certificate ∷ splits.words_are i) in
+    ap (λ (l : List (List ℕ)). decoded (codes "replay" ∷ l)) (words_are ∙ named) ∙ ap (λ (m : Files). Some (Replay certificate m))
+    (files_found n splits.files.ports)
 
 some_is : {A : Type 0} {x y : A} → Some x ≡ Some y → x ≡ y
 some_is e = cc

@@ -27,7 +27,8 @@ same_allowed n m c spec conf log ins outs files =
     subst AreFiles same files
 
 -- what words split into
-pub split_once : (n m : Files) → length n.ins ≡ length n.outs → n.c ≡ m.c → n.spec ≡ m.spec → words_after_texts n ≡ words_after_texts m → AreFiles m → AreFiles n
+pub split_once : (n m : Files) → length n.ins ≡ length n.outs → n.c ≡ m.c → n.spec ≡ m.spec → words_after_texts n ≡ words_after_texts m → AreFiles m
+    → AreFiles n
 split_once n m even c spec same files =
     let two = halves n.ins n.outs m.ins m.outs even files.ports (ap (drop 2) same) in
     let conf : n.conf ≡ m.conf = cc in
@@ -39,9 +40,12 @@ pub to_end : {A : Type 0} (xs : List A) (n : ℕ) → take (length xs - n) (drop
 to_end xs n = take_all (length xs - n) (drop n xs) (omega (arith, length-drop n xs))
 
 -- a list by its first two members and the two parts of the rest
-pub pieces : (words : List (String Global)) (conf log : String Global) (ins outs : List (String Global)) (h : ℕ) → 2 ≤ length words → conf ≡ get_or words 0 conf → log ≡ get_or words 1 log →
-    ins ≡ take h (take (length words - 2) (drop 2 words)) → outs ≡ drop h (take (length words - 2) (drop 2 words)) → words_in words ≡ string_bytes conf ∷ string_bytes log ∷ words_in ins ++ words_in outs
+pub pieces : (words : List (String Global)) (conf log : String Global) (ins outs : List (String Global)) (h : ℕ) → 2 ≤ length words
+    → conf ≡ get_or words 0 conf → log ≡ get_or words 1 log →
+    ins ≡ take h (take (length words - 2) (drop 2 words)) → outs ≡ drop h (take (length words - 2) (drop 2 words))
+    → words_in words ≡ string_bytes conf ∷ string_bytes log ∷ words_in ins ++ words_in outs
 pieces [] conf log ins outs h two is_conf is_log is_ins is_outs = absurd (omega arith)
 pieces (a ∷ []) conf log ins outs h two is_conf is_log is_ins is_outs = absurd (omega arith)
 pieces (a ∷ b ∷ rest) conf log ins outs h two is_conf is_log is_ins is_outs =
-    rw (is_conf, is_log, is_ins, is_outs, to_end (a ∷ b ∷ rest) 2) (ap (λ (l : List (List ℕ)). string_bytes a ∷ string_bytes b ∷ l) (ap words_in (sym (take-append-drop h rest)) ∙ map-append string_bytes (take h rest) (drop h rest)))
+    rw (is_conf, is_log, is_ins, is_outs, to_end (a ∷ b ∷ rest) 2) (ap (λ (l : List (List ℕ)). string_bytes a ∷ string_bytes b ∷ l)
+    (ap words_in (sym (take-append-drop h rest)) ∙ map-append string_bytes (take h rest) (drop h rest)))

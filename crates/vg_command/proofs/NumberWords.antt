@@ -35,7 +35,8 @@ module _ (w : List ℕ) (well : BeginsAmiss w → ⊥) where
   ]
 
   -- what is read is written
-  pub written : (n : ℕ) → IsNumeral 10 (without_leading_plus w) × (digits_value 10 (without_leading_plus w) < 2 ^ 64) → digits_value 10 (without_leading_plus w) ≡ n → w ≡ decimal n
+  pub written : (n : ℕ) → IsNumeral 10 (without_leading_plus w) × (digits_value 10 (without_leading_plus w) < 2 ^ 64)
+      → digits_value 10 (without_leading_plus w) ≡ n → w ≡ decimal n
   written n numeral value =
       let here = rw plain at numeral in
       let is = rw plain at value in

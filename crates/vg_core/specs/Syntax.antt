@@ -1,5 +1,6 @@
 -- What contracts see of a tree.
-use Rattle.std.specs.Prelude.{◌≡◌, ℕ, ◌+◌, ◌<◌, ◌≤◌, List, [], ◌∷◌, ◌++◌, length, take, drop, slice_get, flat_map, count_by, All, AllPairs, ◌==◌, if◌then◌else◌, Some, option_to_list}
+use Rattle.std.specs.Prelude.{◌≡◌, ℕ, ◌+◌, ◌<◌, ◌≤◌, List, [], ◌∷◌, ◌++◌, length, take, drop, slice_get, flat_map, count_by, All, AllPairs, ◌==◌}
+use Rattle.std.specs.Prelude.{if◌then◌else◌, Some, option_to_list}
 use Rattle.vg_core.specs.declared.tree.Kind.{Kind}
 use Rattle.vg_core.specs.declared.tree.Kind.TheVariants as kinds
 use Rattle.vg_core.specs.declared.tree.Node.{Node}

@@ -1,5 +1,6 @@
 -- What the answer of a reading says of whole texts.
-use Rattle.std.proofs.Common.{◌≡◌, ◌∙◌, ◌<◌, ◌≤◌, ◌+◌, inl, inr, ℕ, List, ◌++◌, take, drop, length, slice_get, Option, Some, None, Result, Ok, Err, refl, sym, ap, subst, arith}
+use Rattle.std.proofs.Common.{◌≡◌, ◌∙◌, ◌<◌, ◌≤◌, ◌+◌, inl, inr, ℕ, List, ◌++◌, take, drop, length, slice_get, Option, Some, None, Result, Ok, Err}
+use Rattle.std.proofs.Common.{refl, sym, ap, subst, arith}
 use Rattle.std.proofs.lemmas.Bool.{cases_lt}
 use Rattle.std.proofs.lemmas.Option.{slice_get_within, slice_get_cases, slice_get_past}
 use Rattle.std.proofs.lemmas.List.{take-append-drop, length-take-le, append_assoc, take-take}
@@ -38,32 +39,38 @@ module _ (toks : List Token) where
       ap (λ (s : State). s.tree) (same_state {a = root} {b = other.0} (sym e ∙ other.1))
 
   pub no_tree : (room : ℕ) (f : Refusal) (tree : Syntax) → read toks room unit start ≡ Err f → Spells room toks tree → ⊥
-  no_tree room f tree e is = let other = unit_read toks room tree (guided_of toks room tree is) in never_both (read toks room unit start) (other.0, record { at = length toks; tree = tree }) f other.1 e
+  no_tree room f tree e is = let other = unit_read toks room tree (guided_of toks room tree is) in
+      never_both (read toks room unit start) (other.0, record { at = length toks; tree = tree }) f other.1 e
 
   -- a token that is wrong is wrong whatever follows, and however much room there is
-  front_wrong : (room i : ℕ) (front : List Token) (rest : List Token) → toks ≡ front ++ rest → length front ≡ i + 1 → read toks room unit start ≡ Err (Wrong i) → read front room unit start ≡ Err (Wrong i)
+  front_wrong : (room i : ℕ) (front : List Token) (rest : List Token) → toks ≡ front ++ rest → length front ≡ i + 1
+      → read toks room unit start ≡ Err (Wrong i) → read front room unit start ≡ Err (Wrong i)
   front_wrong room i front rest parts size e = elim (all_cut front toks rest parts room unit unit_tidy start (omega arith)) [
     | inl both ↦ let far : length front ≤ i = subst (λ r. Past front toks rest parts r) e both.1 in absurd (omega (arith, far, size))
     | inr same ↦ sym same ∙ e
   ]
 
-  longer_wrong : (room i : ℕ) (front more : List Token) → length front ≡ i + 1 → read front room unit start ≡ Err (Wrong i) → read (front ++ more) room unit start ≡ Err (Wrong i)
+  longer_wrong : (room i : ℕ) (front more : List Token) → length front ≡ i + 1 → read front room unit start ≡ Err (Wrong i)
+      → read (front ++ more) room unit start ≡ Err (Wrong i)
   longer_wrong room i front more size e = elim (all_cut front (front ++ more) more refl room unit unit_tidy start (omega arith)) [
     | inl both ↦ let end : i ≡ length front = subst (λ r. AtEnd front (front ++ more) more refl r) e both.0 in absurd (omega (arith, end, size))
     | inr same ↦ same ∙ e
   ]
 
-  wrong_before : (room i : ℕ) (more : List Token) (t : Token) → slice_get toks i ≡ Some t → read toks room unit start ≡ Err (Wrong i) → read (take (i + 1) toks ++ more) room unit start ≡ Err (Wrong i)
+  wrong_before : (room i : ℕ) (more : List Token) (t : Token) → slice_get toks i ≡ Some t → read toks room unit start ≡ Err (Wrong i)
+      → read (take (i + 1) toks ++ more) room unit start ≡ Err (Wrong i)
   wrong_before room i more t found e =
       let within = slice_get_within toks i t found in
       let size : length (take (i + 1) toks) ≡ i + 1 = length-take-le (i + 1) toks (omega (arith, within)) in
-      longer_wrong room i (take (i + 1) toks) more size (front_wrong room i (take (i + 1) toks) (drop (i + 1) toks) (sym (take-append-drop (i + 1) toks)) size e)
+      longer_wrong room i (take (i + 1) toks) more size (front_wrong room i (take (i + 1) toks) (drop (i + 1) toks)
+      (sym (take-append-drop (i + 1) toks)) size e)
 
   none_spelled : (all : List Token) (room left i : ℕ) (tree : Syntax) → read all room unit start ≡ Err (Wrong i) → Spells left all tree → ⊥
   none_spelled all room left i tree e spells =
       let wrong = still_wrong all left room i unit start e in
       let sum : left + room ≡ room + left = omega arith in
-      let other = unit_read all (room + left) tree (subst (λ (r : ℕ). Guides r all tree) sum (spells_roomier all room left tree (guided_of all left tree spells))) in
+      let other = unit_read all (room + left) tree (subst (λ (r : ℕ). Guides r all tree) sum
+      (spells_roomier all room left tree (guided_of all left tree spells))) in
       never_both (read all (room + left) unit start) (other.0, record { at = length all; tree = tree }) (Wrong i) other.1 wrong
 
   ruled_out : (room i : ℕ) (o : Option Token) → slice_get toks i ≡ o → read toks room unit start ≡ Err (Wrong i) → RulesOut toks i o
@@ -76,7 +83,9 @@ module _ (toks : List Token) where
   stops_within r i h e = (subst (λ r. Within toks 0 r) e h).1
 
   wrong_begins : (i : ℕ) → read toks 64 unit start ≡ Err (Wrong i) → Begins (take i toks)
-  wrong_begins i e = begins_tree toks 64 i (stops_within (read toks 64 unit start) i (within toks (read_inner toks 64) (within_inner toks 64) unit start (omega arith)) e) (unit_lacks toks 64 i e)
+  wrong_begins i e = begins_tree toks 64 i
+      (stops_within (read toks 64 unit start) i (within toks (read_inner toks 64) (within_inner toks 64) unit start (omega arith)) e)
+      (unit_lacks toks 64 i e)
 
   wrong_within : (i : ℕ) → read toks 64 unit start ≡ Err (Wrong i) → i ≤ length toks
   wrong_within i e = stops_within (read toks 64 unit start) i (within toks (read_inner toks 64) (within_inner toks 64) unit start (omega arith)) e
@@ -94,8 +103,14 @@ module _ (toks : List Token) where
   not_both e = cc
 
   pub wrong_fault : (i : ℕ) → read toks 64 unit start ≡ Err (Wrong i) → Refuses toks (faults.Syntax (place_at toks i))
-  wrong_fault i e =
-      (i, refl, wrong_begins i e, ruled_out 64 i (slice_get toks i) refl e, λ j le opens. not_both (same_err (read toks 64 unit start) (Wrong i) (Deep j) e (unit_opened toks 64 j (opens_so toks j 64 opens))))
+  wrong_fault i e = (
+    i,
+    refl,
+    wrong_begins i e,
+    ruled_out 64 i (slice_get toks i) refl e,
+    λ j le opens. not_both
+        (same_err (read toks 64 unit start) (Wrong i) (Deep j) e (unit_opened toks 64 j (opens_so toks j 64 opens))),
+  )
 
   pub deep_fault : (i : ℕ) → read toks 64 unit start ≡ Err (Deep i) → Refuses toks (faults.Deep (place_at toks i))
   deep_fault i e = (i, refl, opened_so toks i 64 (unit_opens toks 64 i e))
@@ -103,8 +118,10 @@ module _ (toks : List Token) where
   -- where a token is ruled out, no tree begins with it
   ruled : (i j : ℕ) (t : Token) → j < i → RulesOut toks j (Some t) → Begins (take i toks) → ⊥
   ruled i j t less out (room, more, tree, is) =
-      let parts : take i toks ≡ take (j + 1) toks ++ drop (j + 1) (take i toks) = sym (take-append-drop (j + 1) (take i toks)) ∙ ap (λ (l : List Token). l ++ drop (j + 1) (take i toks)) (take-take (j + 1) i toks (omega (arith, less))) in
-      let whole : take i toks ++ more ≡ take (j + 1) toks ++ (drop (j + 1) (take i toks) ++ more) = ap (λ (l : List Token). l ++ more) parts ∙ append_assoc (take (j + 1) toks) (drop (j + 1) (take i toks)) more in
+      let parts : take i toks ≡ take (j + 1) toks ++ drop (j + 1) (take i toks) = sym (take-append-drop (j + 1) (take i toks))
+      ∙ ap (λ (l : List Token). l ++ drop (j + 1) (take i toks)) (take-take (j + 1) i toks (omega (arith, less))) in
+      let whole : take i toks ++ more ≡ take (j + 1) toks ++ (drop (j + 1) (take i toks) ++ more) = ap (λ (l : List Token). l ++ more) parts
+      ∙ append_assoc (take (j + 1) toks) (drop (j + 1) (take i toks)) more in
       out room (drop (j + 1) (take i toks) ++ more) tree (subst (λ (l : List Token). Spells room l tree) whole is)
 
   begun_before : (i j : ℕ) → j < i → i ≤ length toks → RulesOut toks j (slice_get toks j) → Begins (take i toks) → ⊥
@@ -131,7 +148,8 @@ module _ (toks : List Token) where
       | inr other ↦ let same : i ≡ j = omega arith in ap (λ (k : ℕ). faults.Syntax (place_at toks k)) same ∙ ap faults.Syntax (sym place)
     ]
   ]
-  wrong_only i (faults.Deep at) e (j, place, opens) = absurd (not_both (same_err (read toks 64 unit start) (Wrong i) (Deep j) e (unit_opened toks 64 j (opens_so toks j 64 opens))))
+  wrong_only i (faults.Deep at) e (j, place, opens) =
+      absurd (not_both (same_err (read toks 64 unit start) (Wrong i) (Deep j) e (unit_opened toks 64 j (opens_so toks j 64 opens))))
   wrong_only i faults.Memory e none = absurd none
 
   pub deep_only : (i : ℕ) (f : ReadFault) → read toks 64 unit start ≡ Err (Deep i) → Refuses toks f → faults.Deep (place_at toks i) ≡ f
@@ -150,17 +168,21 @@ module _ (toks : List Token) where
   never_ruled tree j (Some t) is out = out 64 (drop (j + 1) toks) tree (subst (λ (l : List Token). Spells 64 l tree) (sym (take-append-drop (j + 1) toks)) is)
 
   pub no_fault : (root : ℕ) (t : State) (f : ReadFault) → read toks 64 unit start ≡ Ok (root, t) → Refuses toks f → ⊥
-  no_fault root t (faults.Syntax at) e (j, place, begun, out, none) = never_ruled t.tree j (slice_get toks j) (spelled_of toks 64 t.tree (unit_spelled toks 64 root t e)) out
-  no_fault root t (faults.Deep at) e (j, place, opens) = never_both (read toks 64 unit start) (root, t) (Deep j) e (unit_opened toks 64 j (opens_so toks j 64 opens))
+  no_fault root t (faults.Syntax at) e (j, place, begun, out, none) = never_ruled t.tree j (slice_get toks j)
+      (spelled_of toks 64 t.tree (unit_spelled toks 64 root t e)) out
+  no_fault root t (faults.Deep at) e (j, place, opens) = never_both (read toks 64 unit start) (root, t) (Deep j) e
+      (unit_opened toks 64 j (opens_so toks j 64 opens))
   no_fault root t faults.Memory e none = none
 
   -- what a call gives where it stops
-  pub gave_wrong : (why : Stop) (s t : State) → why ≡ stops.Wrong → s ≡ start → Gives {A = ℕ} (Err why) t (read toks 64 unit s) → read toks 64 unit start ≡ Err (Wrong t.at)
+  pub gave_wrong : (why : Stop) (s t : State) → why ≡ stops.Wrong → s ≡ start → Gives {A = ℕ} (Err why) t (read toks 64 unit s)
+      → read toks 64 unit start ≡ Err (Wrong t.at)
   gave_wrong why s t is here given =
       let told : Gives {A = ℕ} (Err stops.Wrong) t (read toks 64 unit s) = subst (λ (w : Stop). Gives {A = ℕ} (Err w) t (read toks 64 unit s)) is given in
       subst (λ (u : State). read toks 64 unit u ≡ Err (Wrong t.at)) here told
 
-  pub gave_deep : (why : Stop) (s t : State) → why ≡ stops.Deep → s ≡ start → Gives {A = ℕ} (Err why) t (read toks 64 unit s) → read toks 64 unit start ≡ Err (Deep t.at)
+  pub gave_deep : (why : Stop) (s t : State) → why ≡ stops.Deep → s ≡ start → Gives {A = ℕ} (Err why) t (read toks 64 unit s)
+      → read toks 64 unit start ≡ Err (Deep t.at)
   gave_deep why s t is here given =
       let told : Gives {A = ℕ} (Err stops.Deep) t (read toks 64 unit s) = subst (λ (w : Stop). Gives {A = ℕ} (Err w) t (read toks 64 unit s)) is given in
       subst (λ (u : State). read toks 64 unit u ≡ Err (Deep t.at)) here told

@@ -1,5 +1,6 @@
 -- Where a reading ends or stops: not before its start, nor past the last token.
-use Rattle.std.proofs.Common.{◌≡◌, ◌<◌, ◌≤◌, ◌-◌, ℕ, zero, suc, Bool, true, false, cond, List, length, slice_get, Option, Some, None, Result, Ok, Err, refl, arith}
+use Rattle.std.proofs.Common.{◌≡◌, ◌<◌, ◌≤◌, ◌-◌, ℕ, zero, suc, Bool, true, false, cond, List, length, slice_get, Option, Some, None, Result, Ok, Err}
+use Rattle.std.proofs.Common.{refl, arith}
 use Rattle.std.proofs.lemmas.Option.{slice_get_within}
 use Rattle.vg_ctok.specs.declared.kinds.Token.{Token}
 use Rattle.vg_cread.specs.Forms.{Form, Plain, Place, One, Unless, Both, Either, Chain, Inner, Made, Nested, Growth}
@@ -20,7 +21,8 @@ module _ (toks : List Token) where
   within_later at later (Err (Wrong e)) on h = (omega (arith, on, h.0), h.1)
   within_later at later (Err (Deep e)) on h = (omega (arith, on, h.0), h.1)
 
-  pub within_bind : {A B : Type 0} (at : ℕ) (r : Result (A × State) Refusal) (k : A × State → Result (B × State) Refusal) → Within at r → ((a : A) (t : State) → t.at ≤ length toks → Within t.at (k (a, t))) → Within at (r >>= k)
+  pub within_bind : {A B : Type 0} (at : ℕ) (r : Result (A × State) Refusal) (k : A × State → Result (B × State) Refusal) → Within at r
+      → ((a : A) (t : State) → t.at ≤ length toks → Within t.at (k (a, t))) → Within at (r >>= k)
   within_bind at (Ok p) k h next = within_later at p.1.at (k p) h.0 (next p.0 p.1 h.1)
   within_bind at (Err (Wrong e)) k h next = h
   within_bind at (Err (Deep e)) k h next = h
@@ -33,7 +35,8 @@ module _ (toks : List Token) where
   within_taken s None h = (omega arith, omega (arith, h))
   within_taken s (Some a) h = (omega arith, omega (arith, h))
 
-  within_one : {A : Type 0} (test : Token → Option A) (s : State) (o : Option Token) → slice_get toks s.at ≡ o → s.at ≤ length toks → Within s.at (taken (tested test o) s)
+  within_one : {A : Type 0} (test : Token → Option A) (s : State) (o : Option Token) → slice_get toks s.at ≡ o → s.at ≤ length toks
+      → Within s.at (taken (tested test o) s)
   within_one test s None found h = (omega arith, h)
   within_one test s (Some x) found h = within_taken s (test x) (slice_get_within toks s.at x found)
 
@@ -47,7 +50,8 @@ module _ (toks : List Token) where
       (λ b t here. within_turns n test more h at b t here))
       (omega arith, le)
 
-  pub within : (inner : Nested → Reads ℕ) → ((n : Nested) (s : State) → s.at ≤ length toks → Within s.at (inner n s)) → {A : Type 0} (f : Form A) (s : State) → s.at ≤ length toks → Within s.at (read_with toks inner f s)
+  pub within : (inner : Nested → Reads ℕ) → ((n : Nested) (s : State) → s.at ≤ length toks → Within s.at (inner n s))
+      → {A : Type 0} (f : Form A) (s : State) → s.at ≤ length toks → Within s.at (read_with toks inner f s)
   within inner h (Plain a) s le = (omega arith, le)
   within inner h Place s le = (omega arith, le)
   within inner h (One test) s le = within_one test s (slice_get toks s.at) refl le
@@ -57,17 +61,20 @@ module _ (toks : List Token) where
       (λ g t here. within_bind t.at (read_with toks inner x t) (λ q. Ok (g q.0, q.1)) (within inner h x t here) (λ a u there. (omega arith, there)))
   within inner h (Either test x y) s le = within_either s.at (passes test (slice_get toks s.at)) _ _ (within inner h x s le) (within inner h y s le)
   within inner h (Chain test x more) s le =
-      within_bind s.at (read_with toks inner x s) (λ p. turns toks (length toks - p.1.at) test (read_with toks inner more) (place_at toks s.at) p.0 p.1) (within inner h x s le)
+      within_bind s.at (read_with toks inner x s) (λ p. turns toks (length toks - p.1.at) test (read_with toks inner more) (place_at toks s.at) p.0
+      p.1) (within inner h x s le)
       (λ a t here. within_turns (length toks - t.at) test (read_with toks inner more) (λ u there. within inner h more u there) (place_at toks s.at) a t here)
   within inner h (Inner n) s le = h n s le
   within inner h (Made f) s le =
       within_bind s.at (read_with toks inner f s) (λ p. Ok (grown (p.0 p.1.tree) p.1)) (within inner h f s le) (λ g t here. (omega arith, here))
 
-  within_deep : (test : Token → Bool) (s : State) (b : Bool) → passes test (slice_get toks s.at) ≡ b → s.at ≤ length toks → Within {A = ℕ} s.at (cond b (Err (Deep s.at)) (Err (Wrong s.at)))
+  within_deep : (test : Token → Bool) (s : State) (b : Bool) → passes test (slice_get toks s.at) ≡ b → s.at ≤ length toks
+      → Within {A = ℕ} s.at (cond b (Err (Deep s.at)) (Err (Wrong s.at)))
   within_deep test s true so le = (omega arith, some_next toks test s.at so)
   within_deep test s false unless le = (omega arith, le)
 
   pub within_inner : (room : ℕ) (n : Nested) (s : State) → s.at ≤ length toks → Within s.at (read_inner toks room n s)
   within_inner zero n s le = within_deep (begins n) s (passes (begins n) (slice_get toks s.at)) refl le
   within_inner (suc room) n s le =
-      within_either s.at (passes (begins n) (slice_get toks s.at)) _ _ (within (read_inner toks room) (λ m u here. within_inner room m u here) (form n) s le) (omega arith, le)
+      within_either s.at (passes (begins n) (slice_get toks s.at)) _ _ (within (read_inner toks room) (λ m u here. within_inner room m u here)
+      (form n) s le) (omega arith, le)

@@ -1,5 +1,6 @@
 -- Chains, turn by turn, as a loop reads them.
-use Rattle.std.proofs.Common.{◌≡◌, ◌∙◌, ◌<◌, ◌≤◌, ◌+◌, ◌-◌, ℕ, zero, suc, Bool, true, false, List, length, slice_get, Option, Some, None, Result, Ok, Err, refl, sym, ap, arith}
+use Rattle.std.proofs.Common.{◌≡◌, ◌∙◌, ◌<◌, ◌≤◌, ◌+◌, ◌-◌, ℕ, zero, suc, Bool, true, false, List, length, slice_get, Option, Some, None, Result, Ok}
+use Rattle.std.proofs.Common.{Err, refl, sym, ap, arith}
 use Rattle.std.proofs.lemmas.Bool.{false≢true}
 use Rattle.std.proofs.lemmas.Option.{slice_get_within}
 use Rattle.vg_ctok.specs.declared.kinds.Token.{Token}
@@ -8,7 +9,8 @@ use Rattle.vg_cread.specs.Places.{State, place_at, passes}
 use Rattle.vg_cread.specs.Reading.{Refusal, Reads, ◌>>=◌, turn, turns, read_with}
 
 -- what a chain's first turns leave to read, with turns enough
-pub record Going {A : Type 0} (toks : List Token) (test : Token → Bool) (more : Reads (ℕ → A → Growth A)) (at : ℕ) (a : A) (s : State) (whole : Result (A × State) Refusal) : Type 0 where
+pub record Going {A : Type 0} (toks : List Token) (test : Token → Bool) (more : Reads (ℕ → A → Growth A)) (at : ℕ) (a : A) (s : State)
+    (whole : Result (A × State) Refusal) : Type 0 where
   pub left : ℕ
   pub enough : length toks ≤ left + s.at
   pub is : turns toks left test more at a s ≡ whole
@@ -20,12 +22,14 @@ some_at toks test i (Some t) is so = slice_get_within toks i t is
 pub some_next : (toks : List Token) (test : Token → Bool) (i : ℕ) → passes test (slice_get toks i) ≡ true → i < length toks
 some_next toks test i e = some_at toks test i (slice_get toks i) refl e
 
-turn-first : {A : Type 0} (toks : List Token) (n : ℕ) (test : Token → Bool) (more : Reads (ℕ → A → Growth A)) (at : ℕ) (a : A) (s : State) → passes test (slice_get toks s.at) ≡ true → 0 < n
+turn-first : {A : Type 0} (toks : List Token) (n : ℕ) (test : Token → Bool) (more : Reads (ℕ → A → Growth A)) (at : ℕ) (a : A) (s : State)
+    → passes test (slice_get toks s.at) ≡ true → 0 < n
     → turns toks n test more at a s ≡ (turn more at a s >>= λ q. turns toks (n - 1) test more at q.0 q.1)
 turn-first toks zero test more at a s so some = absurd (omega (arith, some))
 turn-first toks (suc n) test more at a s so some = let less : suc n - 1 ≡ n = omega arith in rw (so, less) refl
 
-pub started : {A : Type 0} (toks : List Token) (inner : Nested → Reads ℕ) (test : Token → Bool) (x : Form A) (more : Form (ℕ → A → Growth A)) (s : State) (a : A) (t : State)
+pub started : {A : Type 0} (toks : List Token) (inner : Nested → Reads ℕ) (test : Token → Bool) (x : Form A) (more : Form (ℕ → A → Growth A))
+    (s : State) (a : A) (t : State)
     → read_with toks inner x s ≡ Ok (a, t) → Going toks test (read_with toks inner more) (place_at toks s.at) a t (read_with toks inner (Chain test x more) s)
 started toks inner test x more s a t e = record {
   left = length toks - t.at;
@@ -33,7 +37,8 @@ started toks inner test x more s a t e = record {
   is = sym (ap (λ r. r >>= λ p. turns toks (length toks - p.1.at) test (read_with toks inner more) (place_at toks s.at) p.0 p.1) e);
 }
 
-module _ {A : Type 0} (toks : List Token) (test : Token → Bool) (more : Reads (ℕ → A → Growth A)) (at : ℕ) (a : A) (s : State) (whole : Result (A × State) Refusal) (going : Going toks test more at a s whole) where
+module _ {A : Type 0} (toks : List Token) (test : Token → Bool) (more : Reads (ℕ → A → Growth A)) (at : ℕ) (a : A) (s : State)
+    (whole : Result (A × State) Refusal) (going : Going toks test more at a s whole) where
   pub ended : passes test (slice_get toks s.at) ≡ false → whole ≡ Ok (a, s)
   ended unless = sym going.is ∙ none going.left
     where

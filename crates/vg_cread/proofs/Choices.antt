@@ -62,7 +62,8 @@ tells (Both f x) behind t = tells f (led x behind t) t && tells x behind t
 tells (Either test x y) behind t =
     (tells x behind t && tells y behind t) && (eats x && (implies (first x t) (test t) && implies (led y behind t) (not (test t))))
 tells (Chain test x more) behind t =
-    (tells x (first more t || behind) t && tells more (first more t || behind) t) && (eats more && (implies (first more t) (test t) && implies behind (not (test t))))
+    (tells x (first more t || behind) t && tells more (first more t || behind) t) && (eats more &&
+    (implies (first more t) (test t) && implies behind (not (test t))))
 tells (Inner n) behind t = implies behind (follows n t)
 tells (Made f) behind t = tells f behind t
 
@@ -125,7 +126,8 @@ abbrev pub any : Token
 any = record { kind = kinds.Name; from = 0; to = 0 }
 
 pub either_tells : {A : Type 0} (test : Token → Bool) (x y : Form A) (behind : Bool) (t : Token) → tells (Either test x y) behind t ≡ true
-    → (tells x behind t ≡ true) × (tells y behind t ≡ true) × (eats x ≡ true) × (implies (first x t) (test t) ≡ true) × (implies (led y behind t) (not (test t)) ≡ true)
+    → (tells x behind t ≡ true) × (tells y behind t ≡ true) × (eats x ≡ true) × (implies (first x t) (test t) ≡ true)
+    × (implies (led y behind t) (not (test t)) ≡ true)
 either_tells test x y behind t h =
     let halves = and_parts (tells x behind t && tells y behind t) (eats x && (implies (first x t) (test t) && implies (led y behind t) (not (test t)))) h in
     let parts = and_parts (tells x behind t) (tells y behind t) halves.0 in
@@ -138,12 +140,16 @@ led_first y behind t is = or_left (first y t) (not (eats y) && (behind && not (b
 
 led_behind : {A : Type 0} (y : Form A) (behind : Bool) (t : Token) → eats y ≡ false → behind ≡ true → bars y t ≡ false → led y behind t ≡ true
 led_behind y behind t none is bar =
-    or_right (first y t) (not (eats y) && (behind && not (bars y t))) (and_both (not (eats y)) (behind && not (bars y t)) (not_of (eats y) none) (and_both behind (not (bars y t)) is (not_of (bars y t) bar)))
+    or_right (first y t) (not (eats y) && (behind && not (bars y t))) (and_both (not (eats y)) (behind && not (bars y t)) (not_of (eats y) none)
+    (and_both behind (not (bars y t)) is (not_of (bars y t) bar)))
 
-pub chain_tells : {A : Type 0} (test : Token → Bool) (x : Form A) (more : Form (ℕ → A → Growth A)) (behind : Bool) (t : Token) → tells (Chain test x more) behind t ≡ true
-    → (tells x (first more t || behind) t ≡ true) × (tells more (first more t || behind) t ≡ true) × (eats more ≡ true) × (implies (first more t) (test t) ≡ true) × (implies behind (not (test t)) ≡ true)
+pub chain_tells : {A : Type 0} (test : Token → Bool) (x : Form A) (more : Form (ℕ → A → Growth A)) (behind : Bool) (t : Token)
+    → tells (Chain test x more) behind t ≡ true
+    → (tells x (first more t || behind) t ≡ true) × (tells more (first more t || behind) t ≡ true) × (eats more ≡ true)
+    × (implies (first more t) (test t) ≡ true) × (implies behind (not (test t)) ≡ true)
 chain_tells test x more behind t h =
-    let halves = and_parts (tells x (first more t || behind) t && tells more (first more t || behind) t) (eats more && (implies (first more t) (test t) && implies behind (not (test t)))) h in
+    let halves = and_parts (tells x (first more t || behind) t && tells more (first more t || behind) t)
+    (eats more && (implies (first more t) (test t) && implies behind (not (test t)))) h in
     let parts = and_parts (tells x (first more t || behind) t) (tells more (first more t || behind) t) halves.0 in
     let rest = and_parts (eats more) (implies (first more t) (test t) && implies behind (not (test t))) halves.1 in
     let tests = and_parts (implies (first more t) (test t)) (implies behind (not (test t))) rest.1 in
@@ -163,7 +169,12 @@ module _ (toks : List Token) where
   leads_both : {A B : Type 0} (f : Form (A → B)) (x : Form A) (s v u : State) → Leads f s v → Leads x v u → Leads (Both f x) s u
   leads_both f x s v u (inr (t, found, is)) second = inr (t, found, or_left (first f t) (not (eats f) && first x t) is)
   leads_both f x s v u (inl (here, none, bar)) (inr (t, found, is)) =
-      inr (t, ap (λ n. slice_get toks n) (sym here) ∙ found, or_right (first f t) (not (eats f) && first x t) (and_both (not (eats f)) (first x t) (not_of (eats f) none) is))
+      inr (
+        t,
+        ap (λ n. slice_get toks n) (sym here) ∙ found,
+        or_right (first f t) (not (eats f) && first x t)
+            (and_both (not (eats f)) (first x t) (not_of (eats f) none) is),
+      )
   leads_both f x s v u (inl (here, none, bar)) (inl (there, never, bars_it)) =
       inl (there ∙ here, or_none (eats f) (eats x) none never, λ t found. bars_it t (ap (λ n. slice_get toks n) here ∙ found))
 
@@ -176,8 +187,10 @@ module _ (toks : List Token) where
   leads_right test x y s u (inr (t, found, is)) = inr (t, found, or_right (first x t) (first y t) is)
 
   -- turns of a chain have no token, or the next one is the first of a turn
-  leads_turns : {A : Type 0} (more : Form (ℕ → A → Growth A)) (says : Spelled (ℕ → A → Growth A)) → ((s : State) (g : ℕ → A → Growth A) (u : State) → says s g u → Leads more s u)
-      → (n at : ℕ) (a : A) (s : State) (b : A) (u : State) → Turns toks n says at a s b u → (u.at ≡ s.at) ⊎ ((t : Token) × (slice_get toks s.at ≡ Some t) × (first more t ≡ true))
+  leads_turns : {A : Type 0} (more : Form (ℕ → A → Growth A)) (says : Spelled (ℕ → A → Growth A))
+      → ((s : State) (g : ℕ → A → Growth A) (u : State) → says s g u → Leads more s u)
+      → (n at : ℕ) (a : A) (s : State) (b : A) (u : State) → Turns toks n says at a s b u → (u.at ≡ s.at)
+      ⊎ ((t : Token) × (slice_get toks s.at ≡ Some t) × (first more t ≡ true))
   leads_turns more says h zero at a s b u (same, to) = inl (ap (λ (v : State). v.at) to)
   leads_turns more says h (suc n) at a s b u (g, v, one, rest) = elim (h s g v one) [
     | inr led_by ↦ inr led_by
@@ -187,14 +200,21 @@ module _ (toks : List Token) where
     ]
   ]
 
-  leads_chain : {A : Type 0} (test : Token → Bool) (x : Form A) (more : Form (ℕ → A → Growth A)) (s v u : State) → Leads x s v → (u.at ≡ v.at) ⊎ ((t : Token) × (slice_get toks v.at ≡ Some t) × (first more t ≡ true))
+  leads_chain : {A : Type 0} (test : Token → Bool) (x : Form A) (more : Form (ℕ → A → Growth A)) (s v u : State) → Leads x s v → (u.at ≡ v.at)
+      ⊎ ((t : Token) × (slice_get toks v.at ≡ Some t) × (first more t ≡ true))
       → Leads (Chain test x more) s u
   leads_chain test x more s v u (inr (t, found, is)) turns = inr (t, found, or_left (first x t) (not (eats x) && first more t) is)
   leads_chain test x more s v u (inl (here, none, bar)) (inl there) = inl (there ∙ here, none, λ t found. refl)
   leads_chain test x more s v u (inl (here, none, bar)) (inr (t, found, is)) =
-      inr (t, ap (λ n. slice_get toks n) (sym here) ∙ found, or_right (first x t) (not (eats x) && first more t) (and_both (not (eats x)) (first more t) (not_of (eats x) none) is))
+      inr (
+        t,
+        ap (λ n. slice_get toks n) (sym here) ∙ found,
+        or_right (first x t) (not (eats x) && first more t)
+            (and_both (not (eats x)) (first more t) (not_of (eats x) none) is),
+      )
 
-  pub leads : (says : Nested → Spelled ℕ) → Leading says → {A : Type 0} (f : Form A) (s : State) (a : A) (u : State) → spelled_with toks says f s a u → Leads f s u
+  pub leads : (says : Nested → Spelled ℕ) → Leading says → {A : Type 0} (f : Form A) (s : State) (a : A) (u : State) → spelled_with toks says f s a u
+      → Leads f s u
   leads says h (Plain b) s a u (same, to) = inl (ap (λ (v : State). v.at) to, refl, λ t found. refl)
   leads says h Place s a u (same, to) = inl (ap (λ (v : State). v.at) to, refl, λ t found. refl)
   leads says h (One test) s a u (x, found, is, to) = inr (x, found, ap is_some is)
@@ -203,7 +223,8 @@ module _ (toks : List Token) where
   leads says h (Either test x y) s a u (inl one) = leads_left test x y s u (leads says h x s a u one)
   leads says h (Either test x y) s a u (inr two) = leads_right test x y s u (leads says h y s a u two)
   leads says h (Chain test x more) s b u (a, v, n, one, rest) =
-      leads_chain test x more s v u (leads says h x s a v one) (leads_turns more (spelled_with toks says more) (λ p g q is. leads says h more p g q is) n (place_at toks s.at) a v b u rest)
+      leads_chain test x more s v u (leads says h x s a v one) (leads_turns more (spelled_with toks says more)
+      (λ p g q is. leads says h more p g q is) n (place_at toks s.at) a v b u rest)
   leads says h (Inner n) s a u is = inr (h n s a u is)
   leads says h (Made f) s b u (g, v, one, same, to) = elim (leads says h f s g v one) [
     | inl stays ↦ inl (ap (λ (w : State). w.at) to ∙ stays.0, stays.1, stays.2)
@@ -216,7 +237,8 @@ module _ (toks : List Token) where
   leads_some f s u eat (inr next) = next
 
   -- the token behind a form that stands before another
-  behind_both : {A : Type 0} (x : Form A) (these : Token → Bool) (v u : State) → Leads x v u → After these (slice_get toks u.at) → After (λ t. led x (these t) t) (slice_get toks v.at)
+  behind_both : {A : Type 0} (x : Form A) (these : Token → Bool) (v u : State) → Leads x v u → After these (slice_get toks u.at)
+      → After (λ t. led x (these t) t) (slice_get toks v.at)
   behind_both x these v u (inr (t, found, is)) after = after_at (λ t. led x (these t) t) (slice_get toks v.at) t found (led_first x (these t) t is)
   behind_both x these v u (inl (here, none, bar)) after = by (slice_get toks v.at) refl (subst (λ (n : ℕ). After these (slice_get toks n)) here after)
     where
@@ -225,34 +247,53 @@ module _ (toks : List Token) where
       by (Some t) found is = after_at (λ t. led x (these t) t) (slice_get toks v.at) t found (led_behind x (these t) t none is (bar t found))
 
   -- the second side of a choice fails the test
-  fails_side : {A : Type 0} (test : Token → Bool) (x y : Form A) (these : Token → Bool) → ((t : Token) → tells (Either test x y) (these t) t ≡ true) → (s u : State) → Leads y s u → After these (slice_get toks u.at) → passes test (slice_get toks s.at) ≡ false
+  fails_side : {A : Type 0} (test : Token → Bool) (x y : Form A) (these : Token → Bool) → ((t : Token) → tells (Either test x y) (these t) t ≡ true)
+      → (s u : State) → Leads y s u → After these (slice_get toks u.at) → passes test (slice_get toks s.at) ≡ false
   fails_side test x y these h s u (inr (t, found, is)) after =
-      some_fails test (slice_get toks s.at) t found (implied (led y (these t) t) (not (test t)) (either_tells test x y (these t) t (h t)).4 (led_first y (these t) t is))
+      some_fails test (slice_get toks s.at) t found (implied (led y (these t) t) (not (test t)) (either_tells test x y (these t) t (h t)).4
+      (led_first y (these t) t is))
   fails_side test x y these h s u (inl (here, none, bar)) after = by (slice_get toks s.at) refl (subst (λ (n : ℕ). After these (slice_get toks n)) here after)
     where
       by : (o : Option Token) → slice_get toks s.at ≡ o → After these o → passes test (slice_get toks s.at) ≡ false
       by None found is = ap (passes test) found
-      by (Some t) found is = some_fails test (slice_get toks s.at) t found (implied (led y (these t) t) (not (test t)) (either_tells test x y (these t) t (h t)).4 (led_behind y (these t) t none is (bar t found)))
+      by (Some t) found is = some_fails test (slice_get toks s.at) t found (implied (led y (these t) t) (not (test t))
+          (either_tells test x y (these t) t (h t)).4 (led_behind y (these t) t none is (bar t found)))
 
   -- what is spelled is what the tests lead to
-  module _ (says goes : Nested → Spelled ℕ) (lead : Leading says) (inner : (n : Nested) (s : State) (a : ℕ) (u : State) → says n s a u → After (follows n) (slice_get toks u.at) → goes n s a u) where
-    turns_guided : {A : Type 0} (test : Token → Bool) (x : Form A) (more : Form (ℕ → A → Growth A)) (these : Token → Bool) → ((t : Token) → tells (Chain test x more) (these t) t ≡ true)
-        → ((s : State) (g : ℕ → A → Growth A) (u : State) → spelled_with toks says more s g u → After (λ t. first more t || these t) (slice_get toks u.at) → guided_with toks goes more s g u)
+  module _ (says goes : Nested → Spelled ℕ) (lead : Leading says) (inner : (n : Nested) (s : State) (a : ℕ) (u : State) → says n s a u
+      → After (follows n) (slice_get toks u.at) → goes n s a u) where
+    turns_guided : {A : Type 0} (test : Token → Bool) (x : Form A) (more : Form (ℕ → A → Growth A)) (these : Token → Bool)
+        → ((t : Token) → tells (Chain test x more) (these t) t ≡ true)
+        → ((s : State) (g : ℕ → A → Growth A) (u : State) → spelled_with toks says more s g u
+        → After (λ t. first more t || these t) (slice_get toks u.at) → guided_with toks goes more s g u)
         → (n at : ℕ) (a : A) (s : State) (b : A) (u : State) → Turns toks n (spelled_with toks says more) at a s b u → After these (slice_get toks u.at)
         → GuidedTurns toks n test (guided_with toks goes more) at a s b u × After (λ t. first more t || these t) (slice_get toks s.at)
     turns_guided test x more these h each zero at a s b u (same, to) after =
         let here : After these (slice_get toks s.at) = subst (λ (v : State). After these (slice_get toks v.at)) to after in (
-          (none_pass test these (λ t is. implied (these t) (not (test t)) (chain_tells test x more (these t) t (h t)).4 is) (slice_get toks s.at) here, same, to),
+          (
+            none_pass test these (λ t is. implied (these t) (not (test t)) (chain_tells test x more (these t) t (h t)).4 is) (slice_get toks s.at)
+                here,
+            same,
+            to,
+          ),
           after_more these (λ t. first more t || these t) (λ t is. or_right (first more t) (these t) is) (slice_get toks s.at) here,
         )
     turns_guided test x more these h each (suc n) at a s b u (g, v, one, rest) after =
         let later = turns_guided test x more these h each n at (g at a v.tree).0 (record v { tree = (g at a v.tree).1 }) b u rest after in
         let next = leads_some more s v (chain_tells test x more (these any) any (h any)).2 (leads says lead more s g v one) in (
-          (some_passes test (slice_get toks s.at) next.0 next.1 (implied (first more next.0) (test next.0) (chain_tells test x more (these next.0) next.0 (h next.0)).3 next.2), g, v, each s g v one later.1, later.0),
+          (
+            some_passes test (slice_get toks s.at) next.0 next.1 (implied (first more next.0) (test next.0)
+                (chain_tells test x more (these next.0) next.0 (h next.0)).3 next.2),
+            g,
+            v,
+            each s g v one later.1,
+            later.0,
+          ),
           after_at (λ t. first more t || these t) (slice_get toks s.at) next.0 next.1 (or_left (first more next.0) (these next.0) next.2),
         )
 
-    pub guide : {A : Type 0} (f : Form A) (these : Token → Bool) → ((t : Token) → tells f (these t) t ≡ true) → (s : State) (a : A) (u : State) → spelled_with toks says f s a u → After these (slice_get toks u.at) → guided_with toks goes f s a u
+    pub guide : {A : Type 0} (f : Form A) (these : Token → Bool) → ((t : Token) → tells f (these t) t ≡ true) → (s : State) (a : A) (u : State)
+        → spelled_with toks says f s a u → After these (slice_get toks u.at) → guided_with toks goes f s a u
     guide (Plain b) these h s a u is after = is
     guide Place these h s a u is after = is
     guide (One test) these h s a u is after = is
@@ -269,24 +310,39 @@ module _ (toks : List Token) where
     guide (Either test x y) these h s a u (inl one) after =
         let next = leads_some x s u (either_tells test x y (these any) any (h any)).2 (leads says lead x s a u one) in
         inl (
-          some_passes test (slice_get toks s.at) next.0 next.1 (implied (first x next.0) (test next.0) (either_tells test x y (these next.0) next.0 (h next.0)).3 next.2),
+          some_passes test (slice_get toks s.at) next.0 next.1 (implied (first x next.0) (test next.0)
+              (either_tells test x y (these next.0) next.0 (h next.0)).3 next.2),
           guide x these (λ t. (either_tells test x y (these t) t (h t)).0) s a u one after,
         )
     guide (Either test x y) these h s a u (inr two) after =
-        inr (fails_side test x y these h s u (leads says lead y s a u two) after, guide y these (λ t. (either_tells test x y (these t) t (h t)).1) s a u two after)
+        inr (
+          fails_side test x y these h s u (leads says lead y s a u two) after,
+          guide y these (λ t. (either_tells test x y (these t) t (h t)).1) s a
+              u two after,
+        )
     guide (Chain test x more) these h s b u (a, v, n, one, rest) after =
-        let turns = turns_guided test x more these h (λ p g q is. guide more (λ t. first more t || these t) (λ t. (chain_tells test x more (these t) t (h t)).1) p g q is) n (place_at toks s.at) a v b u rest after in
+        let turns = turns_guided test x more these h (λ p g q is. guide more (λ t. first more t || these t)
+        (λ t. (chain_tells test x more (these t) t (h t)).1) p g q is) n (place_at toks s.at) a v b u rest after in
         (a, v, n, guide x (λ t. first more t || these t) (λ t. (chain_tells test x more (these t) t (h t)).0) s a v one turns.1, turns.0)
-    guide (Inner n) these h s a u is after = inner n s a u is (after_more these (follows n) (λ t so. implied (these t) (follows n t) (h t) so) (slice_get toks u.at) after)
-    guide (Made f) these h s b u (g, v, one, same, to) after = (g, v, guide f these h s g v one (subst (λ (w : State). After these (slice_get toks w.at)) to after), same, to)
+    guide (Inner n) these h s a u is after =
+        inner n s a u is (after_more these (follows n) (λ t so. implied (these t) (follows n t) (h t) so) (slice_get toks u.at) after)
+    guide (Made f) these h s b u (g, v, one, same, to) after =
+        (g, v, guide f these h s g v one (subst (λ (w : State). After these (slice_get toks w.at)) to after), same, to)
 
   -- and what the tests lead to is spelled
-  turns_plain : {A : Type 0} (n : ℕ) (test : Token → Bool) (goes says : Spelled (ℕ → A → Growth A)) → ((s : State) (g : ℕ → A → Growth A) (u : State) → goes s g u → says s g u)
+  turns_plain : {A : Type 0} (n : ℕ) (test : Token → Bool) (goes says : Spelled (ℕ → A → Growth A))
+      → ((s : State) (g : ℕ → A → Growth A) (u : State) → goes s g u → says s g u)
       → (at : ℕ) (a : A) (s : State) (b : A) (u : State) → GuidedTurns toks n test goes at a s b u → Turns toks n says at a s b u
   turns_plain zero test goes says h at a s b u (unless, same, to) = (same, to)
-  turns_plain (suc n) test goes says h at a s b u (so, g, v, one, rest) = (g, v, h s g v one, turns_plain n test goes says h at (g at a v.tree).0 (record v { tree = (g at a v.tree).1 }) b u rest)
+  turns_plain (suc n) test goes says h at a s b u (so, g, v, one, rest) = (
+    g,
+    v,
+    h s g v one,
+    turns_plain n test goes says h at (g at a v.tree).0 (record v { tree = (g at a v.tree).1 }) b u rest,
+  )
 
-  pub plain : (goes says : Nested → Spelled ℕ) → ((n : Nested) (s : State) (a : ℕ) (u : State) → goes n s a u → says n s a u) → {A : Type 0} (f : Form A) (s : State) (a : A) (u : State) → guided_with toks goes f s a u → spelled_with toks says f s a u
+  pub plain : (goes says : Nested → Spelled ℕ) → ((n : Nested) (s : State) (a : ℕ) (u : State) → goes n s a u → says n s a u)
+      → {A : Type 0} (f : Form A) (s : State) (a : A) (u : State) → guided_with toks goes f s a u → spelled_with toks says f s a u
   plain goes says h (Plain b) s a u is = is
   plain goes says h Place s a u is = is
   plain goes says h (One test) s a u is = is
@@ -294,7 +350,13 @@ module _ (toks : List Token) where
   plain goes says h (Both f x) s b u (g, v, a, one, two, same) = (g, v, a, plain goes says h f s g v one, plain goes says h x v a u two, same)
   plain goes says h (Either test x y) s a u (inl (so, is)) = inl (plain goes says h x s a u is)
   plain goes says h (Either test x y) s a u (inr (unless, is)) = inr (plain goes says h y s a u is)
-  plain goes says h (Chain test x more) s b u (a, v, n, one, rest) =
-      (a, v, n, plain goes says h x s a v one, turns_plain n test (guided_with toks goes more) (spelled_with toks says more) (λ p g q is. plain goes says h more p g q is) (place_at toks s.at) a v b u rest)
+  plain goes says h (Chain test x more) s b u (a, v, n, one, rest) = (
+    a,
+    v,
+    n,
+    plain goes says h x s a v one,
+    turns_plain n test (guided_with toks goes more) (spelled_with toks says more)
+        (λ p g q is. plain goes says h more p g q is) (place_at toks s.at) a v b u rest,
+  )
   plain goes says h (Inner n) s a u is = h n s a u is
   plain goes says h (Made f) s b u (g, v, one, same, to) = (g, v, plain goes says h f s g v one, same, to)

@@ -1,5 +1,6 @@
 -- Tokens along which the grammar leads begin a whole tree: what is open at their end can be completed.
-use Rattle.std.proofs.Common.{◌≡◌, ◌∙◌, ◌<◌, ◌≤◌, ◌+◌, ◌⊎◌, inl, inr, ℕ, zero, suc, Bool, true, false, List, [], ◌∷◌, ◌++◌, take, drop, length, slice_get, Some, refl, sym, ap, subst, arith, length-append}
+use Rattle.std.proofs.Common.{◌≡◌, ◌∙◌, ◌<◌, ◌≤◌, ◌+◌, ◌⊎◌, inl, inr, ℕ, zero, suc, Bool, true, false, List, [], ◌∷◌, ◌++◌, take, drop, length}
+use Rattle.std.proofs.Common.{slice_get, Some, refl, sym, ap, subst, arith, length-append}
 use Rattle.std.specs.Prelude.{is_some, ◌&&◌}
 use Rattle.std.proofs.lemmas.Bool.{cases_eq}
 use Rattle.std.proofs.lemmas.Option.{slice_get_past}
@@ -17,7 +18,10 @@ use Rattle.vg_cread.proofs.Rooms.{form_eats}
 use Rattle.vg_cread.proofs.Prefixes.{get_front}
 use Rattle.vg_cread.proofs.Telling.{spelled_of}
 use Rattle.vg_cread.proofs.Shortest.{whole, fits, calls, form_fits, unit_fits}
-use Rattle.vg_cread.proofs.Going.{bool_cases, halts, halts_none, halts_second, halts_both, halts_left, halts_right, halts_side, halts_first, halts_more, halts_test, halts_form, fits_both, fits_either, fits_chain, Gaining, spelled_gains, turns_gain, Goes, ends, begins_at, goes_one, goes_none, goes_both, goes_left, goes_right, goes_made, goes_form, Rounds, goes_chain, Stands, Ready, stands_front, stands_back, both_end, shortest, room_begins}
+use Rattle.vg_cread.proofs.Going.{bool_cases, halts, halts_none, halts_second, halts_both, halts_left, halts_right, halts_side, halts_first}
+use Rattle.vg_cread.proofs.Going.{halts_more, halts_test, halts_form, fits_both, fits_either, fits_chain, Gaining, spelled_gains, turns_gain, Goes}
+use Rattle.vg_cread.proofs.Going.{ends, begins_at, goes_one, goes_none, goes_both, goes_left, goes_right, goes_made, goes_form, Rounds, goes_chain}
+use Rattle.vg_cread.proofs.Going.{Stands, Ready, stands_front, stands_back, both_end, shortest, room_begins}
 
 below_or : (a b : ℕ) → a ≤ b → (a < b) ⊎ (a ≡ b)
 below_or a b le = elim (cases_eq a b) [
@@ -50,14 +54,16 @@ module _ (toks : List Token) (i : ℕ) where
 
   -- what is gone along of the first tokens is gone along there, if the next token ends it
   abbrev Surely : List Token → (Nested → Spelled ℕ) → (Nested → Spelled ℕ) → Type 0
-  Surely all says far = (n : Nested) (s : State) (a : ℕ) (t : State) → says n s a t → t.at ≤ i → (t.at ≡ i → halts (Inner n) (slice_get all i) ≡ true) → Goes all far (Inner n) s.at t.at
+  Surely all says far = (n : Nested) (s : State) (a : ℕ) (t : State) → says n s a t → t.at ≤ i → (t.at ≡ i → halts (Inner n) (slice_get all i) ≡ true)
+      → Goes all far (Inner n) s.at t.at
 
   module _ (all : List Token) (agrees : Agrees all) (says far : Nested → Spelled ℕ) (gain : Gaining toks says) (inner : Surely all says far) where
     same_test : (test : Token → Bool) (k : ℕ) → k < i → passes test (slice_get all k) ≡ passes test (slice_get toks k)
     same_test test k less = ap (passes test) (agrees k less)
 
     turns_sure : {A : Type 0} (n : ℕ) (test : Token → Bool) (more : Form (ℕ → A → Growth A)) → eats more ≡ true
-        → ((s : State) (g : ℕ → A → Growth A) (t : State) → guided_with toks says more s g t → t.at ≤ i → (t.at ≡ i → halts more (slice_get all i) ≡ true) → Goes all far more s.at t.at)
+        → ((s : State) (g : ℕ → A → Growth A) (t : State) → guided_with toks says more s g t → t.at ≤ i
+        → (t.at ≡ i → halts more (slice_get all i) ≡ true) → Goes all far more s.at t.at)
         → (at : ℕ) (a : A) (s : State) (b : A) (t : State) → GuidedTurns toks n test (guided_with toks says more) at a s b t → t.at ≤ i
         → (t.at ≡ i → halts more (slice_get all i) ≡ true) → (t.at ≡ i → passes test (slice_get all i) ≡ false) → Rounds all far n test more s.at t.at
     turns_sure zero test more eat h at a s b t (unless, same, to) le ended tested =
@@ -70,14 +76,16 @@ module _ (toks : List Token) (i : ℕ) where
     turns_sure (suc n) test more eat h at a s b t (so, g, u, one, rest) le ended tested =
         let step = eaten (eats more) s.at u.at (spelled_gains toks says gain more s g u one) eat in
         let later : u.at ≤ t.at =
-        turns_gain toks n test (guided_with toks says more) (λ v p w is. further-least (eats more) v.at w.at (spelled_gains toks says gain more v p w is)) at (g at a u.tree).0 (record u { tree = (g at a u.tree).1 }) b t rest in (
+        turns_gain toks n test (guided_with toks says more) (λ v p w is. further-least (eats more) v.at w.at
+        (spelled_gains toks says gain more v p w is)) at (g at a u.tree).0 (record u { tree = (g at a u.tree).1 }) b t rest in (
           same_test test s.at (omega (arith, step, later, le)) ∙ so,
           u.at,
           h s g u one (omega (arith, later, le)) (λ here. ended (omega (arith, here, later, le))),
           turns_sure n test more eat h at (g at a u.tree).0 (record u { tree = (g at a u.tree).1 }) b t rest le ended tested,
         )
 
-    pub sure : {A : Type 0} (f : Form A) → fits f ≡ true → (s : State) (a : A) (t : State) → guided_with toks says f s a t → t.at ≤ i → (t.at ≡ i → halts f (slice_get all i) ≡ true) → Goes all far f s.at t.at
+    pub sure : {A : Type 0} (f : Form A) → fits f ≡ true → (s : State) (a : A) (t : State) → guided_with toks says f s a t → t.at ≤ i
+        → (t.at ≡ i → halts f (slice_get all i) ≡ true) → Goes all far f s.at t.at
     sure (Plain b) fit s a t (same, to) le ended = λ v e. (b, v, (refl, refl), e ∙ sym (ap (λ (u : State). u.at) to))
     sure Place fit s a t (same, to) le ended = λ v e. (place_at all v.at, v, (refl, refl), e ∙ sym (ap (λ (u : State). u.at) to))
     sure (One test) fit s a t (x, found, is, to) le ended =
@@ -103,7 +111,8 @@ module _ (toks : List Token) (i : ℕ) where
     sure (Either test x y) fit s a t (inl (so, one)) le ended =
         let parts = fits_either test x y fit in
         let step = eaten (eats x) s.at t.at (spelled_gains toks says gain x s a t one) parts.2 in
-        goes_left all far test x y s.at t.at (same_test test s.at (omega (arith, step, le)) ∙ so) (sure x parts.0 s a t one le (λ here. halts_left test x y (slice_get all i) (ended here)))
+        goes_left all far test x y s.at t.at (same_test test s.at (omega (arith, step, le)) ∙ so)
+        (sure x parts.0 s a t one le (λ here. halts_left test x y (slice_get all i) (ended here)))
     sure (Either test x y) fit s a t (inr (unless, two)) le ended =
         let parts = fits_either test x y fit in
         let step = spelled_gains toks says gain y s a t two in
@@ -119,9 +128,12 @@ module _ (toks : List Token) (i : ℕ) where
     sure (Chain test x more) fit s b t (a, u, n, one, rest) le ended =
         let parts = fits_chain test x more fit in
         let later : u.at ≤ t.at =
-        turns_gain toks n test (guided_with toks says more) (λ v p w is. further-least (eats more) v.at w.at (spelled_gains toks says gain more v p w is)) (place_at toks s.at) a u b t rest in
-        goes_chain all far n test x more s.at u.at t.at (sure x parts.0 s a u one (omega (arith, later, le)) (λ here. halts_first test x more (slice_get all i) (ended (omega (arith, here, later, le)))))
-        (turns_sure n test more parts.2 (λ v p w is. sure more parts.1 v p w is) (place_at toks s.at) a u b t rest le (λ here. halts_more test x more (slice_get all i) (ended here)) (λ here. halts_test test x more (slice_get all i) (ended here)))
+        turns_gain toks n test (guided_with toks says more) (λ v p w is. further-least (eats more) v.at w.at
+        (spelled_gains toks says gain more v p w is)) (place_at toks s.at) a u b t rest in
+        goes_chain all far n test x more s.at u.at t.at (sure x parts.0 s a u one (omega (arith, later, le))
+        (λ here. halts_first test x more (slice_get all i) (ended (omega (arith, here, later, le)))))
+        (turns_sure n test more parts.2 (λ v p w is. sure more parts.1 v p w is) (place_at toks s.at) a u b t rest le
+        (λ here. halts_more test x more (slice_get all i) (ended here)) (λ here. halts_test test x more (slice_get all i) (ended here)))
     sure (Inner n) fit s a t is le ended = inner n s a t is le ended
     sure (Made f) fit s a t (g, u, one, same, to) le ended =
         let here : t.at ≡ u.at = ap (λ (v : State). v.at) to in
@@ -129,30 +141,38 @@ module _ (toks : List Token) (i : ℕ) where
 
   inner_gaining : (room : ℕ) → Gaining toks (guided_inner toks room)
   inner_gaining zero n s a t is = absurd is
-  inner_gaining (suc room) n s a t (so, is) = eaten (eats (form n)) s.at t.at (spelled_gains toks (guided_inner toks room) (inner_gaining room) (form n) s a t is) (form_eats n)
+  inner_gaining (suc room) n s a t (so, is) =
+      eaten (eats (form n)) s.at t.at (spelled_gains toks (guided_inner toks room) (inner_gaining room) (form n) s a t is) (form_eats n)
 
   inner_sure : (all : List Token) → Agrees all → (room : ℕ) → Surely all (guided_inner toks room) (guided_inner all (suc (suc room)))
   inner_sure all agrees zero n s a t is le ended = absurd is
   inner_sure all agrees (suc room) n s a t (so, is) le ended =
       let step = inner_gaining (suc room) n s a t (so, is) in
       goes_form all (suc (suc room)) n s.at t.at (ap (passes (begins n)) (agrees s.at (omega (arith, step, le))) ∙ so)
-      (sure all agrees (guided_inner toks room) (guided_inner all (suc (suc room))) (inner_gaining room) (inner_sure all agrees room) (form n) (form_fits n) s a t is le (λ here. halts_form n (slice_get all i) (ended here)))
+      (sure all agrees (guided_inner toks room) (guided_inner all (suc (suc room))) (inner_gaining room) (inner_sure all agrees room) (form n)
+      (form_fits n) s a t is le (λ here. halts_form n (slice_get all i) (ended here)))
 
   -- where the grammar needs a token is not before the start
-  turns_within : {A : Type 0} (n : ℕ) (test : Token → Bool) (says : Spelled (ℕ → A → Growth A)) (stops : State → Type 0) → ((s : State) (g : ℕ → A → Growth A) (t : State) → says s g t → s.at ≤ t.at) → ((s : State) → stops s → s.at ≤ i)
+  turns_within : {A : Type 0} (n : ℕ) (test : Token → Bool) (says : Spelled (ℕ → A → Growth A)) (stops : State → Type 0)
+      → ((s : State) (g : ℕ → A → Growth A) (t : State) → says s g t → s.at ≤ t.at) → ((s : State) → stops s → s.at ≤ i)
       → (at : ℕ) (a : A) (s : State) → GuidedTurnsTo toks n test says stops at a s → s.at ≤ i
   turns_within zero test says stops h k at a s (so, is) = k s is
   turns_within (suc n) test says stops h k at a s (so, g, u, one, rest) =
       omega (arith, h s g u one, turns_within n test says stops h k at (g at a u.tree).0 (record u { tree = (g at a u.tree).1 }) rest)
 
-  module _ (says : Nested → Spelled ℕ) (lacks : Nested → State → Type 0) (gain : Gaining toks says) (near : (n : Nested) (s : State) → lacks n s → s.at ≤ i) where
+  module _ (says : Nested → Spelled ℕ) (lacks : Nested → State → Type 0) (gain : Gaining toks says)
+      (near : (n : Nested) (s : State) → lacks n s → s.at ≤ i) where
     comes_within : {A : Type 0} (f : Form A) (s : State) → comes_guided toks says (λ u. u.at ≡ i) lacks f s → s.at ≤ i
     comes_within (Plain a) s is = absurd is
     comes_within Place s is = absurd is
     comes_within (One test) s (here, none) = omega (arith, here)
     comes_within (Unless test) s (here, so) = omega (arith, here)
     comes_within (Both f x) s (inl first) = comes_within f s first
-    comes_within (Both f x) s (inr (g, u, one, second)) = omega (arith, further-least (eats f) s.at u.at (spelled_gains toks says gain f s g u one), comes_within x u second)
+    comes_within (Both f x) s (inr (g, u, one, second)) = omega (
+      arith,
+      further-least (eats f) s.at u.at (spelled_gains toks says gain f s g u one),
+      comes_within x u second,
+    )
     comes_within (Either test x y) s (inl (so, is)) = comes_within x s is
     comes_within (Either test x y) s (inr (unless, is)) = comes_within y s is
     comes_within (Chain test x more) s (inl first) = comes_within x s first
@@ -160,30 +180,44 @@ module _ (toks : List Token) (i : ℕ) where
         omega (
           arith,
           further-least (eats x) s.at u.at (spelled_gains toks says gain x s a u one),
-          turns_within n test (guided_with toks says more) (comes_guided toks says (λ u. u.at ≡ i) lacks more) (λ v p w is. further-least (eats more) v.at w.at (spelled_gains toks says gain more v p w is)) (λ v is. comes_within more v is)
+          turns_within n test (guided_with toks says more) (comes_guided toks says (λ u. u.at ≡ i) lacks more)
+              (λ v p w is. further-least (eats more) v.at w.at (spelled_gains toks says gain more v p w is)) (λ v is. comes_within more v is)
               (place_at toks s.at) a u later,
         )
     comes_within (Inner n) s is = near n s is
     comes_within (Made f) s is = comes_within f s is
 
     -- what completes a form: tokens with which it goes on from the place and comes to its end
-    module _ (far : List Token → Nested → Spelled ℕ) (kept : (all : List Token) → Agrees all → Surely all says (far all)) (ready : (all : List Token) → Ready all (λ n. true) (far all)) where
-      short : (all : List Token) {A : Type 0} (f : Form A) → fits f ≡ true → (j k : ℕ) → k ≡ j + length (whole f) → Stands all j (whole f) → halts f (slice_get all k) ≡ true → Goes all (far all) f j k
+    module _ (far : List Token → Nested → Spelled ℕ) (kept : (all : List Token) → Agrees all → Surely all says (far all))
+        (ready : (all : List Token) → Ready all (λ n. true) (far all)) where
+      short : (all : List Token) {A : Type 0} (f : Form A) → fits f ≡ true → (j k : ℕ) → k ≡ j + length (whole f) → Stands all j (whole f)
+          → halts f (slice_get all k) ≡ true → Goes all (far all) f j k
       short all f fit j k far-off stand ended = shortest all (λ n. true) (far all) (ready all) f fit (all_called f) j k far-off stand ended
 
       abbrev pub Completed : {A : Type 0} → Form A → State → Type 0
-      Completed f s = (more : List Token) × ((all : List Token) → Agrees all → Stands all i more → halts f (slice_get all (i + length more)) ≡ true → Goes all (far all) f s.at (i + length more))
+      Completed f s = (more : List Token) × ((all : List Token) → Agrees all → Stands all i more → halts f (slice_get all (i + length more)) ≡ true
+          → Goes all (far all) f s.at (i + length more))
 
       abbrev Turning : {A : Type 0} → (Token → Bool) → Form (ℕ → A → Growth A) → State → Type 0
-      Turning test rest s = (more : List Token) × (s.at ≡ i → more ≡ []) × ((all : List Token) → Agrees all → Stands all i more → halts rest (slice_get all (i + length more)) ≡ true
+      Turning test rest s = (more : List Token) × (s.at ≡ i → more ≡ []) × ((all : List Token) → Agrees all → Stands all i more
+          → halts rest (slice_get all (i + length more)) ≡ true
           → passes test (slice_get all (i + length more)) ≡ false → (n : ℕ) × Rounds all (far all) n test rest s.at (i + length more))
 
       -- a chain that comes to its next turn at the place has none
       turning_end : {A : Type 0} (test : Token → Bool) (rest : Form (ℕ → A → Growth A)) (s : State) → s.at ≡ i → Turning test rest s
-      turning_end test rest s end = ([], (λ here. refl), λ all agrees stand ended tested. (0, (ap (λ n. passes test (slice_get all n)) (omega (arith, end)) ∙ tested, omega (arith, end))))
+      turning_end test rest s end = (
+        [],
+        (λ here. refl),
+        λ all agrees stand ended tested. (
+          0,
+          (ap (λ n. passes test (slice_get all n)) (omega (arith, end)) ∙ tested, omega (arith, end)),
+        ),
+      )
 
-      turns_complete : {A : Type 0} (n : ℕ) (test : Token → Bool) (rest : Form (ℕ → A → Growth A)) → fits rest ≡ true → ((s : State) → comes_guided toks says (λ u. u.at ≡ i) lacks rest s → s.at < i → Completed rest s)
-          → (at : ℕ) (a : A) (s : State) → GuidedTurnsTo toks n test (guided_with toks says rest) (comes_guided toks says (λ u. u.at ≡ i) lacks rest) at a s → s.at ≤ i → Turning test rest s
+      turns_complete : {A : Type 0} (n : ℕ) (test : Token → Bool) (rest : Form (ℕ → A → Growth A)) → fits rest ≡ true
+          → ((s : State) → comes_guided toks says (λ u. u.at ≡ i) lacks rest s → s.at < i → Completed rest s)
+          → (at : ℕ) (a : A) (s : State) → GuidedTurnsTo toks n test (guided_with toks says rest) (comes_guided toks says (λ u. u.at ≡ i) lacks rest)
+          at a s → s.at ≤ i → Turning test rest s
       turns_complete zero test rest fit h at a s (so, is) le = elim (below_or s.at i le) [
         | inr end ↦ turning_end test rest s end
         | inl less ↦
@@ -197,7 +231,8 @@ module _ (toks : List Token) (i : ℕ) where
         | inr end ↦ turning_end test rest s end
         | inl less ↦
             let there : u.at ≤ i =
-            turns_within n test (guided_with toks says rest) (comes_guided toks says (λ u. u.at ≡ i) lacks rest) (λ v p w is. further-least (eats rest) v.at w.at (spelled_gains toks says gain rest v p w is)) (λ v is. comes_within rest v is)
+            turns_within n test (guided_with toks says rest) (comes_guided toks says (λ u. u.at ≡ i) lacks rest)
+            (λ v p w is. further-least (eats rest) v.at w.at (spelled_gains toks says gain rest v p w is)) (λ v is. comes_within rest v is)
             at (g at a u.tree).0 (record u { tree = (g at a u.tree).1 }) later in
             let c = turns_complete n test rest fit h at (g at a u.tree).0 (record u { tree = (g at a u.tree).1 }) later there in (
               c.0,
@@ -208,14 +243,17 @@ module _ (toks : List Token) (i : ℕ) where
                     (
                       ap (passes test) (agrees s.at less) ∙ so,
                       u.at,
-                      sure all agrees says (far all) gain (kept all agrees) rest fit s g u one there (λ here. let same : i + length c.0 ≡ i = omega (arith, ap length (c.1 here)) in ap (λ n. halts rest (slice_get all n)) (sym same) ∙ ended),
+                      sure all agrees says (far all) gain (kept all agrees) rest fit s g u one there
+                          (λ here. let same : i + length c.0 ≡ i = omega (arith, ap length (c.1 here)) in
+                          ap (λ n. halts rest (slice_get all n)) (sym same) ∙ ended),
                       r.1,
                     ),
                   ),
             )
       ]
 
-      pub complete : {A : Type 0} (f : Form A) → fits f ≡ true → ((n : Nested) (s : State) → lacks n s → s.at < i → Completed (Inner n) s) → (s : State) → comes_guided toks says (λ u. u.at ≡ i) lacks f s → s.at < i → Completed f s
+      pub complete : {A : Type 0} (f : Form A) → fits f ≡ true → ((n : Nested) (s : State) → lacks n s → s.at < i → Completed (Inner n) s)
+          → (s : State) → comes_guided toks says (λ u. u.at ≡ i) lacks f s → s.at < i → Completed f s
       complete (Plain a) fit inner s is less = absurd is
       complete Place fit inner s is less = absurd is
       complete (One test) fit inner s (here, none) less = absurd (omega (arith, here, less))
@@ -229,7 +267,8 @@ module _ (toks : List Token) (i : ℕ) where
                 let j = i + length c.0 in
                 let last : k ≡ j + length (whole x) = omega (arith, length-append c.0 (whole x)) in
                 let behind = stands_back all c.0 (whole x) i stand in
-                goes_both all (far all) f x s.at j k (c.1 all agrees (stands_front all c.0 (whole x) i stand) (both_end all f x j k last fit behind ended)) (short all x parts.1 j k last behind (halts_second f x (slice_get all k) ended)),
+                goes_both all (far all) f x s.at j k (c.1 all agrees (stands_front all c.0 (whole x) i stand)
+                (both_end all f x j k last fit behind ended)) (short all x parts.1 j k last behind (halts_second f x (slice_get all k) ended)),
           )
       complete (Both f x) fit inner s (inr (g, u, one, second)) less =
           let parts = fits_both f x fit in
@@ -238,14 +277,16 @@ module _ (toks : List Token) (i : ℕ) where
                 let c = complete x parts.1 inner u second inside in (
                   c.0,
                   λ all agrees stand ended.
-                      goes_both all (far all) f x s.at u.at (i + length c.0) (sure all agrees says (far all) gain (kept all agrees) f parts.0 s g u one (omega (arith, inside)) (λ here. absurd (omega (arith, here, inside))))
+                      goes_both all (far all) f x s.at u.at (i + length c.0) (sure all agrees says (far all) gain (kept all agrees) f parts.0 s g u
+                      one (omega (arith, inside)) (λ here. absurd (omega (arith, here, inside))))
                       (c.1 all agrees stand (halts_second f x (slice_get all (i + length c.0)) ended)),
                 )
             | inr end ↦ (
               whole x,
               λ all agrees stand ended.
                   let k = i + length (whole x) in
-                  goes_both all (far all) f x s.at u.at k (sure all agrees says (far all) gain (kept all agrees) f parts.0 s g u one (omega (arith, end)) (λ here. both_end all f x i k refl fit stand ended))
+                  goes_both all (far all) f x s.at u.at k (sure all agrees says (far all) gain (kept all agrees) f parts.0 s g u one
+                  (omega (arith, end)) (λ here. both_end all f x i k refl fit stand ended))
                   (begins_at all (far all) x i u.at k (sym end) (short all x parts.1 i k refl stand (halts_second f x (slice_get all k) ended))),
             )
           ]
@@ -253,25 +294,29 @@ module _ (toks : List Token) (i : ℕ) where
           let c = complete x (fits_either test x y fit).0 inner s is less in (
             c.0,
             λ all agrees stand ended.
-                goes_left all (far all) test x y s.at (i + length c.0) (ap (passes test) (agrees s.at less) ∙ so) (c.1 all agrees stand (halts_left test x y (slice_get all (i + length c.0)) ended)),
+                goes_left all (far all) test x y s.at (i + length c.0) (ap (passes test) (agrees s.at less) ∙ so)
+                (c.1 all agrees stand (halts_left test x y (slice_get all (i + length c.0)) ended)),
           )
       complete (Either test x y) fit inner s (inr (unless, is)) less =
           let c = complete y (fits_either test x y fit).1 inner s is less in (
             c.0,
             λ all agrees stand ended.
-                goes_right all (far all) test x y s.at (i + length c.0) (ap (passes test) (agrees s.at less) ∙ unless) (c.1 all agrees stand (halts_right test x y (slice_get all (i + length c.0)) ended)),
+                goes_right all (far all) test x y s.at (i + length c.0) (ap (passes test) (agrees s.at less) ∙ unless)
+                (c.1 all agrees stand (halts_right test x y (slice_get all (i + length c.0)) ended)),
           )
       complete (Chain test x more) fit inner s (inl first) less =
           let c = complete x (fits_chain test x more fit).0 inner s first less in (
             c.0,
             λ all agrees stand ended.
                 let k = i + length c.0 in
-                goes_chain all (far all) 0 test x more s.at k k (c.1 all agrees stand (halts_first test x more (slice_get all k) ended)) (halts_test test x more (slice_get all k) ended, refl),
+                goes_chain all (far all) 0 test x more s.at k k (c.1 all agrees stand (halts_first test x more (slice_get all k) ended))
+                (halts_test test x more (slice_get all k) ended, refl),
           )
       complete (Chain test x more) fit inner s (inr (a, u, n, one, later)) less =
           let parts = fits_chain test x more fit in
           let there : u.at ≤ i =
-          turns_within n test (guided_with toks says more) (comes_guided toks says (λ u. u.at ≡ i) lacks more) (λ v p w is. further-least (eats more) v.at w.at (spelled_gains toks says gain more v p w is)) (λ v is. comes_within more v is)
+          turns_within n test (guided_with toks says more) (comes_guided toks says (λ u. u.at ≡ i) lacks more)
+          (λ v p w is. further-least (eats more) v.at w.at (spelled_gains toks says gain more v p w is)) (λ v is. comes_within more v is)
           (place_at toks s.at) a u later in
           let c = turns_complete n test more parts.1 (λ v is inside. complete more parts.1 inner v is inside) (place_at toks s.at) a u later there in (
             c.0,
@@ -279,7 +324,9 @@ module _ (toks : List Token) (i : ℕ) where
                 let k = i + length c.0 in
                 let r = c.2 all agrees stand (halts_more test x more (slice_get all k) ended) (halts_test test x more (slice_get all k) ended) in
                 goes_chain all (far all) r.0 test x more s.at u.at k
-                (sure all agrees says (far all) gain (kept all agrees) x parts.0 s a u one there (λ here. let same : k ≡ i = omega (arith, ap length (c.1 here)) in ap (λ n. halts x (slice_get all n)) (sym same) ∙ halts_first test x more (slice_get all k) ended))
+                (sure all agrees says (far all) gain (kept all agrees) x parts.0 s a u one there
+                (λ here. let same : k ≡ i = omega (arith, ap length (c.1 here)) in ap (λ n. halts x (slice_get all n)) (sym same)
+                ∙ halts_first test x more (slice_get all k) ended))
                 r.1,
           )
       complete (Inner n) fit inner s is less = inner n s is less
@@ -291,43 +338,58 @@ module _ (toks : List Token) (i : ℕ) where
   inner_within : (room : ℕ) (n : Nested) (s : State) → lacks_guided toks i room n s → s.at ≤ i
   inner_within zero n s (here, unless) = omega (arith, here)
   inner_within (suc room) n s (inl (here, unless)) = omega (arith, here)
-  inner_within (suc room) n s (inr (so, is)) = comes_within (guided_inner toks room) (lacks_guided toks i room) (inner_gaining room) (inner_within room) (form n) s is
+  inner_within (suc room) n s (inr (so, is)) = comes_within (guided_inner toks room) (lacks_guided toks i room) (inner_gaining room)
+      (inner_within room) (form n) s is
 
   abbrev roomy : ℕ → List Token → Nested → Spelled ℕ
   roomy room all = guided_inner all (suc (suc room))
 
   inner_complete : (room : ℕ) (n : Nested) (s : State) → lacks_guided toks i room n s → s.at < i
-      → Completed (guided_inner toks room) (lacks_guided toks i room) (inner_gaining room) (inner_within room) (roomy room) (λ all agrees. inner_sure all agrees room) (λ all. room_begins all room) (Inner n) s
+      → Completed (guided_inner toks room) (lacks_guided toks i room) (inner_gaining room) (inner_within room) (roomy room)
+      (λ all agrees. inner_sure all agrees room) (λ all. room_begins all room) (Inner n) s
   inner_complete zero n s (here, unless) less = absurd (omega (arith, here, less))
   inner_complete (suc room) n s (inl (here, unless)) less = absurd (omega (arith, here, less))
   inner_complete (suc room) n s (inr (so, is)) less =
-      let c = complete (guided_inner toks room) (lacks_guided toks i room) (inner_gaining room) (inner_within room) (roomy room) (λ all agrees. inner_sure all agrees room) (λ all. room_begins all room) (form n) (form_fits n) (inner_complete room) s is less in (
+      let c = complete (guided_inner toks room) (lacks_guided toks i room) (inner_gaining room) (inner_within room) (roomy room)
+      (λ all agrees. inner_sure all agrees room) (λ all. room_begins all room) (form n) (form_fits n) (inner_complete room) s is less in (
         c.0,
         λ all agrees stand ended.
-            goes_form all (suc (suc room)) n s.at (i + length c.0) (ap (passes (begins n)) (agrees s.at less) ∙ so) (c.1 all agrees stand (halts_form n (slice_get all (i + length c.0)) ended)),
+            goes_form all (suc (suc room)) n s.at (i + length c.0) (ap (passes (begins n)) (agrees s.at less) ∙ so)
+            (c.1 all agrees stand (halts_form n (slice_get all (i + length c.0)) ended)),
       )
 
   unit_complete : (room : ℕ) → LacksGuided room toks i
-      → Completed (guided_inner toks room) (lacks_guided toks i room) (inner_gaining room) (inner_within room) (roomy room) (λ all agrees. inner_sure all agrees room) (λ all. room_begins all room) unit start
+      → Completed (guided_inner toks room) (lacks_guided toks i room) (inner_gaining room) (inner_within room) (roomy room)
+      (λ all agrees. inner_sure all agrees room) (λ all. room_begins all room) unit start
   unit_complete room is = elim (below_or 0 i (omega arith)) [
-    | inl less ↦ complete (guided_inner toks room) (lacks_guided toks i room) (inner_gaining room) (inner_within room) (roomy room) (λ all agrees. inner_sure all agrees room) (λ all. room_begins all room) unit unit_fits (inner_complete room) start is less
+    | inl less ↦ complete (guided_inner toks room) (lacks_guided toks i room) (inner_gaining room) (inner_within room) (roomy room)
+        (λ all agrees. inner_sure all agrees room) (λ all. room_begins all room) unit unit_fits (inner_complete room) start is less
     | inr same ↦ (
       whole unit,
       λ all agrees stand ended.
           begins_at all (roomy room all) unit i 0 (i + length (whole unit)) (sym same)
-          (short (guided_inner toks room) (lacks_guided toks i room) (inner_gaining room) (inner_within room) (roomy room) (λ all agrees. inner_sure all agrees room) (λ all. room_begins all room) all unit unit_fits i (i + length (whole unit)) refl
+          (short (guided_inner toks room) (lacks_guided toks i room) (inner_gaining room) (inner_within room) (roomy room)
+          (λ all agrees. inner_sure all agrees room) (λ all. room_begins all room) all unit unit_fits i (i + length (whole unit)) refl
           stand ended),
     )
   ]
 
 module _ (toks : List Token) (i : ℕ) where
   -- what comes to a construct without room
-  turns_also : {A : Type 0} (n : ℕ) (test : Token → Bool) (says : Spelled (ℕ → A → Growth A)) (one two : State → Type 0) → ((s : State) → one s → two s) → (at : ℕ) (a : A) (s : State)
+  turns_also : {A : Type 0} (n : ℕ) (test : Token → Bool) (says : Spelled (ℕ → A → Growth A)) (one two : State → Type 0)
+      → ((s : State) → one s → two s) → (at : ℕ) (a : A) (s : State)
       → GuidedTurnsTo toks n test says one at a s → GuidedTurnsTo toks n test says two at a s
   turns_also zero test says one two h at a s (so, is) = (so, h s is)
-  turns_also (suc n) test says one two h at a s (so, g, u, first, rest) = (so, g, u, first, turns_also n test says one two h at (g at a u.tree).0 (record u { tree = (g at a u.tree).1 }) rest)
+  turns_also (suc n) test says one two h at a s (so, g, u, first, rest) = (
+    so,
+    g,
+    u,
+    first,
+    turns_also n test says one two h at (g at a u.tree).0 (record u { tree = (g at a u.tree).1 }) rest,
+  )
 
-  also : (says : Nested → Spelled ℕ) (opens : Nested → State → Type 0) {A : Type 0} (f : Form A) (s : State) → comes_guided toks says (λ u. ⊥) opens f s → comes_guided toks says (λ u. u.at ≡ i) opens f s
+  also : (says : Nested → Spelled ℕ) (opens : Nested → State → Type 0) {A : Type 0} (f : Form A) (s : State)
+      → comes_guided toks says (λ u. ⊥) opens f s → comes_guided toks says (λ u. u.at ≡ i) opens f s
   also says opens (Plain a) s is = absurd is
   also says opens Place s is = absurd is
   also says opens (One test) s (here, none) = absurd here
@@ -338,37 +400,51 @@ module _ (toks : List Token) (i : ℕ) where
   also says opens (Either test x y) s (inr (unless, is)) = inr (unless, also says opens y s is)
   also says opens (Chain test x more) s (inl first) = inl (also says opens x s first)
   also says opens (Chain test x more) s (inr (a, u, n, one, later)) =
-      inr (a, u, n, one, turns_also n test (guided_with toks says more) (comes_guided toks says (λ u. ⊥) opens more) (comes_guided toks says (λ u. u.at ≡ i) opens more) (λ v is. also says opens more v is) (place_at toks s.at) a u later)
+      inr (
+        a,
+        u,
+        n,
+        one,
+        turns_also n test (guided_with toks says more) (comes_guided toks says (λ u. ⊥) opens more)
+            (comes_guided toks says (λ u. u.at ≡ i) opens more) (λ v is. also says opens more v is) (place_at toks s.at) a u later,
+      )
   also says opens (Inner n) s is = is
   also says opens (Made f) s is = also says opens f s is
 
   opens_within : (room : ℕ) (n : Nested) (s : State) → opens_guided toks i room n s → s.at ≤ i
   opens_within zero n s (here, so) = omega (arith, here)
   opens_within (suc room) n s (so, is) =
-      comes_within toks i (guided_inner toks room) (opens_guided toks i room) (inner_gaining toks i room) (opens_within room) (form n) s (also (guided_inner toks room) (opens_guided toks i room) (form n) s is)
+      comes_within toks i (guided_inner toks room) (opens_guided toks i room) (inner_gaining toks i room) (opens_within room) (form n) s
+      (also (guided_inner toks room) (opens_guided toks i room) (form n) s is)
 
   opens_complete : (room : ℕ) (n : Nested) (s : State) → opens_guided toks i room n s → s.at < i
-      → Completed toks i (guided_inner toks room) (opens_guided toks i room) (inner_gaining toks i room) (opens_within room) (roomy toks i room) (λ all agrees. inner_sure toks i all agrees room) (λ all. room_begins all room) (Inner n) s
+      → Completed toks i (guided_inner toks room) (opens_guided toks i room) (inner_gaining toks i room) (opens_within room) (roomy toks i room)
+      (λ all agrees. inner_sure toks i all agrees room) (λ all. room_begins all room) (Inner n) s
   opens_complete zero n s (here, so) less = absurd (omega (arith, here, less))
   opens_complete (suc room) n s (so, is) less =
-      let c = complete toks i (guided_inner toks room) (opens_guided toks i room) (inner_gaining toks i room) (opens_within room) (roomy toks i room) (λ all agrees. inner_sure toks i all agrees room) (λ all. room_begins all room) (form n) (form_fits n)
+      let c = complete toks i (guided_inner toks room) (opens_guided toks i room) (inner_gaining toks i room) (opens_within room) (roomy toks i room)
+      (λ all agrees. inner_sure toks i all agrees room) (λ all. room_begins all room) (form n) (form_fits n)
       (opens_complete room) s (also (guided_inner toks room) (opens_guided toks i room) (form n) s is) less in (
         c.0,
         λ all agrees stand ended.
-            goes_form all (suc (suc room)) n s.at (i + length c.0) (ap (passes (begins n)) (agrees s.at less) ∙ so) (c.1 all agrees stand (halts_form n (slice_get all (i + length c.0)) ended)),
+            goes_form all (suc (suc room)) n s.at (i + length c.0) (ap (passes (begins n)) (agrees s.at less) ∙ so)
+            (c.1 all agrees stand (halts_form n (slice_get all (i + length c.0)) ended)),
       )
 
   opened_complete : (room : ℕ) → OpensGuided room toks i
-      → Completed toks i (guided_inner toks room) (opens_guided toks i room) (inner_gaining toks i room) (opens_within room) (roomy toks i room) (λ all agrees. inner_sure toks i all agrees room) (λ all. room_begins all room) unit start
+      → Completed toks i (guided_inner toks room) (opens_guided toks i room) (inner_gaining toks i room) (opens_within room) (roomy toks i room)
+      (λ all agrees. inner_sure toks i all agrees room) (λ all. room_begins all room) unit start
   opened_complete room is = elim (below_or 0 i (omega arith)) [
     | inl less ↦
-        complete toks i (guided_inner toks room) (opens_guided toks i room) (inner_gaining toks i room) (opens_within room) (roomy toks i room) (λ all agrees. inner_sure toks i all agrees room) (λ all. room_begins all room) unit unit_fits
+        complete toks i (guided_inner toks room) (opens_guided toks i room) (inner_gaining toks i room) (opens_within room) (roomy toks i room)
+        (λ all agrees. inner_sure toks i all agrees room) (λ all. room_begins all room) unit unit_fits
         (opens_complete room) start (also (guided_inner toks room) (opens_guided toks i room) unit start is) less
     | inr same ↦ (
       whole unit,
       λ all agrees stand ended.
           begins_at all (roomy toks i room all) unit i 0 (i + length (whole unit)) (sym same)
-          (short toks i (guided_inner toks room) (opens_guided toks i room) (inner_gaining toks i room) (opens_within room) (roomy toks i room) (λ all agrees. inner_sure toks i all agrees room) (λ all. room_begins all room) all unit unit_fits i
+          (short toks i (guided_inner toks room) (opens_guided toks i room) (inner_gaining toks i room) (opens_within room) (roomy toks i room)
+          (λ all agrees. inner_sure toks i all agrees room) (λ all. room_begins all room) all unit unit_fits i
           (i + length (whole unit)) refl stand ended),
     )
   ]
@@ -382,18 +458,23 @@ stands_behind : (more front : List Token) → Stands (front ++ more) (length fro
 stands_behind [] front = tt
 stands_behind (x ∷ more) front =
     let rest = stands_behind more (front ++ x ∷ []) in
-    let here : length (front ++ x ∷ []) ≡ length front + 1 = length_push front x in
-    (get_behind front x more, subst (λ n. Stands (front ++ x ∷ more) n more) here (subst (λ l. Stands l (length (front ++ x ∷ [])) more) (append_assoc front (x ∷ []) more) rest))
+    let here : length (front ++ x ∷ []) ≡ length front + 1 = length_push front x in (
+      get_behind front x more,
+      subst (λ n. Stands (front ++ x ∷ more) n more) here (subst (λ l. Stands l (length (front ++ x ∷ [])) more)
+          (append_assoc front (x ∷ []) more) rest),
+    )
 
 -- tokens along which the grammar goes begin a whole tree
 begun_by : (toks : List Token) (room i : ℕ) → i ≤ length toks
-    → (more : List Token) × ((all : List Token) → Agrees toks i all → Stands all i more → halts unit (slice_get all (i + length more)) ≡ true → Goes all (guided_inner all (suc (suc room))) unit 0 (i + length more)) → Begins (take i toks)
+    → (more : List Token) × ((all : List Token) → Agrees toks i all → Stands all i more → halts unit (slice_get all (i + length more)) ≡ true
+    → Goes all (guided_inner all (suc (suc room))) unit 0 (i + length more)) → Begins (take i toks)
 begun_by toks room i le c =
     let front = take i toks in
     let all = front ++ c.0 in
     let size : length front ≡ i = length-take-le i toks le in
     let agrees : Agrees toks i all = λ k less.
-    get_front front c.0 k (omega (arith, less, size)) ∙ sym (get_front front (drop i toks) k (omega (arith, less, size))) ∙ ap (λ (l : List Token). slice_get l k) (take-append-drop i toks) in
+    get_front front c.0 k (omega (arith, less, size)) ∙ sym (get_front front (drop i toks) k (omega (arith, less, size)))
+    ∙ ap (λ (l : List Token). slice_get l k) (take-append-drop i toks) in
     let stand : Stands all i c.0 = subst (λ n. Stands all n c.0) size (stands_behind c.0 front) in
     let end : length all ≡ i + length c.0 = omega (arith, length-append front c.0, size) in
     let ended : halts unit (slice_get all (i + length c.0)) ≡ true = ap (halts unit) (slice_get_past all (i + length c.0) (omega (arith, end))) in

@@ -1,5 +1,6 @@
 -- What is spelled of another text: forms along its tokens, and what the first tokens of a text spell in any text that begins so.
-use Rattle.std.proofs.Common.{◌≡◌, ◌∙◌, ◌≤◌, ◌+◌, ◌⊎◌, inl, inr, ℕ, zero, suc, Bool, true, false, List, [], ◌∷◌, ◌++◌, length, slice_get, Option, Some, None, refl, sym, ap, subst, arith, length-append}
+use Rattle.std.proofs.Common.{◌≡◌, ◌∙◌, ◌≤◌, ◌+◌, ◌⊎◌, inl, inr, ℕ, zero, suc, Bool, true, false, List, [], ◌∷◌, ◌++◌, length, slice_get, Option}
+use Rattle.std.proofs.Common.{Some, None, refl, sym, ap, subst, arith, length-append}
 use Rattle.std.specs.Prelude.{◌&&◌, ◌||◌, not, cond, is_some}
 use Rattle.std.proofs.lemmas.Bool.{and_parts, not-true}
 use Rattle.vg_ctok.specs.declared.kinds.Token.{Token}
@@ -9,7 +10,8 @@ use Rattle.vg_cread.specs.Places.{State, place_at, passes}
 use Rattle.vg_cread.specs.Spelling.{Spelled}
 use Rattle.vg_cread.specs.Guided.{GuidedTurns, guided_with, guided_inner}
 use Rattle.vg_cread.proofs.Onward.{eats, further, further-both, further-first, further-second, further-more, further-least}
-use Rattle.vg_cread.proofs.Shortest.{first_passing, samples, whole, whole_inner, stops, leads, is_empty, fits, calls, flat, form_fits, form_stops, form_whole, form_calls, flat_calls, begun}
+use Rattle.vg_cread.proofs.Shortest.{first_passing, samples, whole, whole_inner, stops, leads, is_empty, fits, calls, flat, form_fits, form_stops}
+use Rattle.vg_cread.proofs.Shortest.{form_whole, form_calls, flat_calls, begun}
 
 pub bool_cases : (b : Bool) → (b ≡ true) ⊎ (b ≡ false)
 bool_cases true = inl refl
@@ -40,19 +42,24 @@ pub halts_right : {A : Type 0} (test : Token → Bool) (x y : Form A) (o : Optio
 halts_right test x y None is = refl
 halts_right test x y (Some t) is = (and_parts (stops x t) (stops y t) (and_parts (stops x t && stops y t) (eats y || not (test t)) is).0).1
 
-pub halts_side : {A : Type 0} (test : Token → Bool) (x y : Form A) (o : Option Token) → eats y ≡ false → halts (Either test x y) o ≡ true → passes test o ≡ false
+pub halts_side : {A : Type 0} (test : Token → Bool) (x y : Form A) (o : Option Token) → eats y ≡ false → halts (Either test x y) o ≡ true
+    → passes test o ≡ false
 halts_side test x y None none is = refl
-halts_side test x y (Some t) none is = not-true (test t) (subst (λ b. (b || not (test t)) ≡ true) none (and_parts (stops x t && stops y t) (eats y || not (test t)) is).1)
+halts_side test x y (Some t) none is =
+    not-true (test t) (subst (λ b. (b || not (test t)) ≡ true) none (and_parts (stops x t && stops y t) (eats y || not (test t)) is).1)
 
-pub halts_first : {A : Type 0} (test : Token → Bool) (x : Form A) (more : Form (ℕ → A → Growth A)) (o : Option Token) → halts (Chain test x more) o ≡ true → halts x o ≡ true
+pub halts_first : {A : Type 0} (test : Token → Bool) (x : Form A) (more : Form (ℕ → A → Growth A)) (o : Option Token)
+    → halts (Chain test x more) o ≡ true → halts x o ≡ true
 halts_first test x more None is = refl
 halts_first test x more (Some t) is = (and_parts (stops x t) (stops more t) (and_parts (stops x t && stops more t) (not (test t)) is).0).0
 
-pub halts_more : {A : Type 0} (test : Token → Bool) (x : Form A) (more : Form (ℕ → A → Growth A)) (o : Option Token) → halts (Chain test x more) o ≡ true → halts more o ≡ true
+pub halts_more : {A : Type 0} (test : Token → Bool) (x : Form A) (more : Form (ℕ → A → Growth A)) (o : Option Token)
+    → halts (Chain test x more) o ≡ true → halts more o ≡ true
 halts_more test x more None is = refl
 halts_more test x more (Some t) is = (and_parts (stops x t) (stops more t) (and_parts (stops x t && stops more t) (not (test t)) is).0).1
 
-pub halts_test : {A : Type 0} (test : Token → Bool) (x : Form A) (more : Form (ℕ → A → Growth A)) (o : Option Token) → halts (Chain test x more) o ≡ true → passes test o ≡ false
+pub halts_test : {A : Type 0} (test : Token → Bool) (x : Form A) (more : Form (ℕ → A → Growth A)) (o : Option Token)
+    → halts (Chain test x more) o ≡ true → passes test o ≡ false
 halts_test test x more None is = refl
 halts_test test x more (Some t) is = not-true (test t) (and_parts (stops x t && stops more t) (not (test t)) is).1
 
@@ -61,7 +68,8 @@ halts_form n None is = refl
 halts_form n (Some t) is = form_stops n t is
 
 -- what fits
-pub fits_both : {A B : Type 0} (f : Form (A → B)) (x : Form A) → fits (Both f x) ≡ true → (fits f ≡ true) × (fits x ≡ true) × (cond (eats x) (leads (stops f) (whole x)) (is_empty (whole x)) ≡ true)
+pub fits_both : {A B : Type 0} (f : Form (A → B)) (x : Form A) → fits (Both f x) ≡ true → (fits f ≡ true) × (fits x ≡ true)
+    × (cond (eats x) (leads (stops f) (whole x)) (is_empty (whole x)) ≡ true)
 fits_both f x is =
     let parts = and_parts (fits f && fits x) (cond (eats x) (leads (stops f) (whole x)) (is_empty (whole x))) is in
     let two = and_parts (fits f) (fits x) parts.0 in
@@ -75,7 +83,8 @@ fits_either test x y is =
     let two = and_parts (fits x) (fits y) three.0 in
     (two.0, two.1, three.1, parts.1)
 
-pub fits_chain : {A : Type 0} (test : Token → Bool) (x : Form A) (more : Form (ℕ → A → Growth A)) → fits (Chain test x more) ≡ true → (fits x ≡ true) × (fits more ≡ true) × (eats more ≡ true)
+pub fits_chain : {A : Type 0} (test : Token → Bool) (x : Form A) (more : Form (ℕ → A → Growth A)) → fits (Chain test x more) ≡ true → (fits x ≡ true)
+    × (fits more ≡ true) × (eats more ≡ true)
 fits_chain test x more is =
     let parts = and_parts (fits x && fits more) (eats more) is in
     let two = and_parts (fits x) (fits more) parts.0 in
@@ -101,7 +110,8 @@ passing test (t ∷ ts) is = elim (bool_cases (test t)) [
 
 -- what is spelled goes onward
 module _ (toks : List Token) where
-  pub turns_gain : {A : Type 0} (n : ℕ) (test : Token → Bool) (says : Spelled (ℕ → A → Growth A)) → ((s : State) (g : ℕ → A → Growth A) (t : State) → says s g t → s.at ≤ t.at)
+  pub turns_gain : {A : Type 0} (n : ℕ) (test : Token → Bool) (says : Spelled (ℕ → A → Growth A))
+      → ((s : State) (g : ℕ → A → Growth A) (t : State) → says s g t → s.at ≤ t.at)
       → (at : ℕ) (a : A) (s : State) (b : A) (t : State) → GuidedTurns toks n test says at a s b t → s.at ≤ t.at
   turns_gain zero test says h at a s b t (unless, same, to) = subst (λ (u : State). s.at ≤ u.at) (sym to) (omega arith)
   turns_gain (suc n) test says h at a s b t (so, g, u, one, rest) =
@@ -110,17 +120,20 @@ module _ (toks : List Token) where
   abbrev pub Gaining : (Nested → Spelled ℕ) → Type 0
   Gaining says = (n : Nested) (s : State) (a : ℕ) (t : State) → says n s a t → s.at + 1 ≤ t.at
 
-  pub spelled_gains : (says : Nested → Spelled ℕ) → Gaining says → {A : Type 0} (f : Form A) (s : State) (a : A) (t : State) → guided_with toks says f s a t → further (eats f) s.at ≤ t.at
+  pub spelled_gains : (says : Nested → Spelled ℕ) → Gaining says → {A : Type 0} (f : Form A) (s : State) (a : A) (t : State)
+      → guided_with toks says f s a t → further (eats f) s.at ≤ t.at
   spelled_gains says h (Plain b) s a t (same, to) = subst (λ (u : State). s.at ≤ u.at) (sym to) (omega arith)
   spelled_gains says h Place s a t (same, to) = subst (λ (u : State). s.at ≤ u.at) (sym to) (omega arith)
   spelled_gains says h (One test) s a t (x, found, is, to) = subst (λ (u : State). s.at + 1 ≤ u.at) (sym to) (omega arith)
   spelled_gains says h (Unless test) s a t (unless, to) = subst (λ (u : State). s.at ≤ u.at) (sym to) (omega arith)
-  spelled_gains says h (Both f x) s b t (g, u, a, one, two, same) = further-both (eats f) (eats x) s.at u.at t.at (spelled_gains says h f s g u one) (spelled_gains says h x u a t two)
+  spelled_gains says h (Both f x) s b t (g, u, a, one, two, same) = further-both (eats f) (eats x) s.at u.at t.at (spelled_gains says h f s g u one)
+      (spelled_gains says h x u a t two)
   spelled_gains says h (Either test x y) s a t (inl (so, one)) = further-first (eats x) (eats y) s.at t.at (spelled_gains says h x s a t one)
   spelled_gains says h (Either test x y) s a t (inr (unless, two)) = further-second (eats x) (eats y) s.at t.at (spelled_gains says h y s a t two)
   spelled_gains says h (Chain test x more) s b t (a, u, n, one, rest) =
       further-more (eats x) s.at u.at t.at (spelled_gains says h x s a u one)
-      (turns_gain n test (guided_with toks says more) (λ v g w is. further-least (eats more) v.at w.at (spelled_gains says h more v g w is)) (place_at toks s.at) a u b t rest)
+      (turns_gain n test (guided_with toks says more) (λ v g w is. further-least (eats more) v.at w.at (spelled_gains says h more v g w is))
+      (place_at toks s.at) a u b t rest)
   spelled_gains says h (Inner n) s a t is = h n s a t is
   spelled_gains says h (Made f) s a t (g, u, one, same, to) = subst (λ (v : State). further (eats f) s.at ≤ v.at) (sym to) (spelled_gains says h f s g u one)
 
@@ -135,7 +148,8 @@ module _ (all : List Token) where
   pub begins_at : {A : Type 0} (says : Nested → Spelled ℕ) (f : Form A) (h i j : ℕ) → h ≡ i → Goes says f h j → Goes says f i j
   begins_at says f h i j same g = subst (λ n. Goes says f n j) same g
 
-  pub goes_one : {A : Type 0} (says : Nested → Spelled ℕ) (test : Token → Option A) (i : ℕ) (x : Token) → slice_get all i ≡ Some x → is_some (test x) ≡ true → Goes says (One test) i (i + 1)
+  pub goes_one : {A : Type 0} (says : Nested → Spelled ℕ) (test : Token → Option A) (i : ℕ) (x : Token) → slice_get all i ≡ Some x
+      → is_some (test x) ≡ true → Goes says (One test) i (i + 1)
   goes_one says test i x found so = λ s e.
       let v = some_of (test x) so in
       (v.0, record s { at = s.at + 1 }, (x, ap (λ n. slice_get all n) e ∙ found, v.1, refl), ap (λ n. n + 1) e)
@@ -143,18 +157,21 @@ module _ (all : List Token) where
   pub goes_none : (says : Nested → Spelled ℕ) (test : Token → Bool) (i : ℕ) → passes test (slice_get all i) ≡ false → Goes says (Unless test) i i
   goes_none says test i unless = λ s e. (tt, s, (ap (λ n. passes test (slice_get all n)) e ∙ unless, refl), e)
 
-  pub goes_both : {A B : Type 0} (says : Nested → Spelled ℕ) (f : Form (A → B)) (x : Form A) (i j k : ℕ) → Goes says f i j → Goes says x j k → Goes says (Both f x) i k
+  pub goes_both : {A B : Type 0} (says : Nested → Spelled ℕ) (f : Form (A → B)) (x : Form A) (i j k : ℕ) → Goes says f i j → Goes says x j k
+      → Goes says (Both f x) i k
   goes_both says f x i j k one two = λ s e.
       let p = one s e in
       let q = two p.1 p.3 in
       (p.0 q.0, q.1, (p.0, p.1, q.0, p.2, q.2, refl), q.3)
 
-  pub goes_left : {A : Type 0} (says : Nested → Spelled ℕ) (test : Token → Bool) (x y : Form A) (i j : ℕ) → passes test (slice_get all i) ≡ true → Goes says x i j → Goes says (Either test x y) i j
+  pub goes_left : {A : Type 0} (says : Nested → Spelled ℕ) (test : Token → Bool) (x y : Form A) (i j : ℕ) → passes test (slice_get all i) ≡ true
+      → Goes says x i j → Goes says (Either test x y) i j
   goes_left says test x y i j so one = λ s e.
       let p = one s e in
       (p.0, p.1, inl (ap (λ n. passes test (slice_get all n)) e ∙ so, p.2), p.3)
 
-  pub goes_right : {A : Type 0} (says : Nested → Spelled ℕ) (test : Token → Bool) (x y : Form A) (i j : ℕ) → passes test (slice_get all i) ≡ false → Goes says y i j → Goes says (Either test x y) i j
+  pub goes_right : {A : Type 0} (says : Nested → Spelled ℕ) (test : Token → Bool) (x y : Form A) (i j : ℕ) → passes test (slice_get all i) ≡ false
+      → Goes says y i j → Goes says (Either test x y) i j
   goes_right says test x y i j unless two = λ s e.
       let p = two s e in
       (p.0, p.1, inr (ap (λ n. passes test (slice_get all n)) e ∙ unless, p.2), p.3)
@@ -164,7 +181,8 @@ module _ (all : List Token) where
       let p = one s e in
       ((p.0 p.1.tree).0, record p.1 { tree = (p.0 p.1.tree).1 }, (p.0, p.1, p.2, refl, refl), p.3)
 
-  pub goes_form : (room : ℕ) (n : Nested) (i j : ℕ) → passes (begins n) (slice_get all i) ≡ true → Goes (guided_inner all room) (form n) i j → Goes (guided_inner all (suc room)) (Inner n) i j
+  pub goes_form : (room : ℕ) (n : Nested) (i j : ℕ) → passes (begins n) (slice_get all i) ≡ true → Goes (guided_inner all room) (form n) i j
+      → Goes (guided_inner all (suc room)) (Inner n) i j
   goes_form room n i j so one = λ s e.
       let p = one s e in
       (p.0, p.1, (ap (λ m. passes (begins n) (slice_get all m)) e ∙ so, p.2), p.3)
@@ -182,7 +200,8 @@ module _ (all : List Token) where
       let q = rounds_turn says n test more m j rest at (p.0 at a p.1.tree).0 (record p.1 { tree = (p.0 at a p.1.tree).1 }) p.3 in
       (q.0, q.1, (ap (λ n. passes test (slice_get all n)) e ∙ so, p.0, p.1, p.2, q.2), q.3)
 
-  pub goes_chain : {A : Type 0} (says : Nested → Spelled ℕ) (n : ℕ) (test : Token → Bool) (x : Form A) (more : Form (ℕ → A → Growth A)) (i j k : ℕ) → Goes says x i j → Rounds says n test more j k → Goes says (Chain test x more) i k
+  pub goes_chain : {A : Type 0} (says : Nested → Spelled ℕ) (n : ℕ) (test : Token → Bool) (x : Form A) (more : Form (ℕ → A → Growth A)) (i j k : ℕ)
+      → Goes says x i j → Rounds says n test more j k → Goes says (Chain test x more) i k
   goes_chain says n test x more i j k one rest = λ s e.
       let p = one s e in
       let q = rounds_turn says n test more j k rest (place_at all s.at) p.0 p.1 p.3 in
@@ -199,14 +218,16 @@ module _ (all : List Token) where
 
   pub stands_back : (xs ys : List Token) (i : ℕ) → Stands i (xs ++ ys) → Stands (i + length xs) ys
   stands_back [] ys i h = let same : i ≡ i + 0 = omega arith in subst (λ n. Stands n ys) same h
-  stands_back (x ∷ xs) ys i h = let same : i + 1 + length xs ≡ i + suc (length xs) = omega arith in subst (λ n. Stands n ys) same (stands_back xs ys (i + 1) h.1)
+  stands_back (x ∷ xs) ys i h = let same : i + 1 + length xs ≡ i + suc (length xs) = omega arith in
+      subst (λ n. Stands n ys) same (stands_back xs ys (i + 1) h.1)
 
   leads_at : (p : Token → Bool) (ts : List Token) (i : ℕ) → Stands i ts → leads p ts ≡ true → (t : Token) × (slice_get all i ≡ Some t) × (p t ≡ true)
   leads_at p [] i h is = absurd (cc)
   leads_at p (t ∷ ts) i h is = (t, h.0, is)
 
   -- where a form may end before the spelling of the one behind it
-  pub both_end : {A B : Type 0} (f : Form (A → B)) (x : Form A) (i k : ℕ) → k ≡ i + length (whole x) → fits (Both f x) ≡ true → Stands i (whole x) → halts (Both f x) (slice_get all k) ≡ true → halts f (slice_get all i) ≡ true
+  pub both_end : {A B : Type 0} (f : Form (A → B)) (x : Form A) (i k : ℕ) → k ≡ i + length (whole x) → fits (Both f x) ≡ true → Stands i (whole x)
+      → halts (Both f x) (slice_get all k) ≡ true → halts f (slice_get all i) ≡ true
   both_end f x i k far fit h is = elim (bool_cases (eats x)) [
     | inl so ↦
         let first = leads_at (stops f) (whole x) i h (sym (ap (λ b. cond b (leads (stops f) (whole x)) (is_empty (whole x))) so) ∙ (fits_both f x fit).2) in
@@ -217,20 +238,24 @@ module _ (all : List Token) where
         ap (λ n. halts f (slice_get all n)) (sym here) ∙ halts_both f x (slice_get all k) unless is
   ]
 
-  either_end : {A : Type 0} (test : Token → Bool) (x y : Form A) (i k : ℕ) → k ≡ i + length (whole y) → fits (Either test x y) ≡ true → Stands i (whole y) → halts (Either test x y) (slice_get all k) ≡ true → passes test (slice_get all i) ≡ false
+  either_end : {A : Type 0} (test : Token → Bool) (x y : Form A) (i k : ℕ) → k ≡ i + length (whole y) → fits (Either test x y) ≡ true
+      → Stands i (whole y) → halts (Either test x y) (slice_get all k) ≡ true → passes test (slice_get all i) ≡ false
   either_end test x y i k far fit h is = elim (bool_cases (eats y)) [
     | inl so ↦
-        let first = leads_at (λ t. not (test t)) (whole y) i h (sym (ap (λ b. cond b (leads (λ t. not (test t)) (whole y)) (is_empty (whole y))) so) ∙ (fits_either test x y fit).3) in
+        let first = leads_at (λ t. not (test t)) (whole y) i h (sym (ap (λ b. cond b (leads (λ t. not (test t)) (whole y)) (is_empty (whole y))) so)
+        ∙ (fits_either test x y fit).3) in
         ap (passes test) first.1 ∙ not-true (test first.0) first.2
     | inr unless ↦
-        let none = no_tokens (whole y) (sym (ap (λ b. cond b (leads (λ t. not (test t)) (whole y)) (is_empty (whole y))) unless) ∙ (fits_either test x y fit).3) in
+        let none = no_tokens (whole y) (sym (ap (λ b. cond b (leads (λ t. not (test t)) (whole y)) (is_empty (whole y))) unless)
+        ∙ (fits_either test x y fit).3) in
         let here : k ≡ i = omega (arith, far, ap length none) in
         ap (λ n. passes test (slice_get all n)) (sym here) ∙ halts_side test x y (slice_get all k) unless is
   ]
 
   -- the shortest spelling of a form is spelled, where a token stands behind it before which the form ends
   abbrev pub Ready : (Nested → Bool) → (Nested → Spelled ℕ) → Type 0
-  Ready ready says = (n : Nested) → ready n ≡ true → (i : ℕ) → Stands i (whole_inner n) → halts (Inner n) (slice_get all (i + length (whole_inner n))) ≡ true → Goes says (Inner n) i (i + length (whole_inner n))
+  Ready ready says = (n : Nested) → ready n ≡ true → (i : ℕ) → Stands i (whole_inner n) → halts (Inner n) (slice_get all (i + length (whole_inner n)))
+      ≡ true → Goes says (Inner n) i (i + length (whole_inner n))
 
   pub shortest : (ready : Nested → Bool) (says : Nested → Spelled ℕ) → Ready ready says → {A : Type 0} (f : Form A) → fits f ≡ true → calls ready f ≡ true
       → (i k : ℕ) → k ≡ i + length (whole f) → Stands i (whole f) → halts f (slice_get all k) ≡ true → Goes says f i k
@@ -242,19 +267,23 @@ module _ (all : List Token) where
       ends says (One test) i (i + 1) k (omega (arith, far, ap length first.1)) (goes_one says test i first.0 here.0 first.2)
   shortest ready says h (Unless test) fit call i k far stand is =
       let here : k ≡ i = omega (arith, far) in
-      ends says (Unless test) i i k (sym here) (goes_none says test i (ap (λ n. passes test (slice_get all n)) (sym here) ∙ halts_none test (slice_get all k) is))
+      ends says (Unless test) i i k (sym here) (goes_none says test i (ap (λ n. passes test (slice_get all n)) (sym here)
+      ∙ halts_none test (slice_get all k) is))
   shortest ready says h (Both f x) fit call i k far stand is =
       let parts = fits_both f x fit in
       let called = and_parts (calls ready f) (calls ready x) call in
       let j = i + length (whole f) in
       let last : k ≡ j + length (whole x) = omega (arith, far, length-append (whole f) (whole x)) in
       let behind = stands_back (whole f) (whole x) i stand in
-      goes_both says f x i j k (shortest ready says h f parts.0 called.0 i j refl (stands_front (whole f) (whole x) i stand) (both_end f x j k last fit behind is))
+      goes_both says f x i j k (shortest ready says h f parts.0 called.0 i j refl (stands_front (whole f) (whole x) i stand)
+      (both_end f x j k last fit behind is))
       (shortest ready says h x parts.1 called.1 j k last behind (halts_second f x (slice_get all k) is))
   shortest ready says h (Either test x y) fit call i k far stand is =
-      goes_right says test x y i k (either_end test x y i k far fit stand is) (shortest ready says h y (fits_either test x y fit).1 call i k far stand (halts_right test x y (slice_get all k) is))
+      goes_right says test x y i k (either_end test x y i k far fit stand is) (shortest ready says h y (fits_either test x y fit).1 call i k far stand
+      (halts_right test x y (slice_get all k) is))
   shortest ready says h (Chain test x more) fit call i k far stand is =
-      goes_chain says 0 test x more i k k (shortest ready says h x (fits_chain test x more fit).0 call i k far stand (halts_first test x more (slice_get all k) is))
+      goes_chain says 0 test x more i k k (shortest ready says h x (fits_chain test x more fit).0 call i k far stand
+      (halts_first test x more (slice_get all k) is))
       (halts_test test x more (slice_get all k) is, refl)
   shortest ready says h (Inner n) fit call i k far stand is =
       ends says (Inner n) i (i + length (whole_inner n)) k (sym far) (h n call i stand (subst (λ m. halts (Inner n) (slice_get all m) ≡ true) far is))
@@ -264,16 +293,19 @@ module _ (all : List Token) where
   begun_at n i stand = let first = leads_at (begins n) (whole_inner n) i stand (begun n) in ap (passes (begins n)) first.1 ∙ first.2
 
   -- constructs that are counted, with room for one more in them than their shortest spellings need
-  inner_begins : (ready : Nested → Bool) (room : ℕ) → Ready ready (guided_inner all room) → (n : Nested) → calls ready (form n) ≡ true → (i : ℕ) → Stands i (whole_inner n)
+  inner_begins : (ready : Nested → Bool) (room : ℕ) → Ready ready (guided_inner all room) → (n : Nested) → calls ready (form n) ≡ true → (i : ℕ)
+      → Stands i (whole_inner n)
       → halts (Inner n) (slice_get all (i + length (whole_inner n))) ≡ true → Goes (guided_inner all (suc room)) (Inner n) i (i + length (whole_inner n))
   inner_begins ready room h n call i stand is =
       let k = i + length (whole_inner n) in
       goes_form room n i k (begun_at n i stand)
-      (shortest ready (guided_inner all room) h (form n) (form_fits n) call i k (ap (λ ts. i + length ts) (sym (form_whole n))) (subst (λ ts. Stands i ts) (sym (form_whole n)) stand) (halts_form n (slice_get all k) is))
+      (shortest ready (guided_inner all room) h (form n) (form_fits n) call i k (ap (λ ts. i + length ts) (sym (form_whole n)))
+      (subst (λ ts. Stands i ts) (sym (form_whole n)) stand) (halts_form n (slice_get all k) is))
 
   never : (n : Nested) → false ≡ true → ⊥
   never n e = cc
 
   pub room_begins : (room : ℕ) → Ready (λ n. true) (guided_inner all (suc (suc room)))
   room_begins room n so i stand is =
-      inner_begins flat (suc room) (λ m simple j there end. inner_begins (λ p. false) room (λ p none. absurd (never p none)) m (flat_calls m simple) j there end) n (form_calls n) i stand is
+      inner_begins flat (suc room) (λ m simple j there end. inner_begins (λ p. false) room (λ p none. absurd (never p none)) m (flat_calls m simple) j
+      there end) n (form_calls n) i stand is

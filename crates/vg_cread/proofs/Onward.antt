@@ -1,5 +1,6 @@
 -- Reading never goes back, and a form that has a token goes forward.
-use Rattle.std.proofs.Common.{◌≡◌, ◌≤◌, ◌+◌, ◌-◌, ℕ, zero, suc, Bool, true, false, cond, List, length, slice_get, Option, Some, None, Result, Ok, Err, refl, ap, subst, arith}
+use Rattle.std.proofs.Common.{◌≡◌, ◌≤◌, ◌+◌, ◌-◌, ℕ, zero, suc, Bool, true, false, cond, List, length, slice_get, Option, Some, None, Result, Ok, Err}
+use Rattle.std.proofs.Common.{refl, ap, subst, arith}
 use Rattle.std.specs.Prelude.{◌&&◌, ◌||◌}
 use Rattle.vg_ctok.specs.declared.kinds.Token.{Token}
 use Rattle.vg_cread.specs.Forms.{Form, Plain, Place, One, Unless, Both, Either, Chain, Inner, Made, Nested, Growth}
@@ -79,13 +80,15 @@ taken-onward None s a t e = absurd (cc)
 taken-onward (Some b) s a t e = let same = same_state e in subst (λ (u : State). s.at + 1 ≤ u.at) same (omega arith)
 
 module _ (toks : List Token) where
-  pub turn-onward : {A : Type 0} (more : Reads (ℕ → A → Growth A)) (b : Bool) → ((s : State) (g : ℕ → A → Growth A) (t : State) → more s ≡ Ok (g, t) → further b s.at ≤ t.at)
+  pub turn-onward : {A : Type 0} (more : Reads (ℕ → A → Growth A)) (b : Bool) → ((s : State) (g : ℕ → A → Growth A) (t : State) → more s ≡ Ok (g, t)
+      → further b s.at ≤ t.at)
       → (at : ℕ) (a : A) (s : State) (c : A) (t : State) → turn more at a s ≡ Ok (c, t) → further b s.at ≤ t.at
   turn-onward more b h at a s c t e =
       let parts = bound (more s) (λ q. Ok (grown (q.0 at a q.1.tree) q.1)) e in
       subst (λ (u : State). further b s.at ≤ u.at) (same_state parts.2) (h s parts.0.0 parts.0.1 parts.1)
 
-  turns-onward : {A : Type 0} (n : ℕ) (test : Token → Bool) (more : Reads (ℕ → A → Growth A)) → ((s : State) (g : ℕ → A → Growth A) (t : State) → more s ≡ Ok (g, t) → s.at ≤ t.at)
+  turns-onward : {A : Type 0} (n : ℕ) (test : Token → Bool) (more : Reads (ℕ → A → Growth A))
+      → ((s : State) (g : ℕ → A → Growth A) (t : State) → more s ≡ Ok (g, t) → s.at ≤ t.at)
       → (at : ℕ) (a : A) (s : State) (c : A) (t : State) → turns toks n test more at a s ≡ Ok (c, t) → s.at ≤ t.at
   turns-onward zero test more h at a s c t e = subst (λ (u : State). s.at ≤ u.at) (same_state e) (omega arith)
   turns-onward (suc n) test more h at a s c t e =
@@ -101,7 +104,8 @@ module _ (toks : List Token) where
   abbrev pub Gains : (Nested → Reads ℕ) → Type 0
   Gains inner = (n : Nested) (s : State) (a : ℕ) (t : State) → inner n s ≡ Ok (a, t) → s.at + 1 ≤ t.at
 
-  pub gains : (inner : Nested → Reads ℕ) → Gains inner → {A : Type 0} (f : Form A) (s : State) (a : A) (t : State) → read_with toks inner f s ≡ Ok (a, t) → further (eats f) s.at ≤ t.at
+  pub gains : (inner : Nested → Reads ℕ) → Gains inner → {A : Type 0} (f : Form A) (s : State) (a : A) (t : State)
+      → read_with toks inner f s ≡ Ok (a, t) → further (eats f) s.at ≤ t.at
   gains inner h (Plain b) s a t e = subst (λ (u : State). s.at ≤ u.at) (same_state e) (omega arith)
   gains inner h Place s a t e = subst (λ (u : State). s.at ≤ u.at) (same_state e) (omega arith)
   gains inner h (One test) s a t e = taken-onward (tested test (slice_get toks s.at)) s a t e
@@ -120,7 +124,8 @@ module _ (toks : List Token) where
   gains inner h (Chain test x more) s a t e =
       let one = bound (read_with toks inner x s) (λ p. turns toks (length toks - p.1.at) test (read_with toks inner more) (place_at toks s.at) p.0 p.1) e in
       let first = gains inner h x s one.0.0 one.0.1 one.1 in
-      let rest = turns-onward (length toks - one.0.1.at) test (read_with toks inner more) (λ u g v is. further-least (eats more) u.at v.at (gains inner h more u g v is)) (place_at toks s.at) one.0.0 one.0.1 a t one.2 in
+      let rest = turns-onward (length toks - one.0.1.at) test (read_with toks inner more) (λ u g v is. further-least (eats more) u.at v.at
+      (gains inner h more u g v is)) (place_at toks s.at) one.0.0 one.0.1 a t one.2 in
       further-more (eats x) s.at one.0.1.at t.at first rest
   gains inner h (Inner n) s a t e = h n s a t e
   gains inner h (Made f) s a t e =

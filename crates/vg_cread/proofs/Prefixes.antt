@@ -1,5 +1,6 @@
 -- What reading the first tokens of a list says of reading them all: it comes to their end, or it is the same.
-use Rattle.std.proofs.Common.{◌≡◌, ◌∙◌, ◌<◌, ◌≤◌, ◌+◌, ◌-◌, ◌⊎◌, inl, inr, ℕ, zero, suc, Bool, true, false, cond, List, [], ◌∷◌, ◌++◌, length, slice_get, Option, Result, Ok, Err, refl, sym, ap, subst, arith, length-append}
+use Rattle.std.proofs.Common.{◌≡◌, ◌∙◌, ◌<◌, ◌≤◌, ◌+◌, ◌-◌, ◌⊎◌, inl, inr, ℕ, zero, suc, Bool, true, false, cond, List, [], ◌∷◌, ◌++◌, length}
+use Rattle.std.proofs.Common.{slice_get, Option, Result, Ok, Err, refl, sym, ap, subst, arith, length-append}
 use Rattle.std.specs.Prelude.{◌&&◌}
 use Rattle.std.proofs.lemmas.Bool.{and_parts}
 use Rattle.std.proofs.lemmas.Option.{slice_get_cases}
@@ -55,7 +56,8 @@ module _ (front all : List Token) (rest : List Token) (parts : all ≡ front ++ 
   ended_cut : {A : Type 0} (at : ℕ) (one two : Result (A × State) Refusal) → at ≡ length front → Within front at one → Within all at two → Cut one two
   ended_cut at one two e h i = inl (at_end at one e h, past at two (omega (arith, e)) i)
 
-  cut_bind : {A B : Type 0} (at : ℕ) (one two : Result (A × State) Refusal) (k m : A × State → Result (B × State) Refusal) → Cut one two → Within front at one → Within all at two
+  cut_bind : {A B : Type 0} (at : ℕ) (one two : Result (A × State) Refusal) (k m : A × State → Result (B × State) Refusal) → Cut one two
+      → Within front at one → Within all at two
       → ((a : A) (t : State) → one ≡ Ok (a, t) → t.at ≤ length front → Cut (k (a, t)) (m (a, t)))
       → ((a : A) (t : State) → t.at ≤ length front → Within front t.at (k (a, t)))
       → ((a : A) (t : State) → t.at ≤ length all → Within all t.at (m (a, t)))
@@ -87,7 +89,8 @@ module _ (front all : List Token) (rest : List Token) (parts : all ≡ front ++ 
     | inr beyond ↦ inr (omega (arith, beyond.0, h))
   ]
 
-  turn_cut : {A : Type 0} (near far : Reads (ℕ → A → Growth A)) (at : ℕ) (a : A) (s : State) → Cut (near s) (far s) → Within front s.at (near s) → Within all s.at (far s) → Cut (turn near at a s) (turn far at a s)
+  turn_cut : {A : Type 0} (near far : Reads (ℕ → A → Growth A)) (at : ℕ) (a : A) (s : State) → Cut (near s) (far s) → Within front s.at (near s)
+      → Within all s.at (far s) → Cut (turn near at a s) (turn far at a s)
   turn_cut near far at a s cut h i =
       cut_bind s.at (near s) (far s) (λ q. Ok (grown (q.0 at a q.1.tree) q.1)) (λ q. Ok (grown (q.0 at a q.1.tree) q.1)) cut h i
       (λ g t is le. inr refl) (λ g t le. (omega arith, le)) (λ g t le. (omega arith, le))
@@ -95,13 +98,17 @@ module _ (front all : List Token) (rest : List Token) (parts : all ≡ front ++ 
   turns_cut : {A : Type 0} (n m : ℕ) (test : Token → Bool) (near far : Reads (ℕ → A → Growth A)) → ((s : State) → s.at < length front → Cut (near s) (far s))
       → ((s : State) → s.at ≤ length front → Within front s.at (near s)) → ((s : State) → s.at ≤ length all → Within all s.at (far s))
       → ((s : State) (g : ℕ → A → Growth A) (t : State) → near s ≡ Ok (g, t) → s.at + 1 ≤ t.at)
-      → (at : ℕ) (a : A) (s : State) → s.at ≤ length front → length front ≤ n + s.at → length all ≤ m + s.at → Cut (turns front n test near at a s) (turns all m test far at a s)
+      → (at : ℕ) (a : A) (s : State) → s.at ≤ length front → length front ≤ n + s.at → length all ≤ m + s.at
+      → Cut (turns front n test near at a s) (turns all m test far at a s)
   turns_cut zero m test near far cut h i on at a s le enough more =
-      ended_cut s.at _ _ (omega (arith, le, enough)) (within_turns front zero test near h at a s le) (within_turns all m test far i at a s (omega (arith, le, longer)))
+      ended_cut s.at _ _ (omega (arith, le, enough)) (within_turns front zero test near h at a s le)
+      (within_turns all m test far i at a s (omega (arith, le, longer)))
   turns_cut (suc n) zero test near far cut h i on at a s le enough more =
-      ended_cut s.at _ _ (omega (arith, le, more, longer)) (within_turns front (suc n) test near h at a s le) (within_turns all zero test far i at a s (omega (arith, le, longer)))
+      ended_cut s.at _ _ (omega (arith, le, more, longer)) (within_turns front (suc n) test near h at a s le)
+      (within_turns all zero test far i at a s (omega (arith, le, longer)))
   turns_cut (suc n) (suc m) test near far cut h i on at a s le enough more = elim (where_is s.at le) [
-    | inr here ↦ ended_cut s.at _ _ here (within_turns front (suc n) test near h at a s le) (within_turns all (suc m) test far i at a s (omega (arith, le, longer)))
+    | inr here ↦ ended_cut s.at _ _ here (within_turns front (suc n) test near h at a s le)
+        (within_turns all (suc m) test far i at a s (omega (arith, le, longer)))
     | inl inside ↦
         let far_le : s.at ≤ length all = omega (arith, le, longer) in
         cut_either (passes test (slice_get front s.at)) (passes test (slice_get all s.at)) _ _ _ _ (ap (passes test) (same_token s.at inside))
@@ -116,18 +123,21 @@ module _ (front all : List Token) (rest : List Token) (parts : all ≡ front ++ 
         (inr refl)
   ]
 
-  one_cut : {A : Type 0} (test : Token → Option A) (s : State) → s.at < length front → taken (tested test (slice_get all s.at)) s ≡ taken (tested test (slice_get front s.at)) s
+  one_cut : {A : Type 0} (test : Token → Option A) (s : State) → s.at < length front → taken (tested test (slice_get all s.at)) s ≡ taken
+      (tested test (slice_get front s.at)) s
   one_cut test s h = ap (λ (o : Option Token). taken (tested test o) s) (same_token s.at h)
 
   -- what holds inside the front holds at its end too
-  anywhere : {A : Type 0} (s : State) (one two : Result (A × State) Refusal) → s.at ≤ length front → (s.at < length front → Cut one two) → Within front s.at one → Within all s.at two → Cut one two
+  anywhere : {A : Type 0} (s : State) (one two : Result (A × State) Refusal) → s.at ≤ length front → (s.at < length front → Cut one two)
+      → Within front s.at one → Within all s.at two → Cut one two
   anywhere s one two le inside h i = elim (where_is s.at le) [
     | inl here ↦ inside here
     | inr there ↦ ended_cut s.at one two there h i
   ]
 
   pub cut : (near far : Nested → Reads ℕ) → ((n : Nested) (s : State) → s.at < length front → Cut (near n s) (far n s))
-      → ((n : Nested) (s : State) → s.at ≤ length front → Within front s.at (near n s)) → ((n : Nested) (s : State) → s.at ≤ length all → Within all s.at (far n s)) → Gains front near
+      → ((n : Nested) (s : State) → s.at ≤ length front → Within front s.at (near n s)) → ((n : Nested) (s : State) → s.at ≤ length all
+      → Within all s.at (far n s)) → Gains front near
       → {A : Type 0} (f : Form A) → tidy f ≡ true → (s : State) → s.at < length front → Cut (read_with front near f s) (read_with all far f s)
   cut near far both h i gain (Plain a) neat s le = inr refl
   cut near far both h i gain Place neat s le = inr (ap (λ (p : ℕ). ok_at p s) (same_place s.at le))
@@ -137,48 +147,60 @@ module _ (front all : List Token) (rest : List Token) (parts : all ≡ front ++ 
       let two = and_parts (tidy f) (tidy x) neat in
       let here : s.at ≤ length front = omega (arith, le) in
       let there : s.at ≤ length all = omega (arith, le, longer) in
-      cut_bind s.at (read_with front near f s) (read_with all far f s) (λ p. read_with front near x p.1 >>= λ q. Ok (p.0 q.0, q.1)) (λ p. read_with all far x p.1 >>= λ q. Ok (p.0 q.0, q.1))
+      cut_bind s.at (read_with front near f s) (read_with all far f s) (λ p. read_with front near x p.1 >>= λ q. Ok (p.0 q.0, q.1))
+      (λ p. read_with all far x p.1 >>= λ q. Ok (p.0 q.0, q.1))
       (cut near far both h i gain f two.0 s le) (within front near h f s here) (within all far i f s there)
       (λ g t is at.
       let at_all : t.at ≤ length all = omega (arith, at, longer) in
       cut_bind t.at (read_with front near x t) (read_with all far x t) (λ q. Ok (g q.0, q.1)) (λ q. Ok (g q.0, q.1))
-      (anywhere t (read_with front near x t) (read_with all far x t) at (λ inside. cut near far both h i gain x two.1 t inside) (within front near h x t at) (within all far i x t at_all))
+      (anywhere t (read_with front near x t) (read_with all far x t) at (λ inside. cut near far both h i gain x two.1 t inside)
+      (within front near h x t at) (within all far i x t at_all))
       (within front near h x t at) (within all far i x t at_all) (λ a u is le. inr refl) (λ a u le. (omega arith, le)) (λ a u le. (omega arith, le)))
       (λ g t at. within_bind front t.at (read_with front near x t) (λ q. Ok (g q.0, q.1)) (within front near h x t at) (λ a u le. (omega arith, le)))
       (λ g t at. within_bind all t.at (read_with all far x t) (λ q. Ok (g q.0, q.1)) (within all far i x t at) (λ a u le. (omega arith, le)))
   cut near far both h i gain (Either test x y) neat s le =
       let two = and_parts (tidy x) (tidy y) neat in
-      cut_either (passes test (slice_get front s.at)) (passes test (slice_get all s.at)) _ _ _ _ (ap (passes test) (same_token s.at le)) (cut near far both h i gain x two.0 s le) (cut near far both h i gain y two.1 s le)
+      cut_either (passes test (slice_get front s.at)) (passes test (slice_get all s.at)) _ _ _ _ (ap (passes test) (same_token s.at le))
+      (cut near far both h i gain x two.0 s le) (cut near far both h i gain y two.1 s le)
   cut near far both h i gain (Chain test x more) neat s le =
       let three = and_parts (tidy x && eats more) (tidy more) neat in
       let two = and_parts (tidy x) (eats more) three.0 in
       let here : s.at ≤ length front = omega (arith, le) in
       let there : s.at ≤ length all = omega (arith, le, longer) in
       cut_bind s.at (read_with front near x s) (read_with all far x s)
-      (λ p. turns front (length front - p.1.at) test (read_with front near more) (place_at front s.at) p.0 p.1) (λ p. turns all (length all - p.1.at) test (read_with all far more) (place_at all s.at) p.0 p.1)
+      (λ p. turns front (length front - p.1.at) test (read_with front near more) (place_at front s.at) p.0 p.1)
+      (λ p. turns all (length all - p.1.at) test (read_with all far more) (place_at all s.at) p.0 p.1)
       (cut near far both h i gain x two.0 s le) (within front near h x s here) (within all far i x s there)
       (λ a t is at.
-      subst (λ (p : ℕ). Cut (turns front (length front - t.at) test (read_with front near more) (place_at front s.at) a t) (turns all (length all - t.at) test (read_with all far more) p a t)) (sym (same_place s.at le))
-      (turns_cut (length front - t.at) (length all - t.at) test (read_with front near more) (read_with all far more) (λ u inside. cut near far both h i gain more three.1 u inside)
+      subst (λ (p : ℕ). Cut (turns front (length front - t.at) test (read_with front near more) (place_at front s.at) a t)
+      (turns all (length all - t.at) test (read_with all far more) p a t)) (sym (same_place s.at le))
+      (turns_cut (length front - t.at) (length all - t.at) test (read_with front near more) (read_with all far more)
+      (λ u inside. cut near far both h i gain more three.1 u inside)
       (λ u at. within front near h more u at) (λ u at. within all far i more u at)
-      (λ u g v is. subst (λ (c : Bool). further c u.at ≤ v.at) two.1 (gains front near gain more u g v is)) (place_at front s.at) a t at (omega arith) (omega arith)))
+      (λ u g v is. subst (λ (c : Bool). further c u.at ≤ v.at) two.1 (gains front near gain more u g v is)) (place_at front s.at) a t at (omega arith)
+      (omega arith)))
       (λ a t at. within_turns front (length front - t.at) test (read_with front near more) (λ u at. within front near h more u at) (place_at front s.at) a t at)
       (λ a t at. within_turns all (length all - t.at) test (read_with all far more) (λ u at. within all far i more u at) (place_at all s.at) a t at)
   cut near far both h i gain (Inner n) neat s le = both n s le
   cut near far both h i gain (Made f) neat s le =
       let here : s.at ≤ length front = omega (arith, le) in
       let there : s.at ≤ length all = omega (arith, le, longer) in
-      cut_bind s.at (read_with front near f s) (read_with all far f s) (λ p. Ok (grown (p.0 p.1.tree) p.1)) (λ p. Ok (grown (p.0 p.1.tree) p.1)) (cut near far both h i gain f neat s le)
+      cut_bind s.at (read_with front near f s) (read_with all far f s) (λ p. Ok (grown (p.0 p.1.tree) p.1)) (λ p. Ok (grown (p.0 p.1.tree) p.1))
+      (cut near far both h i gain f neat s le)
       (within front near h f s here) (within all far i f s there) (λ g t is at. inr refl) (λ g t at. (omega arith, at)) (λ g t at. (omega arith, at))
 
   inner_cut : (room : ℕ) (n : Nested) (s : State) → s.at < length front → Cut (read_inner front room n s) (read_inner all room n s)
   inner_cut zero n s le = inr (ap (λ b. cond b (Err (Deep s.at)) (Err (Wrong s.at))) (ap (passes (begins n)) (same_token s.at le)))
   inner_cut (suc room) n s le =
       cut_either (passes (begins n) (slice_get front s.at)) (passes (begins n) (slice_get all s.at)) _ _ _ _ (ap (passes (begins n)) (same_token s.at le))
-      (cut (read_inner front room) (read_inner all room) (λ m u inside. inner_cut room m u inside) (within_inner front room) (within_inner all room) (inner_gains front room) (form n) (form_tidy n) s le)
+      (cut (read_inner front room) (read_inner all room) (λ m u inside. inner_cut room m u inside) (within_inner front room) (within_inner all room)
+      (inner_gains front room) (form n) (form_tidy n) s le)
       (inr refl)
 
-  pub all_cut : {A : Type 0} (room : ℕ) (f : Form A) → tidy f ≡ true → (s : State) → s.at ≤ length front → Cut (read_with front (read_inner front room) f s) (read_with all (read_inner all room) f s)
+  pub all_cut : {A : Type 0} (room : ℕ) (f : Form A) → tidy f ≡ true → (s : State) → s.at ≤ length front
+      → Cut (read_with front (read_inner front room) f s) (read_with all (read_inner all room) f s)
   all_cut room f neat s le =
-      anywhere s _ _ le (λ inside. cut (read_inner front room) (read_inner all room) (inner_cut room) (within_inner front room) (within_inner all room) (inner_gains front room) f neat s inside)
-      (within front (read_inner front room) (within_inner front room) f s le) (within all (read_inner all room) (within_inner all room) f s (omega (arith, le, longer)))
+      anywhere s _ _ le (λ inside. cut (read_inner front room) (read_inner all room) (inner_cut room) (within_inner front room)
+      (within_inner all room) (inner_gains front room) f neat s inside)
+      (within front (read_inner front room) (within_inner front room) f s le) (within all (read_inner all room) (within_inner all room) f s
+      (omega (arith, le, longer)))

@@ -10,7 +10,8 @@ use Rattle.vg_cread.specs.Spelling.{Spelled, spelled_with, spelled_inner, start}
 use Rattle.vg_cread.specs.Guided.{guided_with, guided_inner, GuidedTurnsTo, comes_guided, opens_guided, OpensGuided}
 use Rattle.vg_cread.specs.Refusals.{TurnsTo, comes_with, opens_inner, Opens}
 use Rattle.vg_cread.proofs.Onward.{eats}
-use Rattle.vg_cread.proofs.Choices.{first, led, tells, follows, implied, and_both, not_of, or_left, or_right, After, after_at, some_passes, some_fails, any, either_tells, chain_tells, led_first, Leads, Leading, leads, leads_some, guide, plain}
+use Rattle.vg_cread.proofs.Choices.{first, led, tells, follows, implied, and_both, not_of, or_left, or_right, After, after_at, some_passes}
+use Rattle.vg_cread.proofs.Choices.{some_fails, any, either_tells, chain_tells, led_first, Leads, Leading, leads, leads_some, guide, plain}
 use Rattle.vg_cread.proofs.Telling.{form_tells, form_begins, unit_tells, inner_leads, inner_guided, inner_plain}
 
 passes_some : (test : Token → Bool) (o : Option Token) → passes test o ≡ true → (t : Token) × (o ≡ Some t) × (test t ≡ true)
@@ -27,15 +28,25 @@ module _ (toks : List Token) where
 
   first_both : {A B : Type 0} (f : Form (A → B)) (x : Form A) (s u : State) → Leads toks f s u → First x u → First (Both f x) s
   first_both f x s u (inr (t, found, is)) next = (t, found, or_left (first f t) (not (eats f) && first x t) is)
-  first_both f x s u (inl (here, none, bar)) (t, found, is) =
-      (t, ap (λ n. slice_get toks n) (sym here) ∙ found, or_right (first f t) (not (eats f) && first x t) (and_both (not (eats f)) (first x t) (not_of (eats f) none) is))
+  first_both f x s u (inl (here, none, bar)) (t, found, is) = (
+    t,
+    ap (λ n. slice_get toks n) (sym here) ∙ found,
+    or_right (first f t) (not (eats f) && first x t)
+        (and_both (not (eats f)) (first x t) (not_of (eats f) none) is),
+  )
 
-  first_chain : {A : Type 0} (test : Token → Bool) (x : Form A) (more : Form (ℕ → A → Growth A)) (s u : State) → Leads toks x s u → First more u → First (Chain test x more) s
+  first_chain : {A : Type 0} (test : Token → Bool) (x : Form A) (more : Form (ℕ → A → Growth A)) (s u : State) → Leads toks x s u → First more u
+      → First (Chain test x more) s
   first_chain test x more s u (inr (t, found, is)) next = (t, found, or_left (first x t) (not (eats x) && first more t) is)
-  first_chain test x more s u (inl (here, none, bar)) (t, found, is) =
-      (t, ap (λ n. slice_get toks n) (sym here) ∙ found, or_right (first x t) (not (eats x) && first more t) (and_both (not (eats x)) (first more t) (not_of (eats x) none) is))
+  first_chain test x more s u (inl (here, none, bar)) (t, found, is) = (
+    t,
+    ap (λ n. slice_get toks n) (sym here) ∙ found,
+    or_right (first x t) (not (eats x) && first more t)
+        (and_both (not (eats x)) (first more t) (not_of (eats x) none) is),
+  )
 
-  first_turns : {A : Type 0} (more : Form (ℕ → A → Growth A)) (says : Spelled (ℕ → A → Growth A)) (comes : State → Type 0) → ((s : State) (g : ℕ → A → Growth A) (u : State) → says s g u → Leads toks more s u)
+  first_turns : {A : Type 0} (more : Form (ℕ → A → Growth A)) (says : Spelled (ℕ → A → Growth A)) (comes : State → Type 0)
+      → ((s : State) (g : ℕ → A → Growth A) (u : State) → says s g u → Leads toks more s u)
       → ((s : State) → comes s → First more s) → (n at : ℕ) (a : A) (s : State) → TurnsTo toks n says comes at a s → First more s
   first_turns more says comes h k zero at a s is = k s is
   first_turns more says comes h k (suc n) at a s (g, u, one, rest) = elim (h s g u one) [
@@ -45,38 +56,53 @@ module _ (toks : List Token) where
         (later.0, ap (λ m. slice_get toks m) (sym stays.0) ∙ later.1, later.2)
   ]
 
-  comes_first : (says : Nested → Spelled ℕ) → Leading toks says → (opens : Nested → State → Type 0) → Begun opens → {A : Type 0} (f : Form A) (s : State) → comes_with toks says opens f s → First f s
+  comes_first : (says : Nested → Spelled ℕ) → Leading toks says → (opens : Nested → State → Type 0) → Begun opens
+      → {A : Type 0} (f : Form A) (s : State) → comes_with toks says opens f s → First f s
   comes_first says lead opens h (Plain a) s is = absurd is
   comes_first says lead opens h Place s is = absurd is
   comes_first says lead opens h (One test) s is = absurd is
   comes_first says lead opens h (Unless test) s is = absurd is
-  comes_first says lead opens h (Both f x) s (inl is) = let next = comes_first says lead opens h f s is in (next.0, next.1, or_left (first f next.0) (not (eats f) && first x next.0) next.2)
-  comes_first says lead opens h (Both f x) s (inr (g, u, one, is)) = first_both f x s u (leads toks says lead f s g u one) (comes_first says lead opens h x u is)
-  comes_first says lead opens h (Either test x y) s (inl is) = let next = comes_first says lead opens h x s is in (next.0, next.1, or_left (first x next.0) (first y next.0) next.2)
-  comes_first says lead opens h (Either test x y) s (inr is) = let next = comes_first says lead opens h y s is in (next.0, next.1, or_right (first x next.0) (first y next.0) next.2)
-  comes_first says lead opens h (Chain test x more) s (inl is) = let next = comes_first says lead opens h x s is in (next.0, next.1, or_left (first x next.0) (not (eats x) && first more next.0) next.2)
+  comes_first says lead opens h (Both f x) s (inl is) = let next = comes_first says lead opens h f s is in
+      (next.0, next.1, or_left (first f next.0) (not (eats f) && first x next.0) next.2)
+  comes_first says lead opens h (Both f x) s (inr (g, u, one, is)) = first_both f x s u (leads toks says lead f s g u one)
+      (comes_first says lead opens h x u is)
+  comes_first says lead opens h (Either test x y) s (inl is) = let next = comes_first says lead opens h x s is in
+      (next.0, next.1, or_left (first x next.0) (first y next.0) next.2)
+  comes_first says lead opens h (Either test x y) s (inr is) = let next = comes_first says lead opens h y s is in
+      (next.0, next.1, or_right (first x next.0) (first y next.0) next.2)
+  comes_first says lead opens h (Chain test x more) s (inl is) = let next = comes_first says lead opens h x s is in
+      (next.0, next.1, or_left (first x next.0) (not (eats x) && first more next.0) next.2)
   comes_first says lead opens h (Chain test x more) s (inr (a, u, n, one, rest)) =
       first_chain test x more s u (leads toks says lead x s a u one)
-      (first_turns more (spelled_with toks says more) (comes_with toks says opens more) (λ p g q is. leads toks says lead more p g q is) (λ p is. comes_first says lead opens h more p is) n (place_at toks s.at) a u rest)
+      (first_turns more (spelled_with toks says more) (comes_with toks says opens more) (λ p g q is. leads toks says lead more p g q is)
+      (λ p is. comes_first says lead opens h more p is) n (place_at toks s.at) a u rest)
   comes_first says lead opens h (Inner n) s is = h n s is
   comes_first says lead opens h (Made f) s is = comes_first says lead opens h f s is
 
-  module _ (says goes : Nested → Spelled ℕ) (lead : Leading toks says) (inner : (n : Nested) (s : State) (a : ℕ) (u : State) → says n s a u → After (follows n) (slice_get toks u.at) → goes n s a u)
+  module _ (says goes : Nested → Spelled ℕ) (lead : Leading toks says) (inner : (n : Nested) (s : State) (a : ℕ) (u : State) → says n s a u
+      → After (follows n) (slice_get toks u.at) → goes n s a u)
       (opens gone : Nested → State → Type 0) (begun : Begun opens) (enter : (n : Nested) (s : State) → opens n s → gone n s) where
-    turns_to : {A : Type 0} (test : Token → Bool) (x : Form A) (more : Form (ℕ → A → Growth A)) (these : Token → Bool) → ((t : Token) → tells (Chain test x more) (these t) t ≡ true)
+    turns_to : {A : Type 0} (test : Token → Bool) (x : Form A) (more : Form (ℕ → A → Growth A)) (these : Token → Bool)
+        → ((t : Token) → tells (Chain test x more) (these t) t ≡ true)
         → ((s : State) → comes_with toks says opens more s → comes_guided toks goes (λ u. ⊥) gone more s)
         → (n at : ℕ) (a : A) (s : State) → TurnsTo toks n (spelled_with toks says more) (comes_with toks says opens more) at a s
-        → GuidedTurnsTo toks n test (guided_with toks goes more) (comes_guided toks goes (λ u. ⊥) gone more) at a s × After (λ t. first more t || these t) (slice_get toks s.at)
+        → GuidedTurnsTo toks n test (guided_with toks goes more) (comes_guided toks goes (λ u. ⊥) gone more) at a s
+        × After (λ t. first more t || these t) (slice_get toks s.at)
     turns_to test x more these h each zero at a s is =
         let next = comes_first says lead opens begun more s is in (
-          (some_passes test (slice_get toks s.at) next.0 next.1 (implied (first more next.0) (test next.0) (chain_tells test x more (these next.0) next.0 (h next.0)).3 next.2), each s is),
+          (
+            some_passes test (slice_get toks s.at) next.0 next.1 (implied (first more next.0) (test next.0)
+                (chain_tells test x more (these next.0) next.0 (h next.0)).3 next.2),
+            each s is,
+          ),
           after_at (λ t. first more t || these t) (slice_get toks s.at) next.0 next.1 (or_left (first more next.0) (these next.0) next.2),
         )
     turns_to test x more these h each (suc n) at a s (g, v, one, rest) =
         let later = turns_to test x more these h each n at (g at a v.tree).0 (record v { tree = (g at a v.tree).1 }) rest in
         let next = leads_some toks more s v (chain_tells test x more (these any) any (h any)).2 (leads toks says lead more s g v one) in (
           (
-            some_passes test (slice_get toks s.at) next.0 next.1 (implied (first more next.0) (test next.0) (chain_tells test x more (these next.0) next.0 (h next.0)).3 next.2),
+            some_passes test (slice_get toks s.at) next.0 next.1 (implied (first more next.0) (test next.0)
+                (chain_tells test x more (these next.0) next.0 (h next.0)).3 next.2),
             g,
             v,
             guide toks says goes lead inner more (λ t. first more t || these t) (λ t. (chain_tells test x more (these t) t (h t)).1) s g v one later.1,
@@ -86,12 +112,14 @@ module _ (toks : List Token) where
         )
 
     -- where the grammar comes, the tests lead
-    come : {A : Type 0} (f : Form A) (these : Token → Bool) → ((t : Token) → tells f (these t) t ≡ true) → (s : State) → comes_with toks says opens f s → comes_guided toks goes (λ u. ⊥) gone f s
+    come : {A : Type 0} (f : Form A) (these : Token → Bool) → ((t : Token) → tells f (these t) t ≡ true) → (s : State)
+        → comes_with toks says opens f s → comes_guided toks goes (λ u. ⊥) gone f s
     come (Plain a) these h s is = absurd is
     come Place these h s is = absurd is
     come (One test) these h s is = absurd is
     come (Unless test) these h s is = absurd is
-    come (Both f x) these h s (inl is) = inl (come f (λ t. led x (these t) t) (λ t. (and_parts (tells f (led x (these t) t) t) (tells x (these t) t) (h t)).0) s is)
+    come (Both f x) these h s (inl is) =
+        inl (come f (λ t. led x (these t) t) (λ t. (and_parts (tells f (led x (these t) t) t) (tells x (these t) t) (h t)).0) s is)
     come (Both f x) these h s (inr (g, u, one, is)) =
         let next = comes_first says lead opens begun x u is in
         inr (
@@ -104,29 +132,46 @@ module _ (toks : List Token) where
     come (Either test x y) these h s (inl is) =
         let next = comes_first says lead opens begun x s is in
         inl (
-          some_passes test (slice_get toks s.at) next.0 next.1 (implied (first x next.0) (test next.0) (either_tells test x y (these next.0) next.0 (h next.0)).3 next.2),
+          some_passes test (slice_get toks s.at) next.0 next.1 (implied (first x next.0) (test next.0)
+              (either_tells test x y (these next.0) next.0 (h next.0)).3 next.2),
           come x these (λ t. (either_tells test x y (these t) t (h t)).0) s is,
         )
     come (Either test x y) these h s (inr is) =
         let next = comes_first says lead opens begun y s is in
         inr (
-          some_fails test (slice_get toks s.at) next.0 next.1 (implied (led y (these next.0) next.0) (not (test next.0)) (either_tells test x y (these next.0) next.0 (h next.0)).4 (led_first y (these next.0) next.0 next.2)),
+          some_fails test (slice_get toks s.at) next.0 next.1 (implied (led y (these next.0) next.0) (not (test next.0))
+              (either_tells test x y (these next.0) next.0 (h next.0)).4 (led_first y (these next.0) next.0 next.2)),
           come y these (λ t. (either_tells test x y (these t) t (h t)).1) s is,
         )
     come (Chain test x more) these h s (inl is) = inl (come x (λ t. first more t || these t) (λ t. (chain_tells test x more (these t) t (h t)).0) s is)
     come (Chain test x more) these h s (inr (a, u, n, one, rest)) =
-        let turns = turns_to test x more these h (λ p is. come more (λ t. first more t || these t) (λ t. (chain_tells test x more (these t) t (h t)).1) p is) n (place_at toks s.at) a u rest in
-        inr (a, u, n, guide toks says goes lead inner x (λ t. first more t || these t) (λ t. (chain_tells test x more (these t) t (h t)).0) s a u one turns.1, turns.0)
+        let turns = turns_to test x more these h (λ p is. come more (λ t. first more t || these t)
+        (λ t. (chain_tells test x more (these t) t (h t)).1) p is) n (place_at toks s.at) a u rest in
+        inr (
+          a,
+          u,
+          n,
+          guide toks says goes lead inner x (λ t. first more t || these t) (λ t. (chain_tells test x more (these t) t (h t)).0) s a u one
+              turns.1,
+          turns.0,
+        )
     come (Inner n) these h s is = enter n s is
     come (Made f) these h s is = come f these h s is
 
   -- and where the tests lead, the grammar comes
-  turns_came : {A : Type 0} (n : ℕ) (test : Token → Bool) (goes says : Spelled (ℕ → A → Growth A)) (one two : State → Type 0) → ((s : State) (g : ℕ → A → Growth A) (u : State) → goes s g u → says s g u) → ((s : State) → one s → two s)
+  turns_came : {A : Type 0} (n : ℕ) (test : Token → Bool) (goes says : Spelled (ℕ → A → Growth A)) (one two : State → Type 0)
+      → ((s : State) (g : ℕ → A → Growth A) (u : State) → goes s g u → says s g u) → ((s : State) → one s → two s)
       → (at : ℕ) (a : A) (s : State) → GuidedTurnsTo toks n test goes one at a s → TurnsTo toks n says two at a s
   turns_came zero test goes says one two h k at a s (so, is) = k s is
-  turns_came (suc n) test goes says one two h k at a s (so, g, u, first_one, rest) = (g, u, h s g u first_one, turns_came n test goes says one two h k at (g at a u.tree).0 (record u { tree = (g at a u.tree).1 }) rest)
+  turns_came (suc n) test goes says one two h k at a s (so, g, u, first_one, rest) = (
+    g,
+    u,
+    h s g u first_one,
+    turns_came n test goes says one two h k at (g at a u.tree).0 (record u { tree = (g at a u.tree).1 }) rest,
+  )
 
-  came : (goes says : Nested → Spelled ℕ) → ((n : Nested) (s : State) (a : ℕ) (u : State) → goes n s a u → says n s a u) → (gone opens : Nested → State → Type 0) → ((n : Nested) (s : State) → gone n s → opens n s)
+  came : (goes says : Nested → Spelled ℕ) → ((n : Nested) (s : State) (a : ℕ) (u : State) → goes n s a u → says n s a u)
+      → (gone opens : Nested → State → Type 0) → ((n : Nested) (s : State) → gone n s → opens n s)
       → {A : Type 0} (f : Form A) (s : State) → comes_guided toks goes (λ u. ⊥) gone f s → comes_with toks says opens f s
   came goes says h gone opens k (Plain a) s is = absurd is
   came goes says h gone opens k Place s is = absurd is
@@ -143,7 +188,8 @@ module _ (toks : List Token) where
         u,
         n,
         plain toks goes says h x s a u one,
-        turns_came n test (guided_with toks goes more) (spelled_with toks says more) (comes_guided toks goes (λ u. ⊥) gone more) (comes_with toks says opens more) (λ p g q is. plain toks goes says h more p g q is)
+        turns_came n test (guided_with toks goes more) (spelled_with toks says more) (comes_guided toks goes (λ u. ⊥) gone more)
+            (comes_with toks says opens more) (λ p g q is. plain toks goes says h more p g q is)
             (λ p is. came goes says h gone opens k more p is) (place_at toks s.at) a u rest,
       )
   came goes says h gone opens k (Inner n) s is = k n s is
@@ -161,16 +207,20 @@ module _ (toks : List Token) where
     inner_opens (suc room) n s is =
         let next = inner_begun (suc room) n s is in (
           some_passes (begins n) (slice_get toks s.at) next.0 next.1 next.2,
-          come (spelled_inner toks room) (guided_inner toks room) (inner_leads toks room) (inner_guided toks room) (opens_inner toks i room) (opens_guided toks i room) (inner_begun room) (inner_opens room) (form n) (follows n) (form_tells n) s is,
+          come (spelled_inner toks room) (guided_inner toks room) (inner_leads toks room) (inner_guided toks room) (opens_inner toks i room)
+              (opens_guided toks i room) (inner_begun room) (inner_opens room) (form n) (follows n) (form_tells n) s is,
         )
 
     pub opens_so : (room : ℕ) → Opens room toks i → OpensGuided room toks i
     opens_so room is =
-        come (spelled_inner toks room) (guided_inner toks room) (inner_leads toks room) (inner_guided toks room) (opens_inner toks i room) (opens_guided toks i room) (inner_begun room) (inner_opens room) unit (λ t. false) unit_tells start is
+        come (spelled_inner toks room) (guided_inner toks room) (inner_leads toks room) (inner_guided toks room) (opens_inner toks i room)
+        (opens_guided toks i room) (inner_begun room) (inner_opens room) unit (λ t. false) unit_tells start is
 
     inner_opened : (room : ℕ) (n : Nested) (s : State) → opens_guided toks i room n s → opens_inner toks i room n s
     inner_opened zero n s is = is
-    inner_opened (suc room) n s (so, is) = came (guided_inner toks room) (spelled_inner toks room) (inner_plain toks room) (opens_guided toks i room) (opens_inner toks i room) (inner_opened room) (form n) s is
+    inner_opened (suc room) n s (so, is) = came (guided_inner toks room) (spelled_inner toks room) (inner_plain toks room) (opens_guided toks i room)
+        (opens_inner toks i room) (inner_opened room) (form n) s is
 
     pub opened_so : (room : ℕ) → OpensGuided room toks i → Opens room toks i
-    opened_so room is = came (guided_inner toks room) (spelled_inner toks room) (inner_plain toks room) (opens_guided toks i room) (opens_inner toks i room) (inner_opened room) unit start is
+    opened_so room is = came (guided_inner toks room) (spelled_inner toks room) (inner_plain toks room) (opens_guided toks i room)
+        (opens_inner toks i room) (inner_opened room) unit start is

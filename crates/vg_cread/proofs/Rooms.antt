@@ -2,7 +2,8 @@
 use Rattle.std.proofs.Common.{◌≡◌, ◌≤◌, ◌+◌, ℕ, zero, suc, true, false, List, slice_get, Err, refl, subst, arith}
 use Rattle.vg_ctok.specs.declared.kinds.Token.{Token}
 use Rattle.vg_cread.specs.Forms.{Nested, Expression, Operand, Statement, Body}
-use Rattle.vg_cread.specs.Grammar.{begins, form, sign, word, name, expression, binary, unary, postfix, primary, opened, statement, block, if_statement, for_statement, return_statement, simple_statement}
+use Rattle.vg_cread.specs.Grammar.{begins, form, sign, word, name, expression, binary, unary, postfix, primary, opened, statement, block}
+use Rattle.vg_cread.specs.Grammar.{if_statement, for_statement, return_statement, simple_statement}
 use Rattle.vg_cread.specs.Places.{State, passes}
 use Rattle.vg_cread.specs.Reading.{Wrong, Deep, read, read_inner}
 use Rattle.vg_cread.proofs.Onward.{eats, further, either_side, gains, Gains}
@@ -16,7 +17,8 @@ module _ (toks : List Token) where
   inner_deep zero n s so none = rw so refl
   inner_deep (suc room) n s so none = absurd (omega (arith, none))
 
-  pub inner_read : (room left : ℕ) (n : Nested) (s : State) → passes (begins n) (slice_get toks s.at) ≡ true → left + 1 ≡ room → read_inner toks room n s ≡ read toks left (form n) s
+  pub inner_read : (room left : ℕ) (n : Nested) (s : State) → passes (begins n) (slice_get toks s.at) ≡ true → left + 1 ≡ room
+      → read_inner toks room n s ≡ read toks left (form n) s
   inner_read zero left n s so one = absurd (omega (arith, one))
   inner_read (suc room) left n s so one = let same : left ≡ room = omega (arith, one) in rw (so, same) refl
 

@@ -10,7 +10,10 @@ use Rattle.vg_ctok.specs.declared.kinds.Keyword.{Keyword}
 use Rattle.vg_ctok.specs.declared.kinds.Keyword.TheVariants as words
 use Rattle.vg_ctok.specs.declared.kinds.Sign.{Sign}
 use Rattle.vg_cread.specs.Forms.{Nested, Expression, Operand, Statement, Body}
-use Rattle.vg_cread.specs.Grammar.{form, sign, word, name, flagged, base, int_type, star, handle, array_length, initial, expression, operator, binary, link, unary, postfix, suffix, primary, arguments, no_postfix, opened, statement, block, pieces, piece, declaration, if_statement, otherwise, for_statement, step, return_statement, simple_statement, assignment, action, field, fields, attribute, packing, struct_item, extern_item, param, params, answer, function, item, items, unit}
+use Rattle.vg_cread.specs.Grammar.{form, sign, word, name, flagged, base, int_type, star, handle, array_length, initial, expression, operator, binary}
+use Rattle.vg_cread.specs.Grammar.{link, unary, postfix, suffix, primary, arguments, no_postfix, opened, statement, block, pieces, piece, declaration}
+use Rattle.vg_cread.specs.Grammar.{if_statement, otherwise, for_statement, step, return_statement, simple_statement, assignment, action, field}
+use Rattle.vg_cread.specs.Grammar.{fields, attribute, packing, struct_item, extern_item, param, params, answer, function, item, items, unit}
 use Rattle.vg_cread.specs.Spelling.{start}
 use Rattle.vg_cread.specs.Guided.{guided_inner, Guides}
 use Rattle.vg_cread.proofs.Waiting.{Waiting, waiting_none, used_once}
@@ -73,7 +76,8 @@ primary_names l P h = (
   (
     (λ at x n is. (itself, takes_node at _ [] (λ items. (omega arith, refl)), h)),
     λ at x n is. (
-      (λ y b so. arguments_names [] _ (λ parts z c closed. (itself, takes_list at (nodes.Call n) parts [] parts (λ ps. (refl, refl)) (sym (append-nil parts)), h))),
+      (λ y b so. arguments_names [] _
+          (λ parts z c closed. (itself, takes_list at (nodes.Call n) parts [] parts (λ ps. (refl, refl)) (sym (append-nil parts)), h))),
       (itself, takes_node at (nodes.Variable n) [] (λ items. (omega arith, refl)), h),
     ),
   ),
@@ -123,7 +127,8 @@ expression_names l P h = λ at. binary_names 10 [] _ (λ c. (
 -- statements
 declaration_names : Names declaration itself
 unfolding declaration name sign
-declaration_names l P h = λ at. base_passes [] _ (λ b. star_passes [] _ (λ pointer x n is. array_length_names [] _ (λ size. initial_names (option_to_list size) _ (λ value y u so.
+declaration_names l P h = λ at. base_passes [] _
+    (λ b. star_passes [] _ (λ pointer x n is. array_length_names [] _ (λ size. initial_names (option_to_list size) _ (λ value y u so.
     (itself, takes_node at (nodes.Declare b pointer n size value) (option_to_list size ++ option_to_list value) (λ items. (omega arith, refl)), h)))))
 
 piece_names : Names piece itself
@@ -136,7 +141,13 @@ pieces_names l P h = (all_of, refl, piece_names [] _ (λ k at parts tree row w. 
 
 block_names : Names block itself
 unfolding block sign
-block_names l P h = λ at x a is. pieces_names [] _ (λ parts end y b so. (itself, takes_list at (λ statements. nodes.Block statements end) parts [] parts (λ ps. (refl, refl)) (sym (append-nil parts)), h))
+block_names l P h = λ at x a is. pieces_names [] _
+    (λ parts end y b so. (
+      itself,
+      takes_list at (λ statements. nodes.Block statements end) parts [] parts (λ ps. (refl, refl))
+          (sym (append-nil parts)),
+      h,
+    ))
 
 if_names : Names if_statement itself
 unfolding if_statement otherwise word sign
@@ -152,8 +163,12 @@ step_names l P h = ((λ x a is. subst (λ m. P None m) (append-nil l) (h None)),
 for_names : Names for_statement itself
 unfolding for_statement word sign name
 for_names l P h = λ at x₁ a₁ i₁ x₂ a₂ i₂. int_type_passes [] _ (λ of x₃ counter i₃ x₄ a₄ i₄ from x₅ a₅ i₅ x₆ tested i₆ x₇ a₇ i₇ bound x₈ a₈ i₈ x₉ stepped i₉.
-    step_names (from ∷ bound ∷ []) _ (λ by x a is body.
-    (itself, takes_node at (nodes.For of counter from tested bound stepped by body) (from ∷ bound ∷ (option_to_list by ++ body ∷ [])) (λ items. (omega arith, refl)), h)))
+    step_names (from ∷ bound ∷ []) _ (λ by x a is body. (
+      itself,
+      takes_node at (nodes.For of counter from tested bound stepped by body) (from ∷ bound ∷ (option_to_list by ++ body ∷ []))
+          (λ items. (omega arith, refl)),
+      h,
+    )))
 
 return_names : Names return_statement itself
 unfolding return_statement word sign
@@ -194,7 +209,9 @@ form_names Body = block_names
 -- items
 field_names : Names field itself
 unfolding field name sign
-field_names l P h = λ at. base_passes [] _ (λ b x n is. array_length_names [] _ (λ size y u so. (itself, takes_node at (nodes.Field b n size) (option_to_list size) (λ items. (omega arith, refl)), h)))
+field_names l P h = λ at. base_passes [] _
+    (λ b x n is. array_length_names [] _
+    (λ size y u so. (itself, takes_node at (nodes.Field b n size) (option_to_list size) (λ items. (omega arith, refl)), h)))
 
 fields_names : Names fields all_of
 unfolding fields
@@ -218,7 +235,8 @@ extern_names l P h = λ at x₁ a₁ i₁. (
 
 param_names : Names param itself
 unfolding param name
-param_names l P h = λ at. base_passes [] _ (λ b. star_passes [] _ (λ pointer x n is. (itself, takes_node at (nodes.Param b pointer n) [] (λ items. (omega arith, refl)), h)))
+param_names l P h = λ at. base_passes [] _
+    (λ b. star_passes [] _ (λ pointer x n is. (itself, takes_node at (nodes.Param b pointer n) [] (λ items. (omega arith, refl)), h)))
 
 params_names : Names params all_of
 unfolding params word sign
@@ -237,7 +255,8 @@ flagged_passes w l P h = ((λ x a is. h true), h false)
 
 function_names : Names function itself
 unfolding function name sign
-function_names l P h = λ at. flagged_passes words.Static [] _ (λ is_static. flagged_passes words.Inline [] _ (λ is_inline. answer_passes [] _ (λ of x n is y a so. params_names [] _ (λ parts z b closed body.
+function_names l P h = λ at. flagged_passes words.Static [] _ (λ is_static. flagged_passes words.Inline [] _
+    (λ is_inline. answer_passes [] _ (λ of x n is y a so. params_names [] _ (λ parts z b closed body.
     (itself, takes_list at (λ ps. nodes.Function is_static is_inline of n ps body) parts (body ∷ []) (parts ++ body ∷ []) (λ ps. (refl, refl)) refl, h)))))
 
 item_names : Names item itself
@@ -256,12 +275,14 @@ unit_names l P h = λ at. items_names [] _ (λ parts. (itself, takes_list at nod
 inner_keeps : (toks : List Token) (room : ℕ) → Keeps toks (guided_inner toks room)
 inner_keeps toks zero n s a t row is w = absurd is
 inner_keeps toks (suc room) n s a t row (so, is) w =
-    let left = leaves toks (guided_inner toks room) (inner_keeps toks room) (form n) [] (λ k m. m ≡ k ∷ []) (form_names n [] _ (λ k. refl)) s a t row is (subst (λ m. Waiting s.tree m) (sym (append-nil row)) w) in
+    let left = leaves toks (guided_inner toks room) (inner_keeps toks room) (form n) [] (λ k m. m ≡ k ∷ []) (form_names n [] _ (λ k. refl)) s a t row
+    is (subst (λ m. Waiting s.tree m) (sym (append-nil row)) w) in
     subst (λ m. Waiting t.tree (row ++ m)) left.2 left.1
 
 root_waits : (toks : List Token) (room : ℕ) (tree : Syntax) → Guides room toks tree → (root : ℕ) × Waiting tree (root ∷ [])
 root_waits toks room tree (root, is) =
-    let left = leaves toks (guided_inner toks room) (inner_keeps toks room) unit [] (λ k m. m ≡ k ∷ []) (unit_names [] _ (λ k. refl)) start root (record { at = length toks; tree = tree }) [] is waiting_none in
+    let left = leaves toks (guided_inner toks room) (inner_keeps toks room) unit [] (λ k m. m ≡ k ∷ []) (unit_names [] _ (λ k. refl)) start root
+    (record { at = length toks; tree = tree }) [] is waiting_none in
     (root, subst (λ m. Waiting tree m) left.2 left.1)
 
 pub parts_first : (toks : List Token) (room : ℕ) (tree : Syntax) → Guides room toks tree → IsOrdered tree

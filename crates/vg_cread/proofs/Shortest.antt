@@ -9,8 +9,12 @@ use Rattle.vg_ctok.specs.declared.kinds.TokenKind.TheVariants as kinds
 use Rattle.vg_ctok.specs.declared.kinds.Keyword.TheVariants as words
 use Rattle.vg_ctok.specs.declared.kinds.Sign.TheVariants as signs
 use Rattle.vg_ctok.specs.declared.kinds.NumberType.TheVariants as numbers
-use Rattle.vg_cread.specs.Forms.{Form, Plain, Place, One, Unless, Both, Either, Chain, Inner, Made, Nested, Expression, Operand, Statement, Body, Growth, node, ◌⊛◌, ◌⊳◌, optional}
-use Rattle.vg_cread.specs.Grammar.{begins, form, sign, word, name, flagged, base, int_type, star, handle, array_length, initial, expression, operator, binary, link, unary, postfix, suffix, primary, arguments, opened, no_postfix, statement, block, pieces, piece, declaration, if_statement, otherwise, for_statement, step, return_statement, simple_statement, assignment, action, field, fields, attribute, packing, struct_item, extern_item, param, params, answer, function, item, items, unit}
+use Rattle.vg_cread.specs.Forms.{Form, Plain, Place, One, Unless, Both, Either, Chain, Inner, Made, Nested, Expression, Operand, Statement, Body}
+use Rattle.vg_cread.specs.Forms.{Growth, node, ◌⊛◌, ◌⊳◌, optional}
+use Rattle.vg_cread.specs.Grammar.{begins, form, sign, word, name, flagged, base, int_type, star, handle, array_length, initial, expression, operator}
+use Rattle.vg_cread.specs.Grammar.{binary, link, unary, postfix, suffix, primary, arguments, opened, no_postfix, statement, block, pieces, piece}
+use Rattle.vg_cread.specs.Grammar.{declaration, if_statement, otherwise, for_statement, step, return_statement, simple_statement, assignment, action}
+use Rattle.vg_cread.specs.Grammar.{field, fields, attribute, packing, struct_item, extern_item, param, params, answer, function, item, items, unit}
 use Rattle.vg_cread.specs.Kinds.{is_sign, is_binary, binary_of}
 use Rattle.vg_cread.proofs.Onward.{eats}
 use Rattle.vg_cread.proofs.Rooms.{binary_eats}
@@ -21,15 +25,23 @@ token kind = record { kind = kind; from = 0; to = 0 }
 -- a token of each kind that the grammar needs somewhere
 abbrev pub samples : List Token
 samples =
-    token kinds.Name ∷ token (kinds.Number (record { value = 0; of = numbers.Int })) ∷ token (kinds.Keyword words.Int) ∷ token (kinds.Keyword words.Unsigned) ∷ token (kinds.Keyword words.Struct)
-    ∷ token (kinds.Keyword words.Sizeof) ∷ token (kinds.Keyword words.If) ∷ token (kinds.Keyword words.Else) ∷ token (kinds.Keyword words.For) ∷ token (kinds.Keyword words.Return)
-    ∷ token (kinds.Keyword words.Attribute) ∷ token (kinds.Keyword words.Extern) ∷ token (kinds.Keyword words.Const) ∷ token (kinds.Keyword words.Void) ∷ token (kinds.Keyword words.Static)
+    token kinds.Name ∷ token (kinds.Number (record { value = 0; of = numbers.Int })) ∷ token (kinds.Keyword words.Int)
+    ∷ token (kinds.Keyword words.Unsigned) ∷ token (kinds.Keyword words.Struct)
+    ∷ token (kinds.Keyword words.Sizeof) ∷ token (kinds.Keyword words.If) ∷ token (kinds.Keyword words.Else) ∷ token (kinds.Keyword words.For)
+    ∷ token (kinds.Keyword words.Return)
+    ∷ token (kinds.Keyword words.Attribute) ∷ token (kinds.Keyword words.Extern) ∷ token (kinds.Keyword words.Const)
+    ∷ token (kinds.Keyword words.Void) ∷ token (kinds.Keyword words.Static)
     ∷ token (kinds.Keyword words.Inline) ∷ token (kinds.Keyword words.Map)
-    ∷ token (kinds.Sign signs.RightParen) ∷ token (kinds.Sign signs.RightBracket) ∷ token (kinds.Sign signs.RightBrace) ∷ token (kinds.Sign signs.Semicolon) ∷ token (kinds.Sign signs.Colon)
-    ∷ token (kinds.Sign signs.LeftParen) ∷ token (kinds.Sign signs.LeftBracket) ∷ token (kinds.Sign signs.LeftBrace) ∷ token (kinds.Sign signs.Comma) ∷ token (kinds.Sign signs.Dot)
-    ∷ token (kinds.Sign signs.Arrow) ∷ token (kinds.Sign signs.Question) ∷ token (kinds.Sign signs.Assign) ∷ token (kinds.Sign signs.PlusAssign) ∷ token (kinds.Sign signs.PlusPlus)
-    ∷ token (kinds.Sign signs.MinusMinus) ∷ token (kinds.Sign signs.Star) ∷ token (kinds.Sign signs.Plus) ∷ token (kinds.Sign signs.ShiftLeft) ∷ token (kinds.Sign signs.Less)
-    ∷ token (kinds.Sign signs.EqualEqual) ∷ token (kinds.Sign signs.And) ∷ token (kinds.Sign signs.Xor) ∷ token (kinds.Sign signs.Or) ∷ token (kinds.Sign signs.AndAnd) ∷ token (kinds.Sign signs.OrOr) ∷ []
+    ∷ token (kinds.Sign signs.RightParen) ∷ token (kinds.Sign signs.RightBracket) ∷ token (kinds.Sign signs.RightBrace)
+    ∷ token (kinds.Sign signs.Semicolon) ∷ token (kinds.Sign signs.Colon)
+    ∷ token (kinds.Sign signs.LeftParen) ∷ token (kinds.Sign signs.LeftBracket) ∷ token (kinds.Sign signs.LeftBrace) ∷ token (kinds.Sign signs.Comma)
+    ∷ token (kinds.Sign signs.Dot)
+    ∷ token (kinds.Sign signs.Arrow) ∷ token (kinds.Sign signs.Question) ∷ token (kinds.Sign signs.Assign) ∷ token (kinds.Sign signs.PlusAssign)
+    ∷ token (kinds.Sign signs.PlusPlus)
+    ∷ token (kinds.Sign signs.MinusMinus) ∷ token (kinds.Sign signs.Star) ∷ token (kinds.Sign signs.Plus) ∷ token (kinds.Sign signs.ShiftLeft)
+    ∷ token (kinds.Sign signs.Less)
+    ∷ token (kinds.Sign signs.EqualEqual) ∷ token (kinds.Sign signs.And) ∷ token (kinds.Sign signs.Xor) ∷ token (kinds.Sign signs.Or)
+    ∷ token (kinds.Sign signs.AndAnd) ∷ token (kinds.Sign signs.OrOr) ∷ []
 
 abbrev pub first_passing : (Token → Bool) → List Token → List Token
 first_passing test [] = []
@@ -113,8 +125,10 @@ calls ready (Inner n) = ready n
 calls ready (Made f) = calls ready f
 
 -- the grammar's forms
-pub closing : (P : Token → Type 0) → ((from to : ℕ) → P (record { kind = kinds.Sign signs.RightParen; from = from; to = to })) → ((from to : ℕ) → P (record { kind = kinds.Sign signs.RightBracket; from = from; to = to }))
-    → ((from to : ℕ) → P (record { kind = kinds.Sign signs.RightBrace; from = from; to = to })) → ((from to : ℕ) → P (record { kind = kinds.Sign signs.Semicolon; from = from; to = to }))
+pub closing : (P : Token → Type 0) → ((from to : ℕ) → P (record { kind = kinds.Sign signs.RightParen; from = from; to = to }))
+    → ((from to : ℕ) → P (record { kind = kinds.Sign signs.RightBracket; from = from; to = to }))
+    → ((from to : ℕ) → P (record { kind = kinds.Sign signs.RightBrace; from = from; to = to }))
+    → ((from to : ℕ) → P (record { kind = kinds.Sign signs.Semicolon; from = from; to = to }))
     → ((from to : ℕ) → P (record { kind = kinds.Sign signs.Colon; from = from; to = to })) → (t : Token) → closes t ≡ true → P t
 closing P a b c d e t is = by t.kind t.from t.to is
   where
@@ -135,7 +149,8 @@ unfolding link operator
 link_stops rank t is = rw (is, binary_eats rank) refl
 
 not_binary : (rank : ℕ) (t : Token) → closes t ≡ true → not (is_binary rank t) ≡ true
-not_binary rank t is = closing (λ t. not (is_binary rank t) ≡ true) (λ from to. refl) (λ from to. refl) (λ from to. refl) (λ from to. refl) (λ from to. refl) t is
+not_binary rank t is = closing (λ t. not (is_binary rank t) ≡ true) (λ from to. refl) (λ from to. refl) (λ from to. refl) (λ from to. refl)
+    (λ from to. refl) t is
 
 binary_stops : (rank : ℕ) (t : Token) → closes t ≡ true → stops (binary rank) t ≡ true
 unfolding binary
@@ -145,10 +160,13 @@ binary_stops (suc rank) t is = rw (binary_stops rank t is, link_stops rank t (bi
 abbrev pair : ℕ → ℕ → ℕ × ℕ
 pair a b = (a, b)
 
-choice_stops : (t : Token) → closes t ≡ true → stops (optional (is_sign signs.Question) (Plain pair ⊛ (sign signs.Question ⊳ Inner Expression) ⊛ (sign signs.Colon ⊳ Inner Expression))) t ≡ true
+choice_stops : (t : Token) → closes t ≡ true
+    → stops (optional (is_sign signs.Question) (Plain pair ⊛ (sign signs.Question ⊳ Inner Expression) ⊛ (sign signs.Colon ⊳ Inner Expression))) t ≡
+    true
 unfolding sign
 choice_stops t is =
-    closing (λ t. stops (optional (is_sign signs.Question) (Plain pair ⊛ (sign signs.Question ⊳ Inner Expression) ⊛ (sign signs.Colon ⊳ Inner Expression))) t ≡ true) (λ from to. refl) (λ from to. refl)
+    closing (λ t. stops (optional (is_sign signs.Question) (Plain pair ⊛ (sign signs.Question ⊳ Inner Expression) ⊛
+    (sign signs.Colon ⊳ Inner Expression))) t ≡ true) (λ from to. refl) (λ from to. refl)
     (λ from to. refl) (λ from to. refl) (λ from to. refl) t is
 
 expression_stops : (t : Token) → closes t ≡ true → stops expression t ≡ true
@@ -156,7 +174,8 @@ unfolding expression sign
 expression_stops t is = rw (choice_stops t is, binary_eats 10, binary_stops 10 t is) refl
 
 statement_stops : (t : Token) → closes t ≡ true → stops statement t ≡ true
-unfolding statement block pieces piece declaration if_statement otherwise for_statement step return_statement simple_statement assignment action array_length initial sign word name base int_type star
+unfolding statement block pieces piece declaration if_statement otherwise for_statement step return_statement simple_statement assignment action
+    array_length initial sign word name base int_type star
 statement_stops t is = closing (λ t. stops statement t ≡ true) (λ from to. refl) (λ from to. refl) (λ from to. refl) (λ from to. refl) (λ from to. refl) t is
 
 block_stops : (t : Token) → closes t ≡ true → stops block t ≡ true
@@ -186,7 +205,8 @@ leads_any : {A : Type 0} (a : A) (p : Token → Bool) (xs : List Token) → lead
 leads_any a p [] is = absurd (cc)
 leads_any a p (x ∷ xs) is = refl
 
-pair_fits : {A B C : Type 0} (p : A → B → C) (test : Token → Option A) (right : Form B) → fits (One test) ≡ true → fits right ≡ true → eats right ≡ true → whole right ≡ token kinds.Name ∷ [] → fits (Plain p ⊛ One test ⊛ right) ≡ true
+pair_fits : {A B C : Type 0} (p : A → B → C) (test : Token → Option A) (right : Form B) → fits (One test) ≡ true → fits right ≡ true
+    → eats right ≡ true → whole right ≡ token kinds.Name ∷ [] → fits (Plain p ⊛ One test ⊛ right) ≡ true
 pair_fits p test right one two eat is = rw (leads_any p (λ t. is_some (test t)) (sample test) one, one, two, eat, is) refl
 
 abbrev joined : BinaryOp → ℕ → ℕ → ℕ → Growth ℕ
@@ -210,14 +230,17 @@ ranks_fit rank is one = rank_fits rank one is
 
 binary_fits : fits (binary 10) ≡ true
 unfolding operator binary
-binary_fits = ranks_fit 9 (ranks_fit 8 (ranks_fit 7 (ranks_fit 6 (ranks_fit 5 (ranks_fit 4 (ranks_fit 3 (ranks_fit 2 (ranks_fit 1 (ranks_fit 0 unary_fits refl) refl) refl) refl) refl) refl) refl) refl) refl) refl
+binary_fits = ranks_fit 9 (ranks_fit 8
+    (ranks_fit 7 (ranks_fit 6 (ranks_fit 5 (ranks_fit 4 (ranks_fit 3 (ranks_fit 2 (ranks_fit 1 (ranks_fit 0 unary_fits refl) refl) refl) refl) refl)
+    refl) refl) refl) refl) refl
 
 expression_fits : fits expression ≡ true
 unfolding expression sign
 expression_fits = rw (binary_fits, binary_eats 10, binary_whole 10) refl
 
 statement_fits : fits statement ≡ true
-unfolding statement block pieces piece declaration if_statement otherwise for_statement step return_statement simple_statement assignment action array_length initial sign word name base int_type star
+unfolding statement block pieces piece declaration if_statement otherwise for_statement step return_statement simple_statement assignment action
+    array_length initial sign word name base int_type star
 statement_fits = refl
 
 block_fits : fits block ≡ true
@@ -231,7 +254,8 @@ form_fits Statement = statement_fits
 form_fits Body = block_fits
 
 pub unit_fits : fits unit ≡ true
-unfolding unit items item struct_item extern_item function fields field attribute packing param params answer flagged handle array_length sign word name base int_type star
+unfolding unit items item struct_item extern_item function fields field attribute packing param params answer flagged handle array_length sign word
+    name base int_type star
 unit_fits = refl
 
 pub unit_whole : whole unit ≡ []

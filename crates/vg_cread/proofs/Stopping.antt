@@ -1,5 +1,6 @@
 -- Where reading stops, the grammar needs a token or opens a construct that has no room.
-use Rattle.std.proofs.Common.{◌≡◌, ◌∙◌, ◌≤◌, ◌+◌, ◌-◌, ◌⊎◌, inl, inr, ℕ, zero, suc, Bool, true, List, length, slice_get, Option, Some, None, Result, Ok, Err, refl, sym, ap, subst, arith}
+use Rattle.std.proofs.Common.{◌≡◌, ◌∙◌, ◌≤◌, ◌+◌, ◌-◌, ◌⊎◌, inl, inr, ℕ, zero, suc, Bool, true, List, length, slice_get, Option, Some, None, Result}
+use Rattle.std.proofs.Common.{Ok, Err, refl, sym, ap, subst, arith}
 use Rattle.std.specs.Prelude.{◌&&◌}
 use Rattle.std.proofs.lemmas.Bool.{and_parts}
 use Rattle.vg_ctok.specs.declared.kinds.Token.{Token}
@@ -17,7 +18,8 @@ use Rattle.vg_cread.proofs.Units.{form_tidy, unit_tidy, inner_sound, inner_compl
 use Rattle.vg_cread.proofs.Chains.{some_next}
 
 -- which part of a reading stops
-bound_stops : {A B : Type 0} (r : Result (A × State) Refusal) (k : A × State → Result (B × State) Refusal) (e : Refusal) → (r >>= k) ≡ Err e → (r ≡ Err e) ⊎ ((p : A × State) × (r ≡ Ok p) × (k p ≡ Err e))
+bound_stops : {A B : Type 0} (r : Result (A × State) Refusal) (k : A × State → Result (B × State) Refusal) (e : Refusal) → (r >>= k) ≡ Err e
+    → (r ≡ Err e) ⊎ ((p : A × State) × (r ≡ Ok p) × (k p ≡ Err e))
 bound_stops (Ok p) k e is = inr (p, refl, is)
 bound_stops (Err f) k e is = inl (cc)
 
@@ -46,7 +48,8 @@ taken_stops None s e is = (sym (same_refusal (Wrong s.at) e (taken None s) refl 
 taken_stops (Some a) s e is = absurd (cc)
 
 module _ (toks : List Token) where
-  turns_stop : {A : Type 0} (left : ℕ) (test : Token → Bool) (more : Reads (ℕ → A → Growth A)) (says : Spelled (ℕ → A → Growth A)) (stops : State → Type 0) (e : Refusal)
+  turns_stop : {A : Type 0} (left : ℕ) (test : Token → Bool) (more : Reads (ℕ → A → Growth A)) (says : Spelled (ℕ → A → Growth A))
+      (stops : State → Type 0) (e : Refusal)
       → ((s : State) (g : ℕ → A → Growth A) (t : State) → more s ≡ Ok (g, t) → says s g t) → ((s : State) → more s ≡ Err e → stops s)
       → (at : ℕ) (a : A) (s : State) → turns toks left test more at a s ≡ Err e → (n : ℕ) × GuidedTurnsTo toks n test says stops at a s
   turns_stop zero test more says stops e h k at a s is = absurd (cc)
@@ -70,21 +73,29 @@ module _ (toks : List Token) where
       ])
       (λ unless is. absurd (cc is)) is
 
-  stops_with : (inner : Nested → Reads ℕ) (says : Nested → Spelled ℕ) (lacks : State → Type 0) (deeper : Nested → State → Type 0) (e : Refusal) → Gains toks inner
+  stops_with : (inner : Nested → Reads ℕ) (says : Nested → Spelled ℕ) (lacks : State → Type 0) (deeper : Nested → State → Type 0) (e : Refusal)
+      → Gains toks inner
       → ((n : Nested) (s : State) (a : ℕ) (t : State) → inner n s ≡ Ok (a, t) → says n s a t)
       → ((s : State) → e ≡ Wrong s.at → lacks s) → ((n : Nested) (s : State) → inner n s ≡ Err e → deeper n s)
       → {A : Type 0} (f : Form A) → tidy f ≡ true → (s : State) → read_with toks inner f s ≡ Err e → comes_guided toks says lacks deeper f s
   stops_with inner says lacks deeper e gain ok one more (Plain a) neat s is = absurd (cc)
   stops_with inner says lacks deeper e gain ok one more Place neat s is = absurd (cc)
-  stops_with inner says lacks deeper e gain ok one more (One test) neat s is = let stop = taken_stops (tested test (slice_get toks s.at)) s e is in (one s stop.0, stop.1)
+  stops_with inner says lacks deeper e gain ok one more (One test) neat s is = let stop = taken_stops (tested test (slice_get toks s.at)) s e is in
+      (one s stop.0, stop.1)
   stops_with inner says lacks deeper e gain ok one more (Unless test) neat s is =
-      either_side (passes test (slice_get toks s.at)) (λ so is. (one s (sym (same_refusal (Wrong s.at) e (err_at (Wrong s.at)) refl is)), so)) (λ unless is. absurd (cc)) is
+      either_side (passes test (slice_get toks s.at)) (λ so is. (one s (sym (same_refusal (Wrong s.at) e (err_at (Wrong s.at)) refl is)), so))
+      (λ unless is. absurd (cc)) is
   stops_with inner says lacks deeper e gain ok one more (Both f x) neat s is =
       let parts = and_parts (tidy f) (tidy x) neat in
       elim (bound_stops (read_with toks inner f s) (λ p. read_with toks inner x p.1 >>= λ q. Ok (p.0 q.0, q.1)) e is) [
         | inl first ↦ inl (stops_with inner says lacks deeper e gain ok one more f parts.0 s first)
         | inr later ↦ elim (bound_stops (read_with toks inner x later.0.1) (λ q. Ok (later.0.0 q.0, q.1)) e later.2) [
-          | inl second ↦ inr (later.0.0, later.0.1, sound toks inner says gain ok f parts.0 s later.0.0 later.0.1 later.1, stops_with inner says lacks deeper e gain ok one more x parts.1 later.0.1 second)
+          | inl second ↦ inr (
+            later.0.0,
+            later.0.1,
+            sound toks inner says gain ok f parts.0 s later.0.0 later.0.1 later.1,
+            stops_with inner says lacks deeper e gain ok one more x parts.1 later.0.1 second,
+          )
           | inr done ↦ absurd (cc done.2)
         ]
       ]
@@ -95,18 +106,22 @@ module _ (toks : List Token) where
   stops_with inner says lacks deeper e gain ok one more (Chain test x rest) neat s is =
       let all = and_parts (tidy x && eats rest) (tidy rest) neat in
       let front = and_parts (tidy x) (eats rest) all.0 in
-      elim (bound_stops (read_with toks inner x s) (λ p. turns toks (length toks - p.1.at) test (read_with toks inner rest) (place_at toks s.at) p.0 p.1) e is) [
+      elim (bound_stops (read_with toks inner x s) (λ p. turns toks (length toks - p.1.at) test (read_with toks inner rest) (place_at toks s.at) p.0
+      p.1) e is) [
         | inl first ↦ inl (stops_with inner says lacks deeper e gain ok one more x front.0 s first)
         | inr later ↦
-            let turn_at = turns_stop (length toks - later.0.1.at) test (read_with toks inner rest) (guided_with toks says rest) (comes_guided toks says lacks deeper rest) e
-            (λ v g w h. sound toks inner says gain ok rest all.1 v g w h) (λ v h. stops_with inner says lacks deeper e gain ok one more rest all.1 v h) (place_at toks s.at) later.0.0 later.0.1 later.2 in
+            let turn_at = turns_stop (length toks - later.0.1.at) test (read_with toks inner rest) (guided_with toks says rest)
+            (comes_guided toks says lacks deeper rest) e
+            (λ v g w h. sound toks inner says gain ok rest all.1 v g w h) (λ v h. stops_with inner says lacks deeper e gain ok one more rest all.1 v
+            h) (place_at toks s.at) later.0.0 later.0.1 later.2 in
             inr (later.0.0, later.0.1, turn_at.0, sound toks inner says gain ok x front.0 s later.0.0 later.0.1 later.1, turn_at.1)
       ]
   stops_with inner says lacks deeper e gain ok one more (Inner n) neat s is = more n s is
-  stops_with inner says lacks deeper e gain ok one more (Made f) neat s is = elim (bound_stops (read_with toks inner f s) (λ p. Ok (grown (p.0 p.1.tree) p.1)) e is) [
-    | inl first ↦ stops_with inner says lacks deeper e gain ok one more f neat s first
-    | inr done ↦ absurd (cc done.2)
-  ]
+  stops_with inner says lacks deeper e gain ok one more (Made f) neat s is =
+      elim (bound_stops (read_with toks inner f s) (λ p. Ok (grown (p.0 p.1.tree) p.1)) e is) [
+        | inl first ↦ stops_with inner says lacks deeper e gain ok one more f neat s first
+        | inr done ↦ absurd (cc done.2)
+      ]
 
   lacks_at : (i : ℕ) (s : State) → Wrong i ≡ Wrong s.at → s.at ≡ i
   lacks_at i s e = sym (wrong_place e)
@@ -120,7 +135,8 @@ module _ (toks : List Token) where
       either_side (passes (begins n) (slice_get toks s.at))
       (λ so is. inr (
         so,
-        stops_with (read_inner toks room) (guided_inner toks room) (λ u. u.at ≡ i) (lacks_guided toks i room) (Wrong i) (inner_gains toks room) (inner_sound toks room) (lacks_at i)
+        stops_with (read_inner toks room) (guided_inner toks room) (λ u. u.at ≡ i) (lacks_guided toks i room) (Wrong i) (inner_gains toks room)
+            (inner_sound toks room) (lacks_at i)
             (λ m u h. inner_lacks room i m u h) (form n) (form_tidy n) s is,
       ))
       (λ unless is. inl (cc is, unless)) is
@@ -131,21 +147,25 @@ module _ (toks : List Token) where
       either_side (passes (begins n) (slice_get toks s.at))
       (λ so is. (
         so,
-        stops_with (read_inner toks room) (guided_inner toks room) (λ u. ⊥) (opens_guided toks i room) (Deep i) (inner_gains toks room) (inner_sound toks room) (never_wrong i)
+        stops_with (read_inner toks room) (guided_inner toks room) (λ u. ⊥) (opens_guided toks i room) (Deep i) (inner_gains toks room)
+            (inner_sound toks room) (never_wrong i)
             (λ m u h. inner_opens room i m u h) (form n) (form_tidy n) s is,
       ))
       (λ unless is. absurd (cc is)) is
 
   pub unit_lacks : (room i : ℕ) → read toks room unit start ≡ Err (Wrong i) → LacksGuided room toks i
   unit_lacks room i is =
-      stops_with (read_inner toks room) (guided_inner toks room) (λ u. u.at ≡ i) (lacks_guided toks i room) (Wrong i) (inner_gains toks room) (inner_sound toks room) (lacks_at i) (inner_lacks room i) unit unit_tidy start is
+      stops_with (read_inner toks room) (guided_inner toks room) (λ u. u.at ≡ i) (lacks_guided toks i room) (Wrong i) (inner_gains toks room)
+      (inner_sound toks room) (lacks_at i) (inner_lacks room i) unit unit_tidy start is
 
   pub unit_opens : (room i : ℕ) → read toks room unit start ≡ Err (Deep i) → OpensGuided room toks i
   unit_opens room i is =
-      stops_with (read_inner toks room) (guided_inner toks room) (λ u. ⊥) (opens_guided toks i room) (Deep i) (inner_gains toks room) (inner_sound toks room) (never_wrong i) (inner_opens room i) unit unit_tidy start is
+      stops_with (read_inner toks room) (guided_inner toks room) (λ u. ⊥) (opens_guided toks i room) (Deep i) (inner_gains toks room)
+      (inner_sound toks room) (never_wrong i) (inner_opens room i) unit unit_tidy start is
 
   -- and where the grammar comes to such a place, reading stops there
-  turns_back : {A : Type 0} (n left : ℕ) (test : Token → Bool) (more : Reads (ℕ → A → Growth A)) (says : Spelled (ℕ → A → Growth A)) (stops : State → Type 0) (e : Refusal)
+  turns_back : {A : Type 0} (n left : ℕ) (test : Token → Bool) (more : Reads (ℕ → A → Growth A)) (says : Spelled (ℕ → A → Growth A))
+      (stops : State → Type 0) (e : Refusal)
       → ((s : State) (g : ℕ → A → Growth A) (t : State) → says s g t → more s ≡ Ok (g, t)) → ((s : State) → stops s → more s ≡ Err e)
       → ((s : State) (g : ℕ → A → Growth A) (t : State) → more s ≡ Ok (g, t) → s.at + 1 ≤ t.at)
       → (at : ℕ) (a : A) (s : State) → length toks ≤ left + s.at → GuidedTurnsTo toks n test says stops at a s → turns toks left test more at a s ≡ Err e
@@ -155,19 +175,24 @@ module _ (toks : List Token) where
   turns_back (suc n) (suc left) test more says stops e h k on at a s enough (so, g, u, first, rest) =
       let one = h s g u first in
       let onward = on s g u one in
-      let later = turns_back n left test more says stops e h k on at (g at a u.tree).0 (record u { tree = (g at a u.tree).1 }) (omega (arith, enough, onward)) rest in
+      let later = turns_back n left test more says stops e h k on at (g at a u.tree).0 (record u { tree = (g at a u.tree).1 })
+      (omega (arith, enough, onward)) rest in
       rw (so, one) later
 
-  one_back : {A : Type 0} (test : Token → Option A) (s : State) (e : Refusal) → e ≡ Wrong s.at → tested test (slice_get toks s.at) ≡ None → taken (tested test (slice_get toks s.at)) s ≡ Err e
+  one_back : {A : Type 0} (test : Token → Option A) (s : State) (e : Refusal) → e ≡ Wrong s.at → tested test (slice_get toks s.at) ≡ None
+      → taken (tested test (slice_get toks s.at)) s ≡ Err e
   one_back test s e is none = ap (λ o. taken o s) none ∙ ap (λ f. Err f) (sym is)
 
-  first_back : {A B : Type 0} (f : Reads (A → B)) (x : Reads A) (s : State) (e : Refusal) → f s ≡ Err e → (f s >>= λ p. x p.1 >>= λ q. ok_at (p.0 q.0) q.1) ≡ Err e
+  first_back : {A B : Type 0} (f : Reads (A → B)) (x : Reads A) (s : State) (e : Refusal) → f s ≡ Err e
+      → (f s >>= λ p. x p.1 >>= λ q. ok_at (p.0 q.0) q.1) ≡ Err e
   first_back f x s e is = rw is refl
 
-  second_back : {A B : Type 0} (f : Reads (A → B)) (x : Reads A) (s u : State) (g : A → B) (e : Refusal) → f s ≡ Ok (g, u) → x u ≡ Err e → (f s >>= λ p. x p.1 >>= λ q. ok_at (p.0 q.0) q.1) ≡ Err e
+  second_back : {A B : Type 0} (f : Reads (A → B)) (x : Reads A) (s u : State) (g : A → B) (e : Refusal) → f s ≡ Ok (g, u) → x u ≡ Err e
+      → (f s >>= λ p. x p.1 >>= λ q. ok_at (p.0 q.0) q.1) ≡ Err e
   second_back f x s u g e one two = rw (one, two) refl
 
-  comes_back : (inner : Nested → Reads ℕ) (says : Nested → Spelled ℕ) (lacks : State → Type 0) (deeper : Nested → State → Type 0) (e : Refusal) → Gains toks inner
+  comes_back : (inner : Nested → Reads ℕ) (says : Nested → Spelled ℕ) (lacks : State → Type 0) (deeper : Nested → State → Type 0) (e : Refusal)
+      → Gains toks inner
       → ((n : Nested) (s : State) (a : ℕ) (t : State) → says n s a t → inner n s ≡ Ok (a, t))
       → ((s : State) → lacks s → e ≡ Wrong s.at) → ((n : Nested) (s : State) → deeper n s → inner n s ≡ Err e)
       → {A : Type 0} (f : Form A) → tidy f ≡ true → (s : State) → comes_guided toks says lacks deeper f s → read_with toks inner f s ≡ Err e
@@ -176,12 +201,16 @@ module _ (toks : List Token) where
   comes_back inner says lacks deeper e gain ok one more (One test) neat s (here, none) = one_back test s e (one s here) none
   comes_back inner says lacks deeper e gain ok one more (Unless test) neat s (here, so) = rw so (ap (λ f. Err f) (sym (one s here)))
   comes_back inner says lacks deeper e gain ok one more (Both f x) neat s (inl first) =
-      first_back (read_with toks inner f) (read_with toks inner x) s e (comes_back inner says lacks deeper e gain ok one more f (and_parts (tidy f) (tidy x) neat).0 s first)
+      first_back (read_with toks inner f) (read_with toks inner x) s e (comes_back inner says lacks deeper e gain ok one more f
+      (and_parts (tidy f) (tidy x) neat).0 s first)
   comes_back inner says lacks deeper e gain ok one more (Both f x) neat s (inr (g, u, first, second)) =
       let parts = and_parts (tidy f) (tidy x) neat in
-      second_back (read_with toks inner f) (read_with toks inner x) s u g e (complete toks inner says gain ok f parts.0 s g u first) (comes_back inner says lacks deeper e gain ok one more x parts.1 u second)
-  comes_back inner says lacks deeper e gain ok one more (Either test x y) neat s (inl (so, is)) = rw so (comes_back inner says lacks deeper e gain ok one more x (and_parts (tidy x) (tidy y) neat).0 s is)
-  comes_back inner says lacks deeper e gain ok one more (Either test x y) neat s (inr (unless, is)) = rw unless (comes_back inner says lacks deeper e gain ok one more y (and_parts (tidy x) (tidy y) neat).1 s is)
+      second_back (read_with toks inner f) (read_with toks inner x) s u g e (complete toks inner says gain ok f parts.0 s g u first)
+      (comes_back inner says lacks deeper e gain ok one more x parts.1 u second)
+  comes_back inner says lacks deeper e gain ok one more (Either test x y) neat s (inl (so, is)) =
+      rw so (comes_back inner says lacks deeper e gain ok one more x (and_parts (tidy x) (tidy y) neat).0 s is)
+  comes_back inner says lacks deeper e gain ok one more (Either test x y) neat s (inr (unless, is)) =
+      rw unless (comes_back inner says lacks deeper e gain ok one more y (and_parts (tidy x) (tidy y) neat).1 s is)
   comes_back inner says lacks deeper e gain ok one more (Chain test x rest) neat s (inl first) =
       let all = and_parts (tidy x && eats rest) (tidy rest) neat in
       let front = and_parts (tidy x) (eats rest) all.0 in
@@ -203,16 +232,20 @@ module _ (toks : List Token) where
   lacks_back zero i n s (here, unless) = rw unless (ap (λ j. Err (Wrong j)) here)
   lacks_back (suc room) i n s (inl (here, unless)) = rw unless (ap (λ j. Err (Wrong j)) here)
   lacks_back (suc room) i n s (inr (so, is)) =
-      rw so (comes_back (read_inner toks room) (guided_inner toks room) (λ u. u.at ≡ i) (lacks_guided toks i room) (Wrong i) (inner_gains toks room) (inner_complete toks room) (back_at i) (λ m u h. lacks_back room i m u h) (form n) (form_tidy n) s is)
+      rw so (comes_back (read_inner toks room) (guided_inner toks room) (λ u. u.at ≡ i) (lacks_guided toks i room) (Wrong i) (inner_gains toks room)
+      (inner_complete toks room) (back_at i) (λ m u h. lacks_back room i m u h) (form n) (form_tidy n) s is)
 
   opens_back : (room i : ℕ) (n : Nested) (s : State) → opens_guided toks i room n s → read_inner toks room n s ≡ Err (Deep i)
   opens_back zero i n s (here, so) = rw so (ap (λ j. Err (Deep j)) here)
   opens_back (suc room) i n s (so, is) =
-      rw so (comes_back (read_inner toks room) (guided_inner toks room) (λ u. ⊥) (opens_guided toks i room) (Deep i) (inner_gains toks room) (inner_complete toks room) (λ u none. absurd none) (λ m u h. opens_back room i m u h) (form n) (form_tidy n) s is)
+      rw so (comes_back (read_inner toks room) (guided_inner toks room) (λ u. ⊥) (opens_guided toks i room) (Deep i) (inner_gains toks room)
+      (inner_complete toks room) (λ u none. absurd none) (λ m u h. opens_back room i m u h) (form n) (form_tidy n) s is)
 
   pub unit_lacked : (room i : ℕ) → LacksGuided room toks i → read toks room unit start ≡ Err (Wrong i)
-  unit_lacked room i is = comes_back (read_inner toks room) (guided_inner toks room) (λ u. u.at ≡ i) (lacks_guided toks i room) (Wrong i) (inner_gains toks room) (inner_complete toks room) (back_at i) (lacks_back room i) unit unit_tidy start is
+  unit_lacked room i is = comes_back (read_inner toks room) (guided_inner toks room) (λ u. u.at ≡ i) (lacks_guided toks i room) (Wrong i)
+      (inner_gains toks room) (inner_complete toks room) (back_at i) (lacks_back room i) unit unit_tidy start is
 
   pub unit_opened : (room i : ℕ) → OpensGuided room toks i → read toks room unit start ≡ Err (Deep i)
   unit_opened room i is =
-      comes_back (read_inner toks room) (guided_inner toks room) (λ u. ⊥) (opens_guided toks i room) (Deep i) (inner_gains toks room) (inner_complete toks room) (λ u none. absurd none) (opens_back room i) unit unit_tidy start is
+      comes_back (read_inner toks room) (guided_inner toks room) (λ u. ⊥) (opens_guided toks i room) (Deep i) (inner_gains toks room)
+      (inner_complete toks room) (λ u none. absurd none) (opens_back room i) unit unit_tidy start is

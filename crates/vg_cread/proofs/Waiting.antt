@@ -1,5 +1,6 @@
 -- A tree that grows: its nodes stand behind their parts, and those that are no parts yet wait in a row.
-use Rattle.std.proofs.Common.{◌≡◌, ◌∙◌, ◌<◌, ◌≤◌, ◌+◌, ◌-◌, ◌⊎◌, inl, inr, ℕ, zero, suc, cond, List, [], ◌∷◌, ◌++◌, length, get_or, take, drop, slice_get, Some, refl, sym, ap, subst, arith, length-append}
+use Rattle.std.proofs.Common.{◌≡◌, ◌∙◌, ◌<◌, ◌≤◌, ◌+◌, ◌-◌, ◌⊎◌, inl, inr, ℕ, zero, suc, cond, List, [], ◌∷◌, ◌++◌, length, get_or, take, drop}
+use Rattle.std.proofs.Common.{slice_get, Some, refl, sym, ap, subst, arith, length-append}
 use Rattle.std.specs.Prelude.{flat_map, count_by, All, AllPairs, ◌==◌, nat_lt}
 use Rattle.std.proofs.lemmas.Grind.{common_steps}
 use Rattle.std.proofs.lemmas.List.{append-nil, get_or-append-add, take-append-le, drop-append-le, drop_at, take_all, length_push}
@@ -38,7 +39,8 @@ All-front P xs ys h = λ k d less. subst P (front_get xs ys k d less) (h k d (om
 pairs-back : (R : ℕ → ℕ → Type 0) (xs ys : List ℕ) → AllPairs R (xs ++ ys) → AllPairs R ys
 pairs-back R xs ys h = λ i j d one two.
     subst (λ a. R a (get_or ys j d)) (get_or-append-add xs ys i d)
-    (subst (λ b. R (get_or (xs ++ ys) (length xs + i) d) b) (get_or-append-add xs ys j d) (h (length xs + i) (length xs + j) d (omega (arith, one)) (omega (arith, two, length-append xs ys))))
+    (subst (λ b. R (get_or (xs ++ ys) (length xs + i) d) b) (get_or-append-add xs ys j d) (h (length xs + i) (length xs + j) d (omega (arith, one))
+    (omega (arith, two, length-append xs ys))))
 
 pairs-front : (R : ℕ → ℕ → Type 0) (xs ys : List ℕ) → AllPairs R (xs ++ ys) → AllPairs R xs
 pairs-front R xs ys h = λ i j d one two.
@@ -67,9 +69,11 @@ get_pushed (z ∷ xs) x y (suc i) is = elim (get_pushed xs x y i is) [
 -- more items
 listed_more : (items more : List ℕ) (parts : Parts) → parts.from + parts.count ≤ length items → listed (items ++ more) parts ≡ listed items parts
 listed_more items more parts within =
-    ap (take parts.count) (drop-append-le parts.from items more (omega (arith, within))) ∙ take-append-le parts.count (drop parts.from items) more (grind (arith, common_steps, within))
+    ap (take parts.count) (drop-append-le parts.from items more (omega (arith, within))) ∙ take-append-le parts.count (drop parts.from items) more
+    (grind (arith, common_steps, within))
 
-parts_more : (items more : List ℕ) (kind : Kind) → (list_of kind).from + (list_of kind).count ≤ length items → parts_of (items ++ more) kind ≡ parts_of items kind
+parts_more : (items more : List ℕ) (kind : Kind) → (list_of kind).from + (list_of kind).count ≤ length items
+    → parts_of (items ++ more) kind ≡ parts_of items kind
 parts_more items more kind within = ap (λ l. l ++ named_by kind) (listed_more items more (list_of kind) within)
 
 pub listed_last : (items parts : List ℕ) → listed (items ++ parts) (record { from = length items; count = length parts }) ≡ parts
@@ -85,7 +89,8 @@ behind_more items more n kind h = record {
 pub waiting_parts : (tree : Syntax) (row more : List ℕ) → Waiting tree row → Waiting (with_parts tree more) row
 waiting_parts tree row more w =
     let same : all_parts (with_parts tree more) ≡ all_parts tree =
-    flat_map_same (λ (node : Node). parts_of tree.items node.kind) (λ (node : Node). parts_of (tree.items ++ more) node.kind) tree.nodes (λ i node is. parts_more tree.items more node.kind (w.ordered i node is).within) in
+    flat_map_same (λ (node : Node). parts_of tree.items node.kind) (λ (node : Node). parts_of (tree.items ++ more) node.kind) tree.nodes
+    (λ i node is. parts_more tree.items more node.kind (w.ordered i node is).within) in
     record {
       ordered = λ n node is. behind_more tree.items more n node.kind (w.ordered n node is);
       below = w.below;
@@ -110,7 +115,8 @@ same_one n size one = grind (arith, common_steps, one)
 used_at : (n root size all : ℕ) → n < size → all + cond (root == n) 1 0 ≡ cond (nat_lt n size) 1 0 → root + 1 ≡ size → all ≡ cond (n + 1 == size) 0 1
 used_at n root size all less sum last = grind (arith, common_steps, less, sum, last)
 
-module _ (tree : Syntax) (row : List ℕ) (at : ℕ) (kind : Kind) (within : (list_of kind).from + (list_of kind).count ≤ length tree.items) (w : Waiting tree (row ++ parts_of tree.items kind)) where
+module _ (tree : Syntax) (row : List ℕ) (at : ℕ) (kind : Kind) (within : (list_of kind).from + (list_of kind).count ≤ length tree.items)
+    (w : Waiting tree (row ++ parts_of tree.items kind)) where
   front_below : All (λ part. part < length tree.nodes) row
   front_below = All-front (λ part. part < length tree.nodes) row (parts_of tree.items kind) w.below
 
@@ -119,16 +125,34 @@ module _ (tree : Syntax) (row : List ℕ) (at : ℕ) (kind : Kind) (within : (li
 
   whole : all_parts (with_node tree at kind) ≡ all_parts tree ++ parts_of tree.items kind
   whole =
-      flat_map-append (λ (node : Node). parts_of tree.items node.kind) tree.nodes (record { kind = kind; at = at } ∷ []) ∙ ap (λ l. all_parts tree ++ l) (append-nil (parts_of tree.items kind))
+      flat_map-append (λ (node : Node). parts_of tree.items node.kind) tree.nodes (record { kind = kind; at = at } ∷ [])
+      ∙ ap (λ l. all_parts tree ++ l) (append-nil (parts_of tree.items kind))
 
-  counted : (n : ℕ) → times n (all_parts tree ++ parts_of tree.items kind) + times n (row ++ length tree.nodes ∷ []) ≡ cond (nat_lt n (length tree.nodes + 1)) 1 0
+  counted : (n : ℕ) → times n (all_parts tree ++ parts_of tree.items kind) + times n (row ++ length tree.nodes ∷ []) ≡ cond
+      (nat_lt n (length tree.nodes + 1)) 1 0
   counted n =
-      omega (arith, times-append n (all_parts tree) (parts_of tree.items kind), times-append n row (length tree.nodes ∷ []), times-append n row (parts_of tree.items kind), times-one n (length tree.nodes), w.uses n, one_below n (length tree.nodes))
+      omega (
+        arith,
+        times-append n (all_parts tree) (parts_of tree.items kind),
+        times-append n row (length tree.nodes ∷ []),
+        times-append n row (parts_of tree.items kind),
+        times-one n (length tree.nodes),
+        w.uses n,
+        one_below n (length tree.nodes),
+      )
 
   last_waits : (n : ℕ) → length (tree.nodes ++ record { kind = kind; at = at } ∷ []) ≡ n + 1 → times n (row ++ length tree.nodes ∷ []) ≡ 1
   last_waits n is =
       let same : length tree.nodes ≡ n = omega (arith, longer, is) in
-      omega (arith, times-append n row (length tree.nodes ∷ []), times-append n row (parts_of tree.items kind), times-one n (length tree.nodes), w.uses n, none_below n (length tree.nodes) same, one_same n (length tree.nodes) same)
+      omega (
+        arith,
+        times-append n row (length tree.nodes ∷ []),
+        times-append n row (parts_of tree.items kind),
+        times-one n (length tree.nodes),
+        w.uses n,
+        none_below n (length tree.nodes) same,
+        one_same n (length tree.nodes) same,
+      )
 
   behind : (n : ℕ) (node : Node) → slice_get (tree.nodes ++ record { kind = kind; at = at } ∷ []) n ≡ Some node → IsBehindParts tree.items n node.kind
   behind n node is = elim (get_pushed tree.nodes (record { kind = kind; at = at }) node n is) [
@@ -146,7 +170,8 @@ module _ (tree : Syntax) (row : List ℕ) (at : ℕ) (kind : Kind) (within : (li
     ordered = behind;
     below = subst (λ m. All (λ part. part < m) (row ++ length tree.nodes ∷ [])) (sym longer)
         (All-push (λ part. part < length tree.nodes + 1) row (length tree.nodes) (λ k d less. omega (arith, front_below k d less)) (omega arith));
-    rising = all_pairs_push (λ one other. one < other) row (length tree.nodes) (pairs-front (λ one other. one < other) row (parts_of tree.items kind) w.rising) front_below;
+    rising = all_pairs_push (λ one other. one < other) row (length tree.nodes) (pairs-front (λ one other. one < other) row (parts_of tree.items kind)
+        w.rising) front_below;
     uses = λ n. ap (λ l. times n l + times n (row ++ length tree.nodes ∷ [])) whole ∙ counted n ∙ ap (λ m. cond (nat_lt n m) 1 0) (sym longer);
     top = last_waits;
   }
@@ -168,5 +193,6 @@ used_once tree root w =
     let last : root ≡ end = same_one end root (omega (arith, times-one end root, w.top end (omega (arith, some)))) in
     record {
       some = some;
-      once = λ n less. used_at n root (length tree.nodes) (times n (all_parts tree)) less (omega (arith, times-one n root, w.uses n)) (omega (arith, last, some));
+      once = λ n less. used_at n root (length tree.nodes) (times n (all_parts tree)) less (omega (arith, times-one n root, w.uses n))
+          (omega (arith, last, some));
     }

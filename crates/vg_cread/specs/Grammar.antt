@@ -18,8 +18,11 @@ use Rattle.vg_ctok.specs.declared.kinds.Sign.TheVariants as signs
 use Rattle.vg_ctok.specs.declared.kinds.Token.{Token}
 use Rattle.vg_cread.specs.declared.statements.Action.{Action}
 use Rattle.vg_cread.specs.declared.statements.Action.TheVariants as actions
-use Rattle.vg_cread.specs.Forms.{Form, Plain, Place, One, Unless, Either, Chain, Inner, Made, Nested, Expression, Operand, Statement, Body, Growth, ◌⊛◌, ◌⊲◌, ◌⊳◌, optional, listed, same, one_more, node, node_with}
-use Rattle.vg_cread.specs.Kinds.{is_sign, is_word, name_of, number_of, number_type, int_of, handle_of, unary_of, binary_of, is_binary, assign_of, is_assign, is_number, begins_base, begins_unary, begins_expression, begins_statement, begins_piece, begins_suffix, is_postfix_operator, any_token}
+use Rattle.vg_cread.specs.Forms.{Form, Plain, Place, One, Unless, Either, Chain, Inner, Made, Nested, Expression, Operand, Statement, Body, Growth}
+use Rattle.vg_cread.specs.Forms.{◌⊛◌, ◌⊲◌, ◌⊳◌, optional, listed, same, one_more, node, node_with}
+use Rattle.vg_cread.specs.Kinds.{is_sign, is_word, name_of, number_of, number_type, int_of, handle_of, unary_of, binary_of, is_binary, assign_of}
+use Rattle.vg_cread.specs.Kinds.{is_assign, is_number, begins_base, begins_unary, begins_expression, begins_statement, begins_piece, begins_suffix}
+use Rattle.vg_cread.specs.Kinds.{is_postfix_operator, any_token}
 
 -- a sign, a keyword, a name
 unfoldable pub sign : Sign → Form (Unit {0})
@@ -168,7 +171,8 @@ for_statement = Made (Plain (λ at of counter start tested bound stepped by body
 
 -- return-statement: return [ expression ] ;
 unfoldable pub return_statement : Form ℕ
-return_statement = Made (Plain (λ at value. node at (nodes.Return value)) ⊛ Place ⊲ word words.Return ⊛ optional begins_expression (Inner Expression) ⊲ sign signs.Semicolon)
+return_statement = Made (Plain (λ at value. node at (nodes.Return value)) ⊛ Place ⊲ word words.Return ⊛ optional begins_expression (Inner Expression)
+    ⊲ sign signs.Semicolon)
 
 unfoldable pub assignment : Form (Option BinaryOp)
 assignment = One assign_of

@@ -25,7 +25,8 @@ module _ (toks : List Token) where
   guided_with inner (Both f x) s b t = (g : _ → _) × (u : State) × (a : _) × guided_with inner f s g u × guided_with inner x u a t × (b ≡ g a)
   guided_with inner (Either test x y) s b t =
       ((passes test (slice_get toks s.at) ≡ true) × guided_with inner x s b t) ⊎ ((passes test (slice_get toks s.at) ≡ false) × guided_with inner y s b t)
-  guided_with inner (Chain test x more) s b t = (a : _) × (u : State) × (n : ℕ) × guided_with inner x s a u × GuidedTurns n test (guided_with inner more) (place_at toks s.at) a u b t
+  guided_with inner (Chain test x more) s b t = (a : _) × (u : State) × (n : ℕ) × guided_with inner x s a u
+      × GuidedTurns n test (guided_with inner more) (place_at toks s.at) a u b t
   guided_with inner (Inner n) s b t = inner n s b t
   guided_with inner (Made f) s b t = (g : Growth _) × (u : State) × guided_with inner f s g u × (b ≡ (g u.tree).0) × (t ≡ record u { tree = (g u.tree).1 })
 
@@ -60,10 +61,12 @@ module _ (toks : List Token) where
   comes_guided says lacks inner (Both f x) s =
       comes_guided says lacks inner f s ⊎ ((g : _ → _) × (u : State) × guided_with toks says f s g u × comes_guided says lacks inner x u)
   comes_guided says lacks inner (Either test x y) s =
-      ((passes test (slice_get toks s.at) ≡ true) × comes_guided says lacks inner x s) ⊎ ((passes test (slice_get toks s.at) ≡ false) × comes_guided says lacks inner y s)
+      ((passes test (slice_get toks s.at) ≡ true) × comes_guided says lacks inner x s) ⊎ ((passes test (slice_get toks s.at) ≡ false)
+      × comes_guided says lacks inner y s)
   comes_guided says lacks inner (Chain test x more) s =
       comes_guided says lacks inner x s
-      ⊎ ((a : _) × (u : State) × (n : ℕ) × guided_with toks says x s a u × GuidedTurnsTo n test (guided_with toks says more) (comes_guided says lacks inner more) (place_at toks s.at) a u)
+      ⊎ ((a : _) × (u : State) × (n : ℕ) × guided_with toks says x s a u × GuidedTurnsTo n test (guided_with toks says more)
+      (comes_guided says lacks inner more) (place_at toks s.at) a u)
   comes_guided says lacks inner (Inner n) s = inner n s
   comes_guided says lacks inner (Made f) s = comes_guided says lacks inner f s
 

@@ -26,7 +26,8 @@ module _ (toks : List Token) where
   comes_with says inner (Either test x y) s = comes_with says inner x s ⊎ comes_with says inner y s
   comes_with says inner (Chain test x more) s =
       comes_with says inner x s
-      ⊎ ((a : _) × (u : State) × (n : ℕ) × spelled_with toks says x s a u × TurnsTo n (spelled_with toks says more) (comes_with says inner more) (place_at toks s.at) a u)
+      ⊎ ((a : _) × (u : State) × (n : ℕ) × spelled_with toks says x s a u × TurnsTo n (spelled_with toks says more) (comes_with says inner more)
+      (place_at toks s.at) a u)
   comes_with says inner (Inner n) s = inner n s
   comes_with says inner (Made f) s = comes_with says inner f s
 

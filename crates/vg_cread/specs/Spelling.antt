@@ -27,7 +27,8 @@ module _ (toks : List Token) where
   spelled_with inner (Unless test) s b t = (passes test (slice_get toks s.at) ≡ false) × (t ≡ s)
   spelled_with inner (Both f x) s b t = (g : _ → _) × (u : State) × (a : _) × spelled_with inner f s g u × spelled_with inner x u a t × (b ≡ g a)
   spelled_with inner (Either test x y) s b t = spelled_with inner x s b t ⊎ spelled_with inner y s b t
-  spelled_with inner (Chain test x more) s b t = (a : _) × (u : State) × (n : ℕ) × spelled_with inner x s a u × Turns n (spelled_with inner more) (place_at toks s.at) a u b t
+  spelled_with inner (Chain test x more) s b t = (a : _) × (u : State) × (n : ℕ) × spelled_with inner x s a u
+      × Turns n (spelled_with inner more) (place_at toks s.at) a u b t
   spelled_with inner (Inner n) s b t = inner n s b t
   spelled_with inner (Made f) s b t = (g : Growth _) × (u : State) × spelled_with inner f s g u × (b ≡ (g u.tree).0) × (t ≡ record u { tree = (g u.tree).1 })
 

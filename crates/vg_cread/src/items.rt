@@ -2,7 +2,8 @@
 ghost use Rattle.std.specs.Prelude.{◌≡◌};
 ghost use Rattle.vg_cread.specs.Places.{tested};
 ghost use Rattle.vg_cread.specs.Kinds.{handle_of};
-ghost use Rattle.vg_cread.specs.Grammar.{field, fields, attribute, packing, handle, struct_item, extern_item, param, params, answer, flagged, function, item, items, unit};
+ghost use Rattle.vg_cread.specs.Grammar.{field, fields, attribute, packing, handle, struct_item, extern_item, param, params, answer, flagged};
+ghost use Rattle.vg_cread.specs.Grammar.{function, item, items, unit};
 ghost use Rattle.vg_cread.specs.Reading.{Gives, reads, next, items_of};
 
 use crate::kinds::handle_of;

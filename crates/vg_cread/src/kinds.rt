@@ -1,6 +1,8 @@
 //! What tokens are in the grammar.
 ghost use Rattle.std.specs.Prelude.{◌≡◌};
-ghost use Rattle.vg_cread.specs.Kinds.{is_sign, is_word, name_of, number_of, number_type, int_of, int_word, handle_of, handle_word, unary_of, unary_sign, binary_of, binary_sign, assign_of, assign_sign, begins_base, begins_expression, begins_statement, begins_piece, begins_suffix, is_postfix_operator};
+ghost use Rattle.vg_cread.specs.Kinds.{is_sign, is_word, name_of, number_of, number_type, int_of, int_word, handle_of, handle_word, unary_of};
+ghost use Rattle.vg_cread.specs.Kinds.{unary_sign, binary_of, binary_sign, assign_of, assign_sign, begins_base, begins_expression, begins_statement};
+ghost use Rattle.vg_cread.specs.Kinds.{begins_piece, begins_suffix, is_postfix_operator};
 
 use vg_core::{BinaryOp, HandleKind, IntType, Name, UnaryOp};
 use vg_ctok::{Keyword, Number, NumberType, Sign, Token, TokenKind};

@@ -3,7 +3,8 @@ ghost use Rattle.std.specs.Prelude.{◌≡◌};
 ghost use Rattle.vg_cread.specs.Forms.{Statement, Body};
 ghost use Rattle.vg_cread.specs.Places.{passes, tested};
 ghost use Rattle.vg_cread.specs.Kinds.{assign_of, is_assign, begins_statement, begins_piece};
-ghost use Rattle.vg_cread.specs.Grammar.{statement, block, pieces, piece, declaration, array_length, initial, if_statement, otherwise, for_statement, step, return_statement, simple_statement, assignment, action, acted};
+ghost use Rattle.vg_cread.specs.Grammar.{statement, block, pieces, piece, declaration, array_length, initial, if_statement, otherwise, for_statement};
+ghost use Rattle.vg_cread.specs.Grammar.{step, return_statement, simple_statement, assignment, action, acted};
 ghost use Rattle.vg_cread.specs.Reading.{Gives, reads, reads_inner, next, items_of};
 
 use crate::kinds::{assign_of, begins_base, begins_statement};

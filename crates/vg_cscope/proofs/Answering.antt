@@ -7,7 +7,8 @@ use Rattle.vg_cscope.specs.Names.{Scoped, found}
 use Rattle.vg_cscope.specs.Tables.{AreAnswers}
 use Rattle.vg_cscope.proofs.Stacking.{at_seam}
 
-of_some : (s : Scoped) (n : ℕ) (o : Option Answer) (a : Answer) → IfSome o (λ b. found s b.wanted n ≡ b.declaration) → o ≡ Some a → found s a.wanted n ≡ a.declaration
+of_some : (s : Scoped) (n : ℕ) (o : Option Answer) (a : Answer) → IfSome o (λ b. found s b.wanted n ≡ b.declaration) → o ≡ Some a
+    → found s a.wanted n ≡ a.declaration
 of_some s n None a h e = absurd (cc)
 of_some s n (Some b) a h e = grind arith
 

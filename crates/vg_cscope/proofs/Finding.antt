@@ -1,5 +1,6 @@
 -- What is found through the buckets is what is found along the declarations.
-use Rattle.std.proofs.Common.{◌≡◌, ℕ, zero, suc, ◌-◌, ◌<◌, ◌≤◌, List, [], ◌∷◌, ◌++◌, length, slice_get, get_or, Bool, true, false, Option, Some, None, refl, sym, ap, subst, ◌∙◌, arith, inl, inr, if◌then◌else◌, eq-eqb}
+use Rattle.std.proofs.Common.{◌≡◌, ℕ, zero, suc, ◌-◌, ◌<◌, ◌≤◌, List, [], ◌∷◌, ◌++◌, length, slice_get, get_or, Bool, true, false, Option, Some, None}
+use Rattle.std.proofs.Common.{refl, sym, ap, subst, ◌∙◌, arith, inl, inr, if◌then◌else◌, eq-eqb}
 use Rattle.std.specs.Prelude.{◌⊎◌, nat_eq}
 use Rattle.std.specs.Str.{bytes_eq}
 use Rattle.std.proofs.lemmas.Option.{slice_get_read, same_Some}
@@ -66,9 +67,12 @@ field_declared text name kind e = grind arith
 wanted_bytes :
     (text : List ℕ) (what : Wanted) (name : Name) (kind : Kind) → wanted_name what ≡ Some name → is_wanted text what kind ≡ true →
     bytes_of text (declared_name kind) ≡ bytes_of text (Some name)
-wanted_bytes text (wanted.Ordinary own) name kind e w = ap (bytes_of text) (ordinary_declared text own kind w) ∙ same_bytes text own (ordinary_name kind) w ∙ ap (bytes_of text) e
-wanted_bytes text (wanted.Tag own) name kind e w = ap (bytes_of text) (tag_declared text own kind w) ∙ same_bytes text own (tag_name kind) w ∙ ap (bytes_of text) e
-wanted_bytes text (wanted.Field own) name kind e w = ap (bytes_of text) (field_declared text own kind w) ∙ same_bytes text own (field_name kind) w ∙ ap (bytes_of text) e
+wanted_bytes text (wanted.Ordinary own) name kind e w = ap (bytes_of text) (ordinary_declared text own kind w)
+    ∙ same_bytes text own (ordinary_name kind) w ∙ ap (bytes_of text) e
+wanted_bytes text (wanted.Tag own) name kind e w = ap (bytes_of text) (tag_declared text own kind w) ∙ same_bytes text own (tag_name kind) w
+    ∙ ap (bytes_of text) e
+wanted_bytes text (wanted.Field own) name kind e w = ap (bytes_of text) (field_declared text own kind w) ∙ same_bytes text own (field_name kind) w
+    ∙ ap (bytes_of text) e
 wanted_bytes text wanted.Function name kind e w = absurd (cc)
 
 -- ---- along the buckets
@@ -105,18 +109,21 @@ module _ (s : Scoped) (what : Wanted) (name : Name) (named : wanted_name what �
       let low : last_in b xs h ≤ h = last_low b xs h in (
         omega arith,
         ap (last_in b xs) below ∙ last_again b xs h ∙ sym below,
-        ap (nearest s what xs) below ∙ skip h ∙ sym (ap (λ o. nearer s what o (nearest s what xs h)) i ∙ ap (λ c. if c then Some e.declaration else nearest s what xs h) w),
+        ap (nearest s what xs) below ∙ skip h ∙ sym (ap (λ o. nearer s what o (nearest s what xs h)) i
+            ∙ ap (λ c. if c then Some e.declaration else nearest s what xs h) w),
       )
 
   -- the one on top is wanted
-  found_top : (h : ℕ) (e : Entry) → slice_get xs h ≡ Some e → is_wanted s.text what (kind_at s.tree e.declaration) ≡ true → nearest s what xs (suc h) ≡ Some e.declaration
+  found_top : (h : ℕ) (e : Entry) → slice_get xs h ≡ Some e → is_wanted s.text what (kind_at s.tree e.declaration) ≡ true
+      → nearest s what xs (suc h) ≡ Some e.declaration
   found_top h e i w = ap (λ o. nearer s what o (nearest s what xs h)) i ∙ ap (λ c. if c then Some e.declaration else nearest s what xs h) w
 
   -- the height at the head of the bucket
   pub begin : (i height : ℕ) → i ≡ b → i < length heads → height ≡ get_or heads i height
       → (height ≤ length xs) × (last_in b xs height ≡ height) × (nearest s what xs height ≡ nearest s what xs (length xs))
   begin i height e l g =
-      let read : height ≡ last_in i xs (length xs) = same_Some height (last_in i xs (length xs)) (sym (slice_get_read heads (length heads) i height refl l g) ∙ t.heads_are i l) in
+      let read : height ≡ last_in i xs (length xs) = same_Some height (last_in i xs (length xs))
+      (sym (slice_get_read heads (length heads) i height refl l g) ∙ t.heads_are i l) in
       let same : height ≡ last_in b xs (length xs) = read ∙ ap (λ c. last_in c xs (length xs)) e in
       let low : last_in b xs (length xs) ≤ length xs = last_low b xs (length xs) in (
         omega arith,
@@ -135,7 +142,8 @@ module _ (s : Scoped) (what : Wanted) (name : Name) (named : wanted_name what �
 
   -- it isn't, and the next one in its bucket comes
   pub go_on : (height : ℕ) (e : Entry) → 0 < height → height ≤ length xs → e ≡ get_or xs (height - 1) e → last_in b xs height ≡ height
-      → is_wanted s.text what (kind_at s.tree e.declaration) ≡ false → (e.below < height) × (last_in b xs e.below ≡ e.below) × (nearest s what xs e.below ≡ nearest s what xs height)
+      → is_wanted s.text what (kind_at s.tree e.declaration) ≡ false → (e.below < height) × (last_in b xs e.below ≡ e.below)
+      × (nearest s what xs e.below ≡ nearest s what xs height)
   go_on zero e z l g own w = absurd (omega arith)
   go_on (suc h) e z l g own w = let r = next_down h e (top_is h e l g) own w in let low : e.below ≤ h = r.0 in (omega arith, r.1, r.2)
 
@@ -157,5 +165,6 @@ module _ (s : Scoped) (what : Wanted) (xs : List Entry) (heads : List ℕ) (t : 
       (ap (looked_up s what ns) (t.chain h some.0 some.1) ∙ along ns h (omega arith) (omega arith))
       ∙ sym (ap (λ o. nearer s what o (nearest s what xs h)) some.1)
 
-  pub found_so : (n : ℕ) (r : Option ℕ) → at xs (length xs) ≡ seen_at s.standings n → length xs ≤ length s.tree.nodes → r ≡ nearest s what xs (length xs) → r ≡ found s what n
+  pub found_so : (n : ℕ) (r : Option ℕ) → at xs (length xs) ≡ seen_at s.standings n → length xs ≤ length s.tree.nodes
+      → r ≡ nearest s what xs (length xs) → r ≡ found s what n
   found_so n r top low e = e ∙ sym (along s.tree.nodes (length xs) low (omega arith)) ∙ ap (looked_up s what s.tree.nodes) top

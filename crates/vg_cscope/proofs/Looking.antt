@@ -20,7 +20,8 @@ looked_end s what xs seen r e i = sym (looked_none s what xs) ∙ ap (looked_up 
 
 looked_some :
     (s : Scoped) (what : Wanted) (xs : List Node) (at d : ℕ) → at < length xs →
-    looked_up s what (drop at xs) (Some d) ≡ (if is_wanted s.text what (kind_at s.tree d) then Some d else looked_up s what (drop (suc at) xs) (seen_at s.standings d))
+    looked_up s what (drop at xs) (Some d) ≡ (if is_wanted s.text what (kind_at s.tree d) then Some d else looked_up s what (drop (suc at) xs)
+    (seen_at s.standings d))
 looked_some s what xs at d h = ap (λ l. looked_up s what l (Some d)) (drop-cons xs at blank h)
 
 -- it is what is looked for

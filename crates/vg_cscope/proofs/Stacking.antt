@@ -1,5 +1,6 @@
 -- Declarations that are put on the stack and taken off it.
-use Rattle.std.proofs.Common.{◌≡◌, ℕ, zero, suc, ◌+◌, ◌<◌, ◌≤◌, List, [], ◌∷◌, ◌++◌, length, slice_get, Bool, true, false, Option, Some, None, refl, sym, ap, subst, ◌∙◌, arith, inl, inr, if◌then◌else◌, eq-eqb, add-one}
+use Rattle.std.proofs.Common.{◌≡◌, ℕ, zero, suc, ◌+◌, ◌<◌, ◌≤◌, List, [], ◌∷◌, ◌++◌, length, slice_get, Bool, true, false, Option, Some, None, refl}
+use Rattle.std.proofs.Common.{sym, ap, subst, ◌∙◌, arith, inl, inr, if◌then◌else◌, eq-eqb, add-one}
 use Rattle.std.specs.Prelude.{◌⊎◌, slice_set, nat_eq, replicate}
 use Rattle.std.proofs.lemmas.Bool.{cases_lt, cases_Bool, eqb-true}
 use Rattle.std.proofs.lemmas.List.{length-append, length-replicate}
@@ -21,7 +22,8 @@ get_front (x ∷ xs) ys zero h = refl
 get_front (x ∷ xs) ys (suc n) h = get_front xs ys n (omega arith)
 
 -- an item of a list with one more is of the list, or the one more
-pub at_seam : {A : Type 0} (xs : List A) (x y : A) (n : ℕ) → slice_get (xs ++ x ∷ []) n ≡ Some y → ((n < length xs) × (slice_get xs n ≡ Some y)) ⊎ ((n ≡ length xs) × (x ≡ y))
+pub at_seam : {A : Type 0} (xs : List A) (x y : A) (n : ℕ) → slice_get (xs ++ x ∷ []) n ≡ Some y → ((n < length xs) × (slice_get xs n ≡ Some y))
+    ⊎ ((n ≡ length xs) × (x ≡ y))
 at_seam xs x y n e = elim (cases_lt n (length xs)) [
   | inl l ↦ inl (l, sym (get_front xs (x ∷ []) n l) ∙ e)
   | inr g ↦
@@ -71,7 +73,8 @@ last_front b xs ys (suc n) h =
     ap (λ e. if has_bucket b e then suc n else last_in b (xs ++ ys) n) (get_front xs ys n (omega arith))
     ∙ ap (λ r. if has_bucket b (slice_get xs n) then suc n else r) (last_front b xs ys n (omega arith))
 
-last_seam : (b : ℕ) (xs : List Entry) (x : Entry) → last_in b (xs ++ x ∷ []) (length (xs ++ x ∷ [])) ≡ (if nat_eq x.bucket b then suc (length xs) else last_in b xs (length xs))
+last_seam : (b : ℕ) (xs : List Entry) (x : Entry) → last_in b (xs ++ x ∷ []) (length (xs ++ x ∷ [])) ≡
+    (if nat_eq x.bucket b then suc (length xs) else last_in b xs (length xs))
 last_seam b xs x =
     ap (last_in b (xs ++ x ∷ [])) (long_seam xs x)
     ∙ ap (λ e. if has_bucket b e then suc (length xs) else last_in b (xs ++ x ∷ []) (length xs)) (get_seam xs x)
@@ -98,7 +101,8 @@ module _ (s : Scoped) (xs : List Entry) (x : Entry) (heads : List ℕ) where
           | inl same ↦
               let e : x.bucket ≡ b = eqb-true x.bucket b same in
               ap (λ i. slice_get (slice_set heads i x.below) b) e ∙ set_same heads b x.below m
-              ∙ ap Some (t.belows (length xs) x (get_seam xs x) ∙ last_front x.bucket xs (x ∷ []) (length xs) (omega arith) ∙ ap (λ c. last_in c xs (length xs)) e)
+              ∙ ap Some (t.belows (length xs) x (get_seam xs x) ∙ last_front x.bucket xs (x ∷ []) (length xs) (omega arith)
+              ∙ ap (λ c. last_in c xs (length xs)) e)
           | inr other ↦
               set_other heads x.bucket b x.below other ∙ t.heads_are b m
               ∙ ap Some (last_seam b xs x ∙ ap (λ c. if c then suc (length xs) else last_in b xs (length xs)) other)
@@ -113,7 +117,8 @@ module _ (s : Scoped) (xs : List Entry) (x : Entry) (heads : List ℕ) where
     some = subst (λ n. 0 < n) (sym (length_set heads x.bucket (length xs + 1))) t.some;
     chain = λ h e i. elim (at_seam xs x e h i) [
       | inl l ↦ let m : h < length xs = l.0 in t.chain h e l.1 ∙ sym (at_front xs (x ∷ []) h (omega arith))
-      | inr r ↦ ap (λ (y : Entry). seen_at s.standings y.declaration) (sym r.1) ∙ sees ∙ sym (at_front xs (x ∷ []) (length xs) (omega arith)) ∙ ap (at more) (sym r.0)
+      | inr r ↦ ap (λ (y : Entry). seen_at s.standings y.declaration) (sym r.1) ∙ sees ∙ sym (at_front xs (x ∷ []) (length xs) (omega arith))
+          ∙ ap (at more) (sym r.0)
     ];
     buckets = λ h e i. elim (at_seam xs x e h i) [
       | inl l ↦ t.buckets h e l.1 ∙ ap (λ n. bucket_at s n e.declaration) (sym (length_set heads x.bucket (length xs + 1)))

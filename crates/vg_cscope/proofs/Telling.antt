@@ -21,6 +21,7 @@ pub told_next :
     told_below tree (count - below) s ≡ r → told_below tree (count - (below + 1)) t ≡ r
 told_next tree count below s t r h e i =
     ap (told_below tree (count - (below + 1))) e
-    ∙ ap (λ m. told_below tree m (told (count - 1 - below) (sight tree (count - 1 - below) (seen_at s (count - 1 - below)) (kind_at tree (count - 1 - below))) s)) (the_rest count below)
+    ∙ ap (λ m. told_below tree m (told (count - 1 - below) (sight tree (count - 1 - below) (seen_at s (count - 1 - below))
+    (kind_at tree (count - 1 - below))) s)) (the_rest count below)
     ∙ sym (ap (λ k. told_below tree k s) (the_next count below h))
     ∙ i

@@ -77,7 +77,8 @@ fn declares(kind: Kind) -> bool
 /// Tells each part of a node what it sees.
 #[tactic(auto, using(crate::proofs::Telling::told_append))]
 fn tell(tree: &Tree, standings: &mut Vec<Standing>, n: u32)
-    ensures { standings.new.items ≡ scopes.told n (scopes.sight tree.now n (scopes.seen_at standings.old.items n) (scopes.kind_at tree.now n)) standings.old.items }
+    ensures { standings.new.items ≡ scopes.told n (scopes.sight tree.now n (scopes.seen_at standings.old.items n) (scopes.kind_at tree.now n))
+        standings.old.items }
 {
     let seen = seen_at(standings, n);
     match kind_at(tree, n) {

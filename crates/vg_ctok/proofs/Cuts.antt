@@ -1,5 +1,6 @@
 -- Cuts of a text: one piece more at their end, and that there is one cut at most.
-use Rattle.std.proofs.Common.{◌≡◌, ◌∙◌, ◌<◌, ◌≤◌, ℕ, ◌+◌, ◌⊎◌, inl, inr, Bool, true, List, [], ◌∷◌, ◌++◌, length, drop, get_or, Result, Ok, Err, refl, sym, ap, subst, append_assoc, append-nil, add-one, drop-cons, drop-drop}
+use Rattle.std.proofs.Common.{◌≡◌, ◌∙◌, ◌<◌, ◌≤◌, ℕ, ◌+◌, ◌⊎◌, inl, inr, Bool, true, List, [], ◌∷◌, ◌++◌, length, drop, get_or, Result, Ok, Err, refl}
+use Rattle.std.proofs.Common.{sym, ap, subst, append_assoc, append-nil, add-one, drop-cons, drop-drop}
 use Rattle.std.proofs.lemmas.List.{drop_all}
 use Rattle.vg_ctok.specs.Pieces.{Defines, Place, first_piece}
 use Rattle.vg_ctok.specs.Reader.{Gives}
@@ -14,7 +15,9 @@ pub cut-more : (here : Place) (text : List ℕ) (pieces : List Piece) (tokens : 
     IsCut here text pieces tokens there rest → first_piece there rest ≡ Ok p →
     IsCut here text (pieces ++ p ∷ []) (tokens ++ tokens_of there.at p) (place_after there rest p) (drop p.size rest)
 cut-more here text [] tokens there rest p cut e =
-    let family : Place → Type 0 = λ h. (first_piece h text ≡ Ok p) × (others : List Token) × (tokens ++ tokens_of there.at p ≡ tokens_of h.at p ++ others) × ((place_after h text p ≡ place_after there rest p) × (drop p.size text ≡ drop p.size rest) × (others ≡ [])) in
+    let family : Place → Type 0 = λ h. (first_piece h text ≡ Ok p) × (others : List Token)
+    × (tokens ++ tokens_of there.at p ≡ tokens_of h.at p ++ others) × ((place_after h text p ≡ place_after there rest p)
+    × (drop p.size text ≡ drop p.size rest) × (others ≡ [])) in
     subst family (sym cut.0) (
       ap (first_piece there) cut.1 ∙ e,
       [],
@@ -43,7 +46,8 @@ moved h i t s place text is = ap (λ (p : Place). first_piece p t) place ∙ ap 
 no_piece : {p : Piece} {f : TokFault} (here : Place) (text : List ℕ) → first_piece here text ≡ Ok p → first_piece here text ≡ Err f → ⊥
 no_piece here text one two = cc
 
-pub cut-unique : (here : Place) (text : List ℕ) (pieces qieces : List Piece) {tokens others : List Token} {there end : Place} {rest left : List ℕ} {f e : TokFault} →
+pub cut-unique : (here : Place) (text : List ℕ) (pieces qieces : List Piece) {tokens others : List Token} {there end : Place} {rest left : List ℕ}
+    {f e : TokFault} →
     IsCut here text pieces tokens there rest → first_piece there rest ≡ Err f →
     IsCut here text qieces others end left → first_piece end left ≡ Err e → Same tokens others there end rest left
 cut-unique here text [] [] one stops two ends = record {
@@ -122,7 +126,8 @@ one_more text at fresh now defines others tokens more p cut stands added defined
     (cut.0 ++ p ∷ [], subst (λ (l : List ℕ). IsCut start text (cut.0 ++ p ∷ []) more behind l) (drop-drop p.size at text) with_place)
 
 -- at the end
-pub whole : (text : List ℕ) (at : ℕ) (fresh : Bool) (defines : Defines) (tokens : List Token) → length text ≤ at → UpTo text at fresh defines tokens → AreTokens text tokens
+pub whole : (text : List ℕ) (at : ℕ) (fresh : Bool) (defines : Defines) (tokens : List Token) → length text ≤ at → UpTo text at fresh defines tokens
+    → AreTokens text tokens
 whole text at fresh defines tokens over cut = (
   cut.0,
   record { at = at; fresh = fresh; defines = defines },
@@ -133,7 +138,8 @@ drop-first : (text : List ℕ) (i : ℕ) → i < length text → drop i text ≡
 drop-first text i h = rw (add-one, drop-cons text i 0) refl
 
 -- at a fault
-pub stopped : (text : List ℕ) (at : ℕ) (fresh : Bool) (defines : Defines) (tokens : List Token) (e : TokFault) → at < length text → UpTo text at fresh defines tokens →
+pub stopped : (text : List ℕ) (at : ℕ) (fresh : Bool) (defines : Defines) (tokens : List Token) (e : TokFault) → at < length text
+    → UpTo text at fresh defines tokens →
     first_piece (record { at = at; fresh = fresh; defines = defines }) (drop at text) ≡ Err e → Refuses text e
 stopped text at fresh defines tokens e more cut stands =
     let here : Place = record { at = at; fresh = fresh; defines = defines } in
@@ -147,7 +153,8 @@ stopped text at fresh defines tokens e more cut stands =
       subst (λ (l : List ℕ). first_piece here l ≡ Err e) first stands,
     )
 
-pub refusal : (text : List ℕ) (at : ℕ) (fresh : Bool) (defines : Defines) (tokens : List Token) (e : TokFault) → at < length text → UpTo text at fresh defines tokens →
+pub refusal : (text : List ℕ) (at : ℕ) (fresh : Bool) (defines : Defines) (tokens : List Token) (e : TokFault) → at < length text
+    → UpTo text at fresh defines tokens →
     Gives (Err e) (first_piece (record { at = at; fresh = fresh; defines = defines }) (drop at text)) → (e ≡ Memory) ⊎ Refuses text e
 refusal text at fresh defines tokens Memory more cut gives = inl refl
 refusal text at fresh defines tokens (BadByte k) more cut gives = inr (stopped text at fresh defines tokens (BadByte k) more cut gives)
@@ -155,12 +162,18 @@ refusal text at fresh defines tokens (BadNumber k) more cut gives = inr (stopped
 refusal text at fresh defines tokens (Directive k) more cut gives = inr (stopped text at fresh defines tokens (Directive k) more cut gives)
 
 -- the same where the code's values are only equal to these
-pub gives_at : (text : List ℕ) (at : ℕ) (fresh : Bool) (defines held : Defines) (rest : List ℕ) {r : Result Piece TokFault} → rest ≡ drop at text → held ≡ defines →
-    first_piece (record { at = at; fresh = fresh; defines = held }) rest ≡ r → first_piece (record { at = at; fresh = fresh; defines = defines }) (drop at text) ≡ r
-gives_at text at fresh defines held rest back same is = ap (λ (d : Defines). first_piece (record { at = at; fresh = fresh; defines = d }) (drop at text)) (sym same) ∙ ap (first_piece (record { at = at; fresh = fresh; defines = held })) (sym back) ∙ is
+pub gives_at : (text : List ℕ) (at : ℕ) (fresh : Bool) (defines held : Defines) (rest : List ℕ) {r : Result Piece TokFault} → rest ≡ drop at text
+    → held ≡ defines →
+    first_piece (record { at = at; fresh = fresh; defines = held }) rest ≡ r → first_piece (record { at = at; fresh = fresh; defines = defines })
+    (drop at text) ≡ r
+gives_at text at fresh defines held rest back same is =
+    ap (λ (d : Defines). first_piece (record { at = at; fresh = fresh; defines = d }) (drop at text)) (sym same)
+    ∙ ap (first_piece (record { at = at; fresh = fresh; defines = held })) (sym back) ∙ is
 
-pub refusal_at : (text : List ℕ) (at : ℕ) (fresh : Bool) (defines held : Defines) (rest : List ℕ) (tokens : List Token) (e : TokFault) → rest ≡ drop at text → held ≡ defines →
-    at < length text → UpTo text at fresh defines tokens → Gives (Err e) (first_piece (record { at = at; fresh = fresh; defines = held }) rest) → (e ≡ Memory) ⊎ Refuses text e
+pub refusal_at : (text : List ℕ) (at : ℕ) (fresh : Bool) (defines held : Defines) (rest : List ℕ) (tokens : List Token) (e : TokFault)
+    → rest ≡ drop at text → held ≡ defines →
+    at < length text → UpTo text at fresh defines tokens → Gives (Err e) (first_piece (record { at = at; fresh = fresh; defines = held }) rest)
+    → (e ≡ Memory) ⊎ Refuses text e
 refusal_at text at fresh defines held rest tokens e back same more cut gives =
     refusal text at fresh defines tokens e more cut
     (subst (λ (l : List ℕ). Gives (Err e) (first_piece (record { at = at; fresh = fresh; defines = defines }) l)) back

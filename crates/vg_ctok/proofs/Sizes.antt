@@ -1,5 +1,6 @@
 -- Each piece has a byte at least, and its text has them all.
-use Rattle.std.proofs.Common.{◌≡◌, ◌<◌, ◌≤◌, ◌+◌, ◌-◌, ◌&&◌, ◌||◌, ℕ, Bool, true, false, cond, inl, inr, List, [], ◌∷◌, length, slice_get, drop, codes, eqb, Option, Some, None, Result, Ok, Err, refl, ap, subst, arith, length-drop, length-append}
+use Rattle.std.proofs.Common.{◌≡◌, ◌<◌, ◌≤◌, ◌+◌, ◌-◌, ◌&&◌, ◌||◌, ℕ, Bool, true, false, cond, inl, inr, List, [], ◌∷◌, length, slice_get, drop}
+use Rattle.std.proofs.Common.{codes, eqb, Option, Some, None, Result, Ok, Err, refl, ap, subst, arith, length-drop, length-append}
 use Rattle.std.specs.Prelude.{nat_lt, nat_le, option_map}
 use Rattle.std.specs.List.{list_all, prefix_len, take_while}
 use Rattle.std.proofs.lemmas.List.Sums.{prefix_len-le-length}
@@ -12,7 +13,8 @@ use Rattle.vg_ctok.specs.Tables.{row_at, row_of, signs, keywords}
 use Rattle.vg_ctok.specs.Numbers.{base_of, number_of, number_before}
 use Rattle.vg_ctok.specs.Comments.{close_from, opens_comment, comment_size, covered, blanked}
 use Rattle.vg_ctok.specs.Directives.{slice, dark_from, word_from, is_include, defines_name, define_of}
-use Rattle.vg_ctok.specs.Pieces.{Place, piece, comment_piece, number_piece, name_piece, name_kind, sign_piece, is_taken, define_piece, directive_piece, first_piece, token_piece}
+use Rattle.vg_ctok.specs.Pieces.{Place, piece, comment_piece, number_piece, name_piece, name_kind, sign_piece, is_taken, define_piece}
+use Rattle.vg_ctok.specs.Pieces.{directive_piece, first_piece, token_piece}
 use Rattle.vg_ctok.specs.Reader.{IsNamedIn, Fits}
 use Rattle.vg_ctok.specs.declared.kinds.Number.{Number}
 use Rattle.vg_ctok.specs.declared.kinds.Sign.{Sign}
@@ -42,7 +44,8 @@ no_some : {A : Type 0} {x : A} {P : Type 0} → None ≡ Some x → P
 no_some e = absurd (cc)
 
 -- a piece that is known
-pub piece-fits : (text : List ℕ) (size : ℕ) (what : What) {p : Piece} → 0 < size → size ≤ length text → IsNamedIn what text → piece size what ≡ Ok p → Fits p text
+pub piece-fits : (text : List ℕ) (size : ℕ) (what : What) {p : Piece} → 0 < size → size ≤ length text → IsNamedIn what text → piece size what ≡ Ok p
+    → Fits p text
 piece-fits text size what {p = p} some within named e =
     let known : Fits (record { size = size; what = what }) text = record { some = some; within = within; named = named } in
     subst (λ (q : Piece). Fits q text) (ok_is (piece size what) (record { size = size; what = what }) p refl e) known
@@ -66,7 +69,8 @@ close-later at b bytes n h = (omega arith, omega arith)
 close-within : (at : ℕ) (text : List ℕ) (n : ℕ) → close_from at text ≡ Some n → (at < n) × (n ≤ at + length text)
 close-within at [] n e = no_some e
 close-within at (b ∷ bytes) n e =
-    either (begins (b ∷ bytes) (codes "*/")) (λ so same. close-here at (b ∷ bytes) n so same) (λ unless more. close-later at b bytes n (close-within (at + 1) bytes n more)) e
+    either (begins (b ∷ bytes) (codes "*/")) (λ so same. close-here at (b ∷ bytes) n so same)
+    (λ unless more. close-later at b bytes n (close-within (at + 1) bytes n more)) e
 
 -- the bytes of a line are its length, which is some where no line feed stands first
 pub first-passes : (p : ℕ → Bool) (b : ℕ) (bytes : List ℕ) → p b ≡ true → 0 < prefix_len p (b ∷ bytes)
@@ -94,7 +98,8 @@ comment-within b bytes n more e =
     either (begins (b ∷ bytes) (codes "//")) (λ so same. to_line_end b bytes n more same)
     (λ unless others. either (begins (b ∷ bytes) (codes "/*")) (λ so close. to_close (b ∷ bytes) n so close) (λ unless none. no_some none) others) e
 
-comment-fits : (here : Place) (b : ℕ) (bytes : List ℕ) (size : Option ℕ) {p : Piece} → eqb b 10 ≡ false → comment_size (b ∷ bytes) ≡ size → comment_piece here size ≡ Ok p → Fits p (b ∷ bytes)
+comment-fits : (here : Place) (b : ℕ) (bytes : List ℕ) (size : Option ℕ) {p : Piece} → eqb b 10 ≡ false → comment_size (b ∷ bytes) ≡ size
+    → comment_piece here size ≡ Ok p → Fits p (b ∷ bytes)
 comment-fits here b bytes None more is e = no_ok e
 comment-fits here b bytes (Some n) more is e =
     let h = comment-within b bytes n more is in
@@ -109,16 +114,19 @@ one_holds false false u e = absurd (false≢true e)
 digit_in_names : (b : ℕ) → is_digit b ≡ true → is_name_byte b ≡ true
 digit_in_names b e = one_holds (nat_le 97 b && nat_le b 122 || nat_le 65 b && nat_le b 90) (is_digit b) (eqb b 95) e
 
-number-fits : (here : Place) (text : List ℕ) (size : ℕ) (number : Option Number) {p : Piece} → 0 < size → size ≤ length text → number_piece here size number ≡ Ok p → Fits p text
+number-fits : (here : Place) (text : List ℕ) (size : ℕ) (number : Option Number) {p : Piece} → 0 < size → size ≤ length text
+    → number_piece here size number ≡ Ok p → Fits p text
 number-fits here text size None some within e = no_ok e
 number-fits here text size (Some number) some within e = piece-fits text size (what.Token (kind.Number number)) some within tt e
 
 name-fits : (here : Place) (text word : List ℕ) {p : Piece} → 0 < length word → length word ≤ length text → name_piece here word ≡ Ok p → Fits p text
 name-fits here text word some within e =
-    either (nat_lt 64 (length word)) (λ long none. no_ok none) (λ short is. piece-fits text (length word) (what.Token (name_kind (row_of keywords word) (row_of here.defines word))) some within tt is) e
+    either (nat_lt 64 (length word)) (λ long none. no_ok none) (λ short is. piece-fits text (length word)
+    (what.Token (name_kind (row_of keywords word) (row_of here.defines word))) some within tt is) e
 
 -- signs
-sign-fits : (here : Place) (text : List ℕ) (rows : List (List ℕ × Sign)) {p : Piece} → list_all (λ row. nat_lt 0 (length row.0)) rows ≡ true → sign_piece here (row_at rows text) ≡ Ok p → Fits p text
+sign-fits : (here : Place) (text : List ℕ) (rows : List (List ℕ × Sign)) {p : Piece} → list_all (λ row. nat_lt 0 (length row.0)) rows ≡ true
+    → sign_piece here (row_at rows text) ≡ Ok p → Fits p text
 sign-fits here text [] whole e = no_ok e
 sign-fits here text (row ∷ rows) {p} whole e =
     let parts = and_parts (nat_lt 0 (length row.0)) (list_all (λ row. nat_lt 0 (length row.0)) rows) whole in
@@ -154,12 +162,14 @@ word-within line at h =
     let dark = dark-within line at h in
     omega (arith, prefix_len-le-length is_dark (drop (dark_from line at) line), length-drop (dark_from line at) line)
 
-name-within : (line : List ℕ) (name : Span) (d : Define) → name.from ≤ name.to → name.to ≤ length line → (n : Number) → record { name = name; number = n } ≡ d → (d.name.from ≤ d.name.to) × (d.name.to ≤ length line)
+name-within : (line : List ℕ) (name : Span) (d : Define) → name.from ≤ name.to → name.to ≤ length line → (n : Number)
+    → record { name = name; number = n } ≡ d → (d.name.from ≤ d.name.to) × (d.name.to ≤ length line)
 name-within line name d order ends n is =
     let family : Define → Type 0 = λ e. (e.name.from ≤ e.name.to) × (e.name.to ≤ length line) in
     subst family is (order, ends)
 
-defined-within : (line : List ℕ) (name : Span) (d : Define) (o : Option Number) → name.from ≤ name.to → name.to ≤ length line → option_map (λ n. record { name = name; number = n }) o ≡ Some d → (d.name.from ≤ d.name.to) × (d.name.to ≤ length line)
+defined-within : (line : List ℕ) (name : Span) (d : Define) (o : Option Number) → name.from ≤ name.to → name.to ≤ length line
+    → option_map (λ n. record { name = name; number = n }) o ≡ Some d → (d.name.from ≤ d.name.to) × (d.name.to ≤ length line)
 defined-within line name d None order ends e = no_some e
 defined-within line name d (Some n) order ends e = name-within line name d order ends n (some_is e)
 
@@ -182,7 +192,8 @@ define-fits here text line (Some d) some within inside e =
     let h = inside d refl in
     let named : IsNamedIn (what.Define d) text = (h.0, omega (arith, h.1, within)) in
     either (is_taken here (slice line d.name)) (λ taken none. no_ok none)
-    (λ new rest. either (nat_lt 64 (d.name.to - d.name.from)) (λ long none. no_ok none) (λ short is. piece-fits text (length line) (what.Define d) some within named is) rest) e
+    (λ new rest. either (nat_lt 64 (d.name.to - d.name.from)) (λ long none. no_ok none) (λ short is. piece-fits text (length line) (what.Define d)
+    some within named is) rest) e
 
 directive-fits : (here : Place) (text line : List ℕ) {p : Piece} → 0 < length line → length line ≤ length text → directive_piece here line ≡ Ok p → Fits p text
 directive-fits here text line some within e =
@@ -206,11 +217,15 @@ first-fits here (b ∷ bytes) p e =
     either (is_space b) (λ blank is. piece-fits text 1 what.Blank (omega arith) (omega arith) tt is) (λ dark e.
     either (opens_comment text) (λ opens is. comment-fits here b bytes (comment_size text) more refl is) (λ other e.
     either (eqb b 35 && here.fresh)
-    (λ directive is. directive-fits here text (take_while is_in_line text) (omega (arith, line, first-passes is_in_line b bytes (in_line b more))) (omega (arith, line, line_within)) is) (λ other e.
+    (λ directive is. directive-fits here text (take_while is_in_line text) (omega (arith, line, first-passes is_in_line b bytes (in_line b more)))
+    (omega (arith, line, line_within)) is) (λ other e.
     either (is_digit b)
-    (λ digit is. number-fits here text (length (take_while is_name_byte text)) (number_before (take_while is_name_byte text) (slice_get text (length (take_while is_name_byte text)))) (omega (arith, size, first-passes is_name_byte b bytes (digit_in_names b digit))) (omega (arith, size, size_within)) is) (λ other e.
+    (λ digit is. number-fits here text (length (take_while is_name_byte text)) (number_before (take_while is_name_byte text)
+    (slice_get text (length (take_while is_name_byte text)))) (omega (arith, size, first-passes is_name_byte b bytes (digit_in_names b digit)))
+    (omega (arith, size, size_within)) is) (λ other e.
     either (is_name_byte b)
-    (λ name is. name-fits here text (take_while is_name_byte text) (omega (arith, size, first-passes is_name_byte b bytes name)) (omega (arith, size, size_within)) is)
+    (λ name is. name-fits here text (take_while is_name_byte text) (omega (arith, size, first-passes is_name_byte b bytes name))
+    (omega (arith, size, size_within)) is)
     (λ other is. sign-fits here text signs refl is) e) e) e) e) e) e
 
 -- the sign of base 16 has two bytes

@@ -1,5 +1,6 @@
 -- The numbers of C: their forms, values and types (C11 6.4.4.1 and 6.4.8), with an int of 32 bits.
-use Rattle.std.specs.Prelude.{ℕ, ◌+◌, ◌-◌, ◌*◌, ◌^◌, List, [], ◌∷◌, take, drop, codes, length, slice_get, Bool, false, ◌&&◌, ◌||◌, nat_le, nat_lt, ◌==◌, if◌then◌else◌, Option, Some, None}
+use Rattle.std.specs.Prelude.{ℕ, ◌+◌, ◌-◌, ◌*◌, ◌^◌, List, [], ◌∷◌, take, drop, codes, length, slice_get, Bool, false, ◌&&◌, ◌||◌, nat_le, nat_lt}
+use Rattle.std.specs.Prelude.{◌==◌, if◌then◌else◌, Option, Some, None}
 use Rattle.std.specs.List.{prefix_len}
 use Rattle.vg_ctok.specs.Bytes.{is_digit, begins}
 use Rattle.vg_ctok.specs.Tables.{row_of, suffixes}

@@ -1,6 +1,7 @@
 -- What a C text begins with at a place: a token, or what stands between tokens, which is a blank, a comment or a directive
 -- (C11 6.4, paragraphs 3 and 4); or a fault.
-use Rattle.std.specs.Prelude.{ℕ, ◌+◌, ◌-◌, List, [], ◌∷◌, length, slice_get, Bool, ◌&&◌, ◌||◌, is_some, nat_lt, ◌==◌, if◌then◌else◌, Option, Some, None, Result, Ok, Err}
+use Rattle.std.specs.Prelude.{ℕ, ◌+◌, ◌-◌, List, [], ◌∷◌, length, slice_get, Bool, ◌&&◌, ◌||◌, is_some, nat_lt, ◌==◌, if◌then◌else◌, Option, Some}
+use Rattle.std.specs.Prelude.{None, Result, Ok, Err}
 use Rattle.std.specs.List.{take_while}
 use Rattle.vg_ctok.specs.Bytes.{is_digit, is_name_byte, is_space, is_in_line}
 use Rattle.vg_ctok.specs.Tables.{keywords, signs, row_of, row_at}

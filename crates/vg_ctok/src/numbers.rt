@@ -1,7 +1,8 @@
 //! Numbers: the values and types of words (C11 6.4.4.1).
 ghost use Rattle.std.specs.Prelude.{◌≡◌, ◌<◌, ◌≤◌, ◌^◌, length, nat_lt, if◌then◌else◌};
 ghost use Rattle.std.specs.List.{prefix_len};
-ghost use Rattle.vg_ctok.specs.Numbers.{digit_of, is_digit_in, value_on, base_of, behind_base, types_of, limit_of, first_typed, typed, number_of, is_exponent, is_plus_or_minus, takes_sign, number_before};
+ghost use Rattle.vg_ctok.specs.Numbers.{digit_of, is_digit_in, value_on, base_of, behind_base, types_of, limit_of, first_typed, typed, number_of};
+ghost use Rattle.vg_ctok.specs.Numbers.{is_exponent, is_plus_or_minus, takes_sign, number_before};
 
 use crate::bytes::is_digit;
 use crate::kinds::{Number, NumberType};

@@ -3,7 +3,8 @@ ghost use Rattle.std.specs.Prelude.{◌≡◌, ◌≤◌, ◌<◌, ◌+◌, ◌^
 ghost use Rattle.vg_ctok.specs.Tables.{keywords, signs, row_of, row_at};
 ghost use Rattle.vg_ctok.specs.Numbers.{number_before};
 ghost use Rattle.vg_ctok.specs.Comments.{comment_size};
-ghost use Rattle.vg_ctok.specs.Pieces.{first_piece, comment_piece, number_piece, name_kind, name_piece, sign_piece, token_piece, define_piece, directive_piece, is_taken};
+ghost use Rattle.vg_ctok.specs.Pieces.{first_piece, comment_piece, number_piece, name_kind, name_piece, sign_piece, token_piece, define_piece};
+ghost use Rattle.vg_ctok.specs.Pieces.{directive_piece, is_taken};
 ghost use Rattle.vg_ctok.specs.Reader.{place, Gives};
 
 use crate::bytes::{is_digit, is_name_byte, is_space, line_len, name_len};

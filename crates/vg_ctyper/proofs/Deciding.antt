@@ -33,22 +33,26 @@ module _ (text : List ℕ) (tree : Syntax) where
   well_typed ordered used (Ok u) h = is_well_typed text tree ordered used u h
   well_typed ordered used (Err e) h = tt
 
-  pub first_fault : (r : Result Typed TypeFault) → IfErr r (λ e. (e ≡ type_faults.Memory) ⊎ (typed text tree ≡ Err e)) → IfErr r (λ e. (e ≡ type_faults.Memory) ⊎ IsFirstFault text tree e)
+  pub first_fault : (r : Result Typed TypeFault) → IfErr r (λ e. (e ≡ type_faults.Memory) ⊎ (typed text tree ≡ Err e))
+      → IfErr r (λ e. (e ≡ type_faults.Memory) ⊎ IsFirstFault text tree e)
   first_fault (Ok u) h = tt
   first_fault (Err e) (inl none) = inl none
   first_fault (Err e) (inr is) = inr (is_first_fault text tree e is)
 
   pub only_typed : (r : Result Typed TypeFault) → IfOk r (λ u. typed text tree ≡ Ok u) → IfErr r (λ e. (e ≡ type_faults.Memory) ⊎ (typed text tree ≡ Err e))
       → (ns : List Note) → IsWellTyped (record { text = text; tree = tree; notes = ns }) → MatchResult r (λ u. u.notes ≡ ns) (λ e. e ≡ type_faults.Memory)
-  only_typed (Ok u) h i ns is = ap (λ (v : Typed). v.notes) (same_ok (typed text tree) u (record { text = text; tree = tree; notes = ns }) h (typed_so text tree ns is))
+  only_typed (Ok u) h i ns is = ap (λ (v : Typed). v.notes) (same_ok (typed text tree) u (record { text = text; tree = tree; notes = ns }) h
+      (typed_so text tree ns is))
   only_typed (Err e) h (inl none) ns is = none
-  only_typed (Err e) h (inr fault) ns is = absurd (never_both (typed text tree) (record { text = text; tree = tree; notes = ns }) e (typed_so text tree ns is) fault)
+  only_typed (Err e) h (inr fault) ns is =
+      absurd (never_both (typed text tree) (record { text = text; tree = tree; notes = ns }) e (typed_so text tree ns is) fault)
 
   pub only_fault : (r : Result Typed TypeFault) → IfOk r (λ u. typed text tree ≡ Ok u) → IfErr r (λ e. (e ≡ type_faults.Memory) ⊎ (typed text tree ≡ Err e))
       → (f : TypeFault) → IsFirstFault text tree f → MatchResult r (λ u. ⊥) (λ e. (e ≡ type_faults.Memory) ⊎ (e ≡ f))
   only_fault (Ok u) h i f is = let other = refused_so text tree f is in never_both (typed text tree) u other.0 h other.1
   only_fault (Err e) h (inl none) f is = inl none
-  only_fault (Err e) h (inr fault) f is = let other = refused_so text tree f is in inr (same_err (typed text tree) e other.0 fault other.1 ∙ rank_tells other.0 f other.2)
+  only_fault (Err e) h (inr fault) f is = let other = refused_so text tree f is in inr (same_err (typed text tree) e other.0 fault other.1
+      ∙ rank_tells other.0 f other.2)
 
   pub notes_one : (ms ns : List Note) → AreNotes text tree ms → AreNotes text tree ns → ms ≡ ns
   notes_one ms ns one two = notes_are text tree ms one ∙ sym (notes_are text tree ns two)

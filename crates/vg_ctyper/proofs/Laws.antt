@@ -1,5 +1,6 @@
 -- What typing gives, node by node.
-use Rattle.std.proofs.Common.{◌≡◌, ℕ, zero, suc, ◌+◌, ◌<◌, ◌≤◌, List, [], ◌∷◌, ◌++◌, length, take, slice_get, false, Option, Some, None, Ok, Err, refl, sym, ap, subst, ◌∙◌, add-one, arith, inl, inr}
+use Rattle.std.proofs.Common.{◌≡◌, ℕ, zero, suc, ◌+◌, ◌<◌, ◌≤◌, List, [], ◌∷◌, ◌++◌, length, take, slice_get, false, Option, Some, None, Ok, Err}
+use Rattle.std.proofs.Common.{refl, sym, ap, subst, ◌∙◌, add-one, arith, inl, inr}
 use Rattle.std.specs.Prelude.{◌⊎◌}
 use Rattle.std.proofs.Math.Seq.{take-length}
 use Rattle.vg_core.specs.Syntax.{Syntax, IsOrdered, IsUsedOnce}
@@ -30,7 +31,8 @@ or_else_none a b e = grind arith
 or_else_some : (a b : Option TypeFault) (f : TypeFault) → or_else a b ≡ Some f → (a ≡ Some f) ⊎ ((a ≡ None) × (b ≡ Some f))
 or_else_some a b f e = grind arith
 
-judged_ok : (text : List ℕ) (tree : Syntax) (notes : List Note) (o : Option TypeFault) (u : Typed) → judged text tree notes o ≡ Ok u → (o ≡ None) × (record { text = text; tree = tree; notes = notes } ≡ u)
+judged_ok : (text : List ℕ) (tree : Syntax) (notes : List Note) (o : Option TypeFault) (u : Typed) → judged text tree notes o ≡ Ok u → (o ≡ None)
+    × (record { text = text; tree = tree; notes = notes } ≡ u)
 judged_ok text tree notes o u e = grind arith
 
 judged_err : (text : List ℕ) (tree : Syntax) (notes : List Note) (o : Option TypeFault) (f : TypeFault) → judged text tree notes o ≡ Err f → o ≡ Some f
@@ -89,7 +91,8 @@ module _ (text : List ℕ) (tree : Syntax) where
         let k : n ≤ length tree.nodes = omega arith in
         note_at (length tree.nodes) n h
         ∙ ap (λ f. Some (note_unless f (note_of (known n) n (kind_at tree n)))) (sym (broken_is (length tree.nodes) n k))
-        ∙ ap (λ ns. Some (note_unless (broken_at text tree (notes (length tree.nodes)) n) (note_of (known_behind text tree (standings_of tree) ns) n (kind_at tree n))))
+        ∙ ap (λ ns. Some (note_unless (broken_at text tree (notes (length tree.nodes)) n) (note_of (known_behind text tree (standings_of tree) ns) n
+        (kind_at tree n))))
         (sym (first_notes (length tree.nodes) n k));
   }
 
@@ -142,7 +145,8 @@ module _ (text : List ℕ) (tree : Syntax) where
 
   pub is_well_typed : IsOrdered tree → IsUsedOnce tree → (u : Typed) → typed text tree ≡ Ok u → IsWellTyped u
   is_well_typed ordered used u e =
-      let both : (or_whole tree (behind last) ≡ None) × (record { text = text; tree = tree; notes = notes last } ≡ u) = judged_ok text tree (notes last) (or_whole tree (behind last)) u e in
+      let both : (or_whole tree (behind last) ≡ None) × (record { text = text; tree = tree; notes = notes last } ≡ u) =
+      judged_ok text tree (notes last) (or_whole tree (behind last)) u e in
       subst IsWellTyped both.1 (sound ordered used both.0)
 
   pub is_first_fault : (f : TypeFault) → typed text tree ≡ Err f → IsFirstFault text tree f
@@ -170,7 +174,8 @@ module _ (text : List ℕ) (tree : Syntax) where
         let k : n ≤ length tree.nodes = omega arith in
         let before = known_same n k in
         let breaks : broken_at text tree ns n ≡ fault n =
-        ap (λ b. broken (known_at text tree ns n) b n) before.1 ∙ ap (λ ms. broken (known_behind text tree (standings_of tree) ms) (behind n).locals n) before.0 in
+        ap (λ b. broken (known_at text tree ns n) b n) before.1
+        ∙ ap (λ ms. broken (known_behind text tree (standings_of tree) ms) (behind n).locals n) before.0 in
         let note : slice_get ns n ≡ Some (noted n) =
         are.each n l ∙ ap (λ f. Some (note_unless f (note_of (known_at text tree ns n) n (kind_at tree n)))) breaks
         ∙ ap (λ ms. Some (note_unless (fault n) (note_of (known_behind text tree (standings_of tree) ms) n (kind_at tree n)))) before.0 in (
@@ -190,10 +195,12 @@ module _ (text : List ℕ) (tree : Syntax) where
   ]
 
   unbroken : (ns : List Note) → AreNotes text tree ns → ((n : ℕ) → n < length tree.nodes → broken_at text tree ns n ≡ None) → (behind last).first ≡ None
-  unbroken ns are h = none_or_some (λ n l. let k : n ≤ last = omega arith in sym (broken_is last n k) ∙ ap (λ ms. broken_at text tree ms n) (sym (notes_are ns are)) ∙ h n l)
+  unbroken ns are h = none_or_some (λ n l. let k : n ≤ last = omega arith in sym (broken_is last n k)
+      ∙ ap (λ ms. broken_at text tree ms n) (sym (notes_are ns are)) ∙ h n l)
 
   -- a text that is well typed is typed so
-  pub typed_so : (ns : List Note) → IsWellTyped (record { text = text; tree = tree; notes = ns }) → typed text tree ≡ Ok (record { text = text; tree = tree; notes = ns })
+  pub typed_so : (ns : List Note) → IsWellTyped (record { text = text; tree = tree; notes = ns })
+      → typed text tree ≡ Ok (record { text = text; tree = tree; notes = ns })
   typed_so ns is =
       let same : ns ≡ notes last = notes_are ns is.notes in
       let whole : whole_fault tree (notes last) ≡ None = ap (whole_fault tree) (sym same) ∙ is.short in
@@ -201,13 +208,15 @@ module _ (text : List ℕ) (tree : Syntax) where
       ap (judged text tree (notes last)) none ∙ ap (λ ms. Ok (record { text = text; tree = tree; notes = ms })) (sym same)
 
   -- a text that has a first fault is refused for it
-  refused_first : (ns : List Note) → AreNotes text tree ns → (f : TypeFault) → IsFirstBroken text tree ns f → (e : TypeFault) × (typed text tree ≡ Err e) × (rank e ≡ rank f)
+  refused_first : (ns : List Note) → AreNotes text tree ns → (f : TypeFault) → IsFirstBroken text tree ns f → (e : TypeFault)
+      × (typed text tree ≡ Err e) × (rank e ≡ rank f)
   refused_first ns are f is =
       let same : ns ≡ notes last = notes_are ns are in
       let breaks : (n : ℕ) (g : TypeFault) → n < last → fault n ≡ Some g → broken_at text tree ns n ≡ Some g =
       λ n g l e. let k : n ≤ last = omega arith in ap (λ ms. broken_at text tree ms n) same ∙ broken_is last n k ∙ e in
       let within : is.node < last = is.within in
-      let here : fault is.node ≡ Some f = let k : is.node ≤ last = omega arith in sym (broken_is last is.node k) ∙ ap (λ ms. broken_at text tree ms is.node) (sym same) ∙ is.is in
+      let here : fault is.node ≡ Some f = let k : is.node ≤ last = omega arith in sym (broken_is last is.node k)
+      ∙ ap (λ ms. broken_at text tree ms is.node) (sym same) ∙ is.is in
       elim (either_some (behind last).first) [
         | inl none ↦ absurd (no_some f (sym (none_before last is.node none within) ∙ here))
         | inr some ↦

@@ -1,5 +1,6 @@
 -- A type that a note has takes at most 65,536 bytes.
-use Rattle.std.proofs.Common.{◌≡◌, ℕ, zero, suc, ◌+◌, ◌*◌, ◌/◌, ◌<◌, ◌≤◌, Bool, true, false, List, [], ◌∷◌, length, take, slice_get, Option, Some, None, if◌then◌else◌, refl, sym, ap, subst, ◌∙◌, arith, inl, inr}
+use Rattle.std.proofs.Common.{◌≡◌, ℕ, zero, suc, ◌+◌, ◌*◌, ◌/◌, ◌<◌, ◌≤◌, Bool, true, false, List, [], ◌∷◌, length, take, slice_get, Option, Some}
+use Rattle.std.proofs.Common.{None, if◌then◌else◌, refl, sym, ap, subst, ◌∙◌, arith, inl, inr}
 use Rattle.std.specs.Prelude.{nat_le}
 use Rattle.std.proofs.lemmas.Option.{slice_get_within}
 use Rattle.vg_core.specs.Syntax.{Syntax, listed}
@@ -29,7 +30,9 @@ use Rattle.vg_ctyper.specs.declared.fault.TypeFault.{TypeFault}
 use Rattle.vg_cscope.specs.declared.names.Wanted.TheVariants as wanted
 use Rattle.vg_cscope.specs.Scopes.{kind_at}
 use Rattle.vg_ctyper.specs.Names.{Known, found, callee}
-use Rattle.vg_ctyper.specs.Types.{◌>>=◌, noted, type_at, of_integer, as_integer, of_target, pointee, pointed, address, integer_at, laid_out, base_target, length_at, array_of, is_small, if_small, object_type, declared_type, answer_type, type_declared, type_of_referent, cast_type, referent, unary_type, expression_type}
+use Rattle.vg_ctyper.specs.Types.{◌>>=◌, noted, type_at, of_integer, as_integer, of_target, pointee, pointed, address, integer_at, laid_out}
+use Rattle.vg_ctyper.specs.Types.{base_target, length_at, array_of, is_small, if_small, object_type, declared_type, answer_type, type_declared}
+use Rattle.vg_ctyper.specs.Types.{type_of_referent, cast_type, referent, unary_type, expression_type}
 use Rattle.vg_ctyper.specs.Fields.{layout_at, fields_before}
 use Rattle.vg_ctyper.specs.DeclarationRules.{last_of}
 use Rattle.vg_ctyper.specs.Notes.{laid, behind_field, whole_struct, node_layout, or_else, node_type, note_of, note_unless}
@@ -63,7 +66,8 @@ every_at : {A : Type 0} (P : A → Type 0) (o : Option A) (x : A) → Every P o 
 every_at P None x h e = absurd (cc e)
 every_at P (Some y) x h e = subst P (cc e) h
 
-noted_every : {A : Type 0} (P : A → Type 0) (field : Note → Option A) (o : Option Note) → ((note : Note) → o ≡ Some note → Every P (field note)) → Every P (noted field o)
+noted_every : {A : Type 0} (P : A → Type 0) (field : Note → Option A) (o : Option Note) → ((note : Note) → o ≡ Some note → Every P (field note))
+    → Every P (noted field o)
 noted_every P field None h = tt
 noted_every P field (Some note) h = h note refl
 
@@ -219,7 +223,8 @@ module _ (notes : List Note) where
       (h, (tt, (tt, (h, (tt, (tt, (h, (h, (h, (tt, (tt, (h, (tt, (tt, (h, tt)))))))))))))))
 
   -- at a node: the notes before it are among all notes, and are good
-  module _ (k : Known) (agree : (i : ℕ) (note : Note) → slice_get k.notes i ≡ Some note → slice_get notes i ≡ Some note) (good : (i : ℕ) (note : Note) → slice_get k.notes i ≡ Some note → Every Good note.of) where
+  module _ (k : Known) (agree : (i : ℕ) (note : Note) → slice_get k.notes i ≡ Some note → slice_get notes i ≡ Some note)
+      (good : (i : ℕ) (note : Note) → slice_get k.notes i ≡ Some note → Every Good note.of) where
     type_good : (n : ℕ) → Every Good (type_at k n)
     type_good n = noted_every Good (λ note. note.of) (slice_get k.notes n) (good n)
 
@@ -254,7 +259,8 @@ module _ (notes : List Note) where
 
     declared_good : (n : ℕ) (base : Base) (pointer : Bool) (count : Option ℕ) → Every Good (declared_type k n base pointer count)
     declared_good n base pointer count =
-        through Placed Good (base_target k n base) (λ target. object_type k pointer target count) (base_placed n base) (λ target p. object_good pointer target count p)
+        through Placed Good (base_target k n base) (λ target. object_type k pointer target count) (base_placed n base)
+        (λ target p. object_good pointer target count p)
 
     type_declared_good : (n : ℕ) (kind : Kind) → Every Good (type_declared k n kind)
     type_declared_good n (nodes.Declare base pointer name count value) = declared_good n base pointer count
@@ -297,11 +303,13 @@ module _ (notes : List Note) where
     pointee_at_good : (n : ℕ) → Every GoodTarget (type_at k n >>= pointee)
     pointee_at_good n = through Good GoodTarget (type_at k n) pointee (type_good n) pointee_good
 
-    plain_good : (operand : ℕ) (f : Integer → Integer) → ((t : Integer) → Narrow t → Narrow (f t)) → Every Good (integer_at k operand >>= λ t. Some (of_integer (f t)))
+    plain_good : (operand : ℕ) (f : Integer → Integer) → ((t : Integer) → Narrow t → Narrow (f t))
+        → Every Good (integer_at k operand >>= λ t. Some (of_integer (f t)))
     plain_good operand f h = through Narrow Good (integer_at k operand) (λ t. Some (of_integer (f t))) (integer_at_narrow operand) h
 
     unary_good : (op : UnaryOp) (operand : ℕ) → Every Good (unary_type k op operand)
-    unary_good unary.Load operand = through GoodTarget Good (type_at k operand >>= pointee) (λ target. Some (of_target target)) (pointee_at_good operand) target_good
+    unary_good unary.Load operand = through GoodTarget Good (type_at k operand >>= pointee) (λ target. Some (of_target target))
+        (pointee_at_good operand) target_good
     unary_good unary.Address operand = through Good Good (type_at k operand) address (type_good operand) address_good
     unary_good unary.Not operand = plain_good operand (λ _. int) (λ _ _. int_narrow)
     unary_good unary.Negate operand = plain_good operand promoted promoted_narrow
@@ -409,7 +417,8 @@ take_get (suc n) (y ∷ ys) (suc i) x e =
     (r.0, omega arith)
 
 module _ (text : List ℕ) (tree : Syntax) (notes : List Note) (are : AreNotes text tree notes) where
-  is_note : (n : ℕ) (note : Note) → slice_get notes n ≡ Some note → note_unless (broken_at text tree notes n) (note_of (known_at text tree notes n) n (kind_at tree n)) ≡ note
+  is_note : (n : ℕ) (note : Note) → slice_get notes n ≡ Some note → note_unless (broken_at text tree notes n)
+      (note_of (known_at text tree notes n) n (kind_at tree n)) ≡ note
   is_note n note e =
       let l : n < length notes = slice_get_within notes n note e in
       let c : length notes ≡ length tree.nodes = are.count in
@@ -419,9 +428,11 @@ module _ (text : List ℕ) (tree : Syntax) (notes : List Note) (are : AreNotes t
   layouts_small : (n : ℕ) (note : Note) → slice_get notes n ≡ Some note → Every Small note.layout
   layouts_small n note e =
       subst (λ (x : Note). Every Small x.layout) (is_note n note e)
-      (unless_small (broken_at text tree notes n) (note_of (known_at text tree notes n) n (kind_at tree n)) (layout_small (known_at text tree notes n) n (kind_at tree n)))
+      (unless_small (broken_at text tree notes n) (note_of (known_at text tree notes n) n (kind_at tree n))
+      (layout_small (known_at text tree notes n) n (kind_at tree n)))
 
-  good_next : (m : ℕ) → ((i : ℕ) (note : Note) → i < m → slice_get notes i ≡ Some note → Every (Good notes) note.of) → (note : Note) → slice_get notes m ≡ Some note → Every (Good notes) note.of
+  good_next : (m : ℕ) → ((i : ℕ) (note : Note) → i < m → slice_get notes i ≡ Some note → Every (Good notes) note.of) → (note : Note)
+      → slice_get notes m ≡ Some note → Every (Good notes) note.of
   good_next m before note e =
       subst (λ (x : Note). Every (Good notes) x.of) (is_note m note e)
       (unless_good notes (broken_at text tree notes m) (note_of (known_at text tree notes m) m (kind_at tree m))

@@ -1,5 +1,6 @@
 -- The rules that declarations and the whole text meet (C11 6.7, 6.9, in the profile).
-use Rattle.std.specs.Prelude.{ℕ, ◌+◌, ◌-◌, ◌%◌, nat_le, nat_lt, nat_eq, max, List, [], ◌∷◌, codes, length, slice_get, Bool, true, false, not, ◌&&◌, ◌||◌, is_some, is_none, Option, Some, None, if◌then◌else◌}
+use Rattle.std.specs.Prelude.{ℕ, ◌+◌, ◌-◌, ◌%◌, nat_le, nat_lt, nat_eq, max, List, [], ◌∷◌, codes, length, slice_get, Bool, true, false, not, ◌&&◌}
+use Rattle.std.specs.Prelude.{◌||◌, is_some, is_none, Option, Some, None, if◌then◌else◌}
 use Rattle.vg_core.specs.Syntax.{listed}
 use Rattle.vg_core.specs.Layouts.{layout}
 use Rattle.vg_core.specs.Library.{row_named}

@@ -49,7 +49,8 @@ base_fault k n (bases.Struct at tag) = if is_before k (found k (wanted.Tag tag) 
 -- `?:` takes integers (C11 6.5.15)
 abbrev pub choose_fault : Known → (condition one other : ℕ) → Option TypeFault
 choose_fault k condition one other =
-    sooner (wants k condition demands.Integer rules.Conditional) (sooner (wants k one demands.Integer rules.Conditional) (wants k other demands.Integer rules.Conditional))
+    sooner (wants k condition demands.Integer rules.Conditional) (sooner (wants k one demands.Integer rules.Conditional)
+    (wants k other demands.Integer rules.Conditional))
 
 -- by which rule the operands of an operator are integers: those of shifts, comparisons and logic, and those of arithmetic (C11 6.5.5 to 6.5.14)
 abbrev pub operand_rule : BinaryOp → Rule

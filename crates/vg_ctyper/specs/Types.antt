@@ -1,5 +1,6 @@
 -- The types of declarations and expressions, and the values of constant expressions (C11 6.3, 6.5, 6.6, 6.7), each by those of the parts.
-use Rattle.std.specs.Prelude.{ℕ, ◌^◌, [], ◌∷◌, nat_le, nat_lt, List, slice_get, Bool, true, false, ◌&&◌, is_some, Option, Some, None, Result, Ok, Err, if◌then◌else◌}
+use Rattle.std.specs.Prelude.{ℕ, ◌^◌, [], ◌∷◌, nat_le, nat_lt, List, slice_get, Bool, true, false, ◌&&◌, is_some, Option, Some, None, Result, Ok, Err}
+use Rattle.std.specs.Prelude.{if◌then◌else◌}
 use Rattle.vg_core.specs.Syntax.{listed}
 use Rattle.vg_core.specs.Layouts.{layout}
 use Rattle.vg_core.specs.Library.{answer_of}

@@ -52,4 +52,5 @@ pub record IsFirstBroken (text : List ℕ) (tree : Syntax) (notes : List Note) (
 pub record IsFirstFault (text : List ℕ) (tree : Syntax) (fault : TypeFault) : Type 0 where
   pub notes : List Note
   pub are_notes : AreNotes text tree notes
-  pub cause : IsFirstBroken text tree notes fault ⊎ (((n : ℕ) → n < length tree.nodes → broken_at text tree notes n ≡ None) × (whole_fault tree notes ≡ Some fault))
+  pub cause : IsFirstBroken text tree notes fault ⊎ (((n : ℕ) → n < length tree.nodes → broken_at text tree notes n ≡ None)
+      × (whole_fault tree notes ≡ Some fault))

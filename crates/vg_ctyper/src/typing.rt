@@ -40,7 +40,8 @@ pub fn type_unit(alloc: Global, text: &[u8], tree: Tree) -> Result<Unit, TypeFau
     ensures tree { IfOk result (λ u. u.tree ≡ tree) }
     ensures typed { IsOrdered tree → IsUsedOnce tree → IfOk result (λ u. IsWellTyped u) }
     ensures fault { IfErr result (λ e. (e ≡ type_faults.Memory) ⊎ IsFirstFault text.now tree e) }
-    ensures only_typed { (ns : List Note) → IsWellTyped (record { text = text.now; tree = tree; notes = ns }) → MatchResult result (λ u. u.notes ≡ ns) (λ e. e ≡ type_faults.Memory) }
+    ensures only_typed { (ns : List Note) → IsWellTyped (record { text = text.now; tree = tree; notes = ns })
+        → MatchResult result (λ u. u.notes ≡ ns) (λ e. e ≡ type_faults.Memory) }
     ensures only_fault { (f : TypeFault) → IsFirstFault text.now tree f → MatchResult result (λ _. ⊥) (λ e. (e ≡ type_faults.Memory) ⊎ (e ≡ f)) }
 {
     typed(alloc, text, tree)
@@ -82,7 +83,8 @@ fn progress_of(alloc: Global, text: &[u8], tree: &Tree) -> Result<Progress, Allo
 
 /// Notes on all nodes, and the first fault.
 fn type_nodes(alloc: Global, scopes: &Scopes) -> Result<Progress, AllocError>
-    ensures { IfOk result (λ p. seen p ≡ passes.typed_below scopes.now.text.now scopes.now.tree.now scopes.now.standings.items (length scopes.now.tree.now.nodes)) }
+    ensures { IfOk result (λ p. seen p ≡ passes.typed_below scopes.now.text.now scopes.now.tree.now scopes.now.standings.items
+        (length scopes.now.tree.now.nodes)) }
 {
     let mut progress = Progress {
         notes: Vec::new(alloc),
@@ -97,7 +99,8 @@ fn type_nodes(alloc: Global, scopes: &Scopes) -> Result<Progress, AllocError>
 
 /// One node further.
 fn type_node(scopes: &Scopes, progress: &mut Progress, n: u32) -> Result<(), AllocError>
-    ensures { OnOk result (seen progress.new ≡ passes.node_typed (passes.known_behind scopes.now.text.now scopes.now.tree.now scopes.now.standings.items progress.old.notes.items) n (seen progress.old)) }
+    ensures { OnOk result (seen progress.new ≡ passes.node_typed (passes.known_behind scopes.now.text.now scopes.now.tree.now
+        scopes.now.standings.items progress.old.notes.items) n (seen progress.old)) }
 {
     let given = Given {
         scopes,

@@ -1,5 +1,6 @@
 -- Each node gives words of their types, where its parts do.
-use Rattle.std.proofs.Common.{◌≡◌, ℕ, zero, suc, Bool, true, false, if◌then◌else◌, nat_eq, nat_le, List, [], ◌∷◌, ◌++◌, length, Option, Some, None, refl, sym, subst}
+use Rattle.std.proofs.Common.{◌≡◌, ℕ, zero, suc, Bool, true, false, if◌then◌else◌, nat_eq, nat_le, List, [], ◌∷◌, ◌++◌, length, Option, Some, None}
+use Rattle.std.proofs.Common.{refl, sym, subst}
 use Rattle.vg_core.specs.Units.{Typed}
 use Rattle.vg_core.specs.Syntax.{listed}
 use Rattle.vg_core.specs.declared.tree.BinaryOp.{BinaryOp}
@@ -24,13 +25,18 @@ use Rattle.vg_cmean.specs.Typings.{kind_at, place_at, type_at, constant_at, refe
 use Rattle.vg_cmean.specs.Values.{read, write, binary, unary, as_type, is_true, of_bool}
 use Rattle.vg_cmean.specs.Places.{lvalue_at, declared, named, indexed, element, member, pointed_to, address}
 use Rattle.vg_cmean.specs.Meaning as meaning
-use Rattle.vg_cmean.specs.Meaning.{Meaning, Parts_mean, nothing, of_node, meaning_below, value, is_truth, both, either, operated, operation, before_operand, chosen, choice, indexed_by, index_of, parameter, given, function_called, call_of, answer_as, closing, end_of, frame_call, frame_row, library_row, most_arguments, call, expression, statement, declaration, run_all, updated, assignment, one, stepped, branch, taken, branched, returned, counted, turn, turns, most_turns, is_below, next_of, loop_of, first_of, constant, step_of}
+use Rattle.vg_cmean.specs.Meaning.{Meaning, Parts_mean, nothing, of_node, meaning_below, value, is_truth, both, either, operated, operation}
+use Rattle.vg_cmean.specs.Meaning.{before_operand, chosen, choice, indexed_by, index_of, parameter, given, function_called, call_of, answer_as}
+use Rattle.vg_cmean.specs.Meaning.{closing, end_of, frame_call, frame_row, library_row, most_arguments, call, expression, statement, declaration}
+use Rattle.vg_cmean.specs.Meaning.{run_all, updated, assignment, one, stepped, branch, taken, branched, returned, counted, turn, turns, most_turns}
+use Rattle.vg_cmean.specs.Meaning.{is_below, next_of, loop_of, first_of, constant, step_of}
 use Rattle.vg_cmean.specs.Runs as runs
 use Rattle.vg_cmean.specs.Runs.{run, run_at, run_of, process_of, sizes_in, start, unsigned}
 use Rattle.vg_cmean.proofs.Below.{meaning_is}
 use Rattle.vg_cwidths.specs.Widths.{HasBytes, IsWordIfInteger, Fits, NodesFit, RunsFit}
 use Rattle.vg_cwidths.proofs.Octets.{declared_bytes, rest_bytes}
-use Rattle.vg_cwidths.proofs.Operations.{bind_fits, after_fits, if_fits, tick_bytes, closing_fits, number_fits, as_type_fits, bool_fits, binary_fits, unary_fits, read_fits, write_fits, address_fits, indexed_fits, element_fits, answer_fits, frame_row_fits}
+use Rattle.vg_cwidths.proofs.Operations.{bind_fits, after_fits, if_fits, tick_bytes, closing_fits, number_fits, as_type_fits, bool_fits, binary_fits}
+use Rattle.vg_cwidths.proofs.Operations.{unary_fits, read_fits, write_fits, address_fits, indexed_fits, element_fits, answer_fits, frame_row_fits}
 
 pub record MeansWords (m : Meaning) : Type 0 where
   pub gives : (s : State) → HasBytes s → Fits (m.gives s)
@@ -88,7 +94,8 @@ chosen_fits type one other d s w v h =
 indexed_by_fits : (u : Typed) (part : Parts_mean) (n array index : ℕ) (d : Datum) (s : State) → AllMeanWords part → IsWordIfInteger d → HasBytes s →
     Fits (indexed_by u part n array index d s)
 indexed_by_fits u part n array index d s w v h =
-    bind_fits (indexed d s) (λ a t. and_then (value (part index) t) (element (element_size u (type_at u array)) (type_at u n) (place_at u n) (place_at u index) a))
+    bind_fits (indexed d s) (λ a t. and_then (value (part index) t) (element (element_size u (type_at u array)) (type_at u n) (place_at u n)
+    (place_at u index) a))
     (indexed_fits d s v h)
     (λ a t x k. then_fits (part index) t (element (element_size u (type_at u array)) (type_at u n) (place_at u n) (place_at u index) a) (w index) k
     (λ i y z l. element_fits (element_size u (type_at u array)) (type_at u n) (place_at u n) (place_at u index) a i y l))
@@ -105,29 +112,36 @@ given_fits u part (a ∷ more) (p ∷ ps) s w h =
     then_fits (part a) s (λ d t. after (given u part more ps t) (parameter u p d)) (w a) h
     (λ d t v k. after_fits (given u part more ps t) (parameter u p d) (given_fits u part more ps t w k) (λ x l. parameter_fits u p d x l))
 
-called_fits : (u : Typed) (part : Parts_mean) (arguments : List ℕ) (answer : Option IntType) (params : List ℕ) (body : ℕ) (s : State) → AllMeanWords part → HasBytes s →
+called_fits : (u : Typed) (part : Parts_mean) (arguments : List ℕ) (answer : Option IntType) (params : List ℕ) (body : ℕ) (s : State)
+    → AllMeanWords part → HasBytes s →
     Fits (function_called u part arguments answer params body s)
 called_fits u part arguments answer params body s w h =
     after_fits (given u part arguments params s) (λ t. answer_as answer (end_of (kind_at u body)) (closing params ((part body).does t)))
     (given_fits u part arguments params s w h)
     (λ t k. answer_fits answer (end_of (kind_at u body)) (closing params ((part body).does t)) (closing_fits params ((part body).does t) ((w body).does t k)))
 
-call_of_fits : (u : Typed) (part : Parts_mean) (arguments : List ℕ) (kind : Kind) (s : State) → AllMeanWords part → HasBytes s → Fits (call_of u part arguments kind s)
-call_of_fits u part arguments (nodes.Function is_static is_inline answer name params body) s w h = called_fits u part arguments answer (listed u.tree.items params) body s w h
+call_of_fits : (u : Typed) (part : Parts_mean) (arguments : List ℕ) (kind : Kind) (s : State) → AllMeanWords part → HasBytes s
+    → Fits (call_of u part arguments kind s)
+call_of_fits u part arguments (nodes.Function is_static is_inline answer name params body) s w h =
+    called_fits u part arguments answer (listed u.tree.items params) body s w h
 call_of_fits u part arguments kind s w h = (tt, h)
 
 frame_call_fits : (part : Parts_mean) (row : FrameCall) (at : ℕ) (before : List Datum) (arguments : List ℕ) (s : State) → AllMeanWords part → HasBytes s →
     Fits (frame_call part row at before arguments s)
 frame_call_fits part row at before [] s w h = frame_row_fits row at before (tick s) (tick_bytes s h)
 frame_call_fits part row at before (a ∷ more) s w h =
-    then_fits (part a) s (λ d t. frame_call part row at (before ++ d ∷ []) more t) (w a) h (λ d t v k. frame_call_fits part row at (before ++ d ∷ []) more t w k)
+    then_fits (part a) s (λ d t. frame_call part row at (before ++ d ∷ []) more t) (w a) h
+    (λ d t v k. frame_call_fits part row at (before ++ d ∷ []) more t w k)
 
-library_fits : (part : Parts_mean) (row : Option FrameCall) (at : ℕ) (arguments : List ℕ) (s : State) → AllMeanWords part → HasBytes s → Fits (library_row part row at arguments s)
+library_fits : (part : Parts_mean) (row : Option FrameCall) (at : ℕ) (arguments : List ℕ) (s : State) → AllMeanWords part → HasBytes s
+    → Fits (library_row part row at arguments s)
 library_fits part None at arguments s w h = (tt, h)
 library_fits part (Some row) at arguments s w h =
-    if_fits (nat_le (length arguments) most_arguments) (frame_call part row at [] arguments s) (Gives data_of.Nothing s) (frame_call_fits part row at [] arguments s w h) (tt, h)
+    if_fits (nat_le (length arguments) most_arguments) (frame_call part row at [] arguments s) (Gives data_of.Nothing s)
+    (frame_call_fits part row at [] arguments s w h) (tt, h)
 
-call_fits : (u : Typed) (part : Parts_mean) (at : ℕ) (arguments : List ℕ) (r : Option Referent) (s : State) → AllMeanWords part → HasBytes s → Fits (call u part at arguments r s)
+call_fits : (u : Typed) (part : Parts_mean) (at : ℕ) (arguments : List ℕ) (r : Option Referent) (s : State) → AllMeanWords part → HasBytes s
+    → Fits (call u part at arguments r s)
 call_fits u part at arguments None s w h = (tt, h)
 call_fits u part at arguments (Some (referents.Declared f)) s w h = call_of_fits u part arguments (kind_at u f) s w h
 call_fits u part at arguments (Some (referents.Library row)) s w h = library_fits part (call_in_row row) at arguments s w h
@@ -166,7 +180,8 @@ run_all_fits : (part : Parts_mean) (ns : List ℕ) (s : State) → AllMeanWords 
 run_all_fits part [] s w h = h
 run_all_fits part (n ∷ ns) s w h = after_fits ((part n).does s) (run_all part ns) ((w n).does s h) (λ t k. run_all_fits part ns t w k)
 
-updated_fits : (op : Option BinaryOp) (at : ℕ) (m : Meaning) (d : Datum) (s : State) → MeansWords m → IsWordIfInteger d → HasBytes s → Fits (updated op at m d s)
+updated_fits : (op : Option BinaryOp) (at : ℕ) (m : Meaning) (d : Datum) (s : State) → MeansWords m → IsWordIfInteger d → HasBytes s
+    → Fits (updated op at m d s)
 updated_fits None at m d s w v h = then_fits m s (write d) w h (λ e t x k. write_fits d e t k)
 updated_fits (Some op) at m d s w v h =
     bind_fits (read d s) (λ a t. and_then (value m t) (λ b y. and_then (binary op at a b y) (write d))) (read_fits d s v h)
@@ -182,10 +197,12 @@ branch_fits : (part : Parts_mean) (n : Option ℕ) (s : State) → AllMeanWords 
 branch_fits part None s w h = h
 branch_fits part (Some n) s w h = (w n).does s h
 
-branched_fits : (part : Parts_mean) (condition body : ℕ) (otherwise : Option ℕ) (s : State) → AllMeanWords part → HasBytes s → Fits (branched part condition body otherwise s)
+branched_fits : (part : Parts_mean) (condition body : ℕ) (otherwise : Option ℕ) (s : State) → AllMeanWords part → HasBytes s
+    → Fits (branched part condition body otherwise s)
 branched_fits part condition body otherwise s w h =
     then_fits (part condition) (tick s) (λ d t. taken part body otherwise d (tick t)) (w condition) (tick_bytes s h)
-    (λ d t v k. if_fits (is_true d) ((part body).does (tick t)) (branch part otherwise (tick t)) ((w body).does (tick t) (tick_bytes t k)) (branch_fits part otherwise (tick t) w (tick_bytes t k)))
+    (λ d t v k. if_fits (is_true d) ((part body).does (tick t)) (branch part otherwise (tick t)) ((w body).does (tick t) (tick_bytes t k))
+    (branch_fits part otherwise (tick t) w (tick_bytes t k)))
 
 returned_fits : (part : Parts_mean) (v : Option ℕ) (s : State) → AllMeanWords part → HasBytes s → Fits (returned part v s)
 returned_fits part None s w h = (tt, h)
@@ -193,7 +210,8 @@ returned_fits part (Some v) s w h = value_fits (part v) s (w v) h
 
 turn_fits : (u : Typed) (n : ℕ) (m : Meaning) (c : Value) (s : State) → MeansWords m → HasBytes s → Fits (turn u n m c s)
 turn_fits u n m c s w h =
-    after_fits (counted u n c (tick s)) m.does (write_fits (declared u n (place_at u n) (tick s).own) (data_of.Word c) (tick s) (tick_bytes s h)) (λ t k. w.does t k)
+    after_fits (counted u n c (tick s)) m.does (write_fits (declared u n (place_at u n) (tick s).own) (data_of.Word c) (tick s) (tick_bytes s h))
+    (λ t k. w.does t k)
 
 turns_zero : (u : Typed) (n : ℕ) (m : Meaning) (c b : Value) (step : ℕ) (s : State) → turns u 0 n m c b step s ≡ Next s
 unfolding turns
@@ -209,7 +227,8 @@ turns_fits u zero n m c b step s w h = subst Fits (sym (turns_zero u n m c b ste
 turns_fits u (suc left) n m c b step s w h =
     subst Fits (sym (turns_suc u left n m c b step s))
     (if_fits (is_below c b) (after (turn u n m c s) (turns u left n m (next_of c step) b step)) (Next s)
-    (after_fits (turn u n m c s) (turns u left n m (next_of c step) b step) (turn_fits u n m c s w h) (λ t k. turns_fits u left n m (next_of c step) b step t w k)) h)
+    (after_fits (turn u n m c s) (turns u left n m (next_of c step) b step) (turn_fits u n m c s w h)
+    (λ t k. turns_fits u left n m (next_of c step) b step t w k)) h)
 
 statement_fits : (u : Typed) (part : Parts_mean) (n : ℕ) (kind : Kind) (s : State) → AllMeanWords part → HasBytes s → Fits (statement u part n kind s)
 statement_fits u part n (nodes.Block statements end) s w h =
@@ -221,13 +240,16 @@ statement_fits u part n (nodes.Assign op target v) s w h =
     bind_fits ((part target).gives (tick s)) (updated op (place_at u n) (part v)) ((w target).gives (tick s) (tick_bytes s h))
     (λ d t x k. updated_fits op (place_at u n) (part v) d t (w v) x k)
 statement_fits u part n (nodes.Increment target) s w h =
-    bind_fits ((part target).gives (tick s)) (stepped binaries.Add (place_at u n)) ((w target).gives (tick s) (tick_bytes s h)) (λ d t x k. stepped_fits binaries.Add (place_at u n) d t x k)
+    bind_fits ((part target).gives (tick s)) (stepped binaries.Add (place_at u n)) ((w target).gives (tick s) (tick_bytes s h))
+    (λ d t x k. stepped_fits binaries.Add (place_at u n) d t x k)
 statement_fits u part n (nodes.Decrement target) s w h =
-    bind_fits ((part target).gives (tick s)) (stepped binaries.Subtract (place_at u n)) ((w target).gives (tick s) (tick_bytes s h)) (λ d t x k. stepped_fits binaries.Subtract (place_at u n) d t x k)
+    bind_fits ((part target).gives (tick s)) (stepped binaries.Subtract (place_at u n)) ((w target).gives (tick s) (tick_bytes s h))
+    (λ d t x k. stepped_fits binaries.Subtract (place_at u n) d t x k)
 statement_fits u part n (nodes.If condition body otherwise) s w h = branched_fits part condition body otherwise s w h
 statement_fits u part n (nodes.For of counter start tested bound stepped_name step body) s w h =
     closing_fits (n ∷ []) (loop_of u part n of start bound step body (tick s))
-    (turns_fits u most_turns n (part body) (first_of u of start) (constant u bound) (step_of u step) (on_own (declare n) (tick s)) (w body) (declared_bytes (tick s) n (tick_bytes s h)))
+    (turns_fits u most_turns n (part body) (first_of u of start) (constant u bound) (step_of u step) (on_own (declare n) (tick s)) (w body)
+    (declared_bytes (tick s) n (tick_bytes s h)))
 statement_fits u part n (nodes.Return v) s w h = returned_fits part v (tick s) w (tick_bytes s h)
 statement_fits u part n kind s w h = h
 
@@ -267,7 +289,8 @@ arguments_fits : (u : Typed) (ps : List ℕ) (port now : ℕ) (s : State) → Ha
 arguments_fits u [] port now s h = h
 arguments_fits u (p ∷ []) port now s h = h
 arguments_fits u (p ∷ t ∷ []) port now s h =
-    after_fits (parameter u p (unsigned 16 port) s) (parameter u t (unsigned 64 now)) (parameter_fits u p (unsigned 16 port) s h) (λ x k. parameter_fits u t (unsigned 64 now) x k)
+    after_fits (parameter u p (unsigned 16 port) s) (parameter u t (unsigned 64 now)) (parameter_fits u p (unsigned 16 port) s h)
+    (λ x k. parameter_fits u t (unsigned 64 now) x k)
 arguments_fits u (p ∷ t ∷ q ∷ ps) port now s h = h
 
 run_of_fits : (u : Typed) (kind : Kind) (port now : ℕ) (s : State) → HasBytes s → Fits (run_of u kind port now s)

@@ -1,5 +1,6 @@
 -- Bytes stay bytes.
-use Rattle.std.proofs.Common.{◌≡◌, ℕ, zero, suc, ◌+◌, ◌-◌, ◌/◌, ◌^◌, ◌≤◌, ◌<◌, Bool, true, false, if◌then◌else◌, nat_eq, List, [], ◌∷◌, length, map, take, drop, replicate, slice_set, slice_index_or, Option, Some, None, refl, sym, subst, arith, ◌⊎◌, inl, inr}
+use Rattle.std.proofs.Common.{◌≡◌, ℕ, zero, suc, ◌+◌, ◌-◌, ◌/◌, ◌^◌, ◌≤◌, ◌<◌, Bool, true, false, if◌then◌else◌, nat_eq, List, [], ◌∷◌, length, map}
+use Rattle.std.proofs.Common.{take, drop, replicate, slice_set, slice_index_or, Option, Some, None, refl, sym, subst, arith, ◌⊎◌, inl, inr}
 use Rattle.std.proofs.lemmas.Bool.Decides.{nat_tests}
 use Rattle.std.proofs.lemmas.List.{length-take}
 use Rattle.std.proofs.Math.Nat.{pow-succ'}
@@ -11,7 +12,8 @@ use Rattle.vg_cmemory.specs.declared.object.Chunk.{Chunk}
 use Rattle.vg_cmemory.specs.declared.object.Pointer.{Pointer}
 use Rattle.vg_cmemory.specs.State.{Life, Slot, Own, State, slot, no_slot, with_slot, made, declare, end_life, hold, held, points_to, at_rest}
 use Rattle.vg_cmemory.specs.State as memory
-use Rattle.vg_cmemory.specs.Access.{Bytes, Lent, Gone, content, content_of_life, content_of_chunk, bytes_of, set, part, or_zero, word_of, bytes_of_word, put, put_in_life, put_in_slot, written, start_in_frame}
+use Rattle.vg_cmemory.specs.Access.{Bytes, Lent, Gone, content, content_of_life, content_of_chunk, bytes_of, set, part, or_zero, word_of}
+use Rattle.vg_cmemory.specs.Access.{bytes_of_word, put, put_in_life, put_in_slot, written, start_in_frame}
 use Rattle.vg_cmean.specs.Values.{size_of}
 use Rattle.vg_cwidths.specs.Widths.{Each, IsByte, IsByteIfSet, IsOfBytes, HasBytes}
 
@@ -79,7 +81,8 @@ part_below xs from size h =
     let l = length-take size (drop from xs) in
     let short : length (part xs from size) ≤ size = omega arith in
     let e : length (part xs from size) + (size - length (part xs from size)) ≡ size = omega arith in
-    let grows : 256 ^ length (part xs from size) ≤ 256 ^ size = subst (λ k. 256 ^ length (part xs from size) ≤ 256 ^ k) e (power_grows (length (part xs from size)) (size - length (part xs from size))) in omega arith
+    let grows : 256 ^ length (part xs from size) ≤ 256 ^ size = subst (λ k. 256 ^ length (part xs from size) ≤ 256 ^ k) e
+    (power_grows (length (part xs from size)) (size - length (part xs from size))) in omega arith
 
 widths : (t : Integer) → (width t ≡ 8) ⊎ ((width t ≡ 16) ⊎ ((width t ≡ 32) ⊎ (width t ≡ 64)))
 widths t = grind (arith, nat_tests)
@@ -98,13 +101,16 @@ bytes_fill t = bytes_by (width t) (widths t)
 slot_bytes : (s : State) (n : ℕ) → HasBytes s → IsOfBytes (slot s.own n).life
 slot_bytes s n h = each_get (λ (x : Slot). IsOfBytes x.life) s.own.slots n no_slot h.objects tt
 
-bytes_if : (frame : List ℕ) (life : Life) (same : Bool) → Each IsByteIfSet life.bytes → Each IsByteIfSet (bytes_of frame (if same then Bytes life.bytes else Gone))
+bytes_if : (frame : List ℕ) (life : Life) (same : Bool) → Each IsByteIfSet life.bytes → Each IsByteIfSet
+    (bytes_of frame (if same then Bytes life.bytes else Gone))
 bytes_if frame life true h = h
 bytes_if frame life false h = tt
 
 chunk_if : (frame : List ℕ) (c : Chunk) (cs : List Chunk) (number : ℕ) (same : Bool) → Each IsByte frame →
-    Each IsByteIfSet (bytes_of frame (content_of_chunk cs number)) → Each IsByteIfSet (bytes_of frame (if same then Lent c.from c.size else content_of_chunk cs number))
-chunk_if frame c cs number true h rest = all_set_bytes (take c.size (drop c.from frame)) (each_take IsByte c.size (drop c.from frame) (each_drop IsByte c.from frame h))
+    Each IsByteIfSet (bytes_of frame (content_of_chunk cs number))
+    → Each IsByteIfSet (bytes_of frame (if same then Lent c.from c.size else content_of_chunk cs number))
+chunk_if frame c cs number true h rest =
+    all_set_bytes (take c.size (drop c.from frame)) (each_take IsByte c.size (drop c.from frame) (each_drop IsByte c.from frame h))
 chunk_if frame c cs number false h rest = rest
 
 bytes_of_life : (frame : List ℕ) (life : Option Life) (number : ℕ) → IsOfBytes life → Each IsByteIfSet (bytes_of frame (content_of_life life number))
@@ -119,7 +125,8 @@ pub content_bytes : (s : State) (o : Object) → HasBytes s → Each IsByteIfSet
 content_bytes s (objects.Declared node number) h = bytes_of_life s.frame (slot s.own node).life number (slot_bytes s node h)
 content_bytes s (objects.Chunk number) h = bytes_of_chunk s.frame s.own.chunks number h.frame
 
-pub read_below : (s : State) (o : Object) (from : ℕ) (t : Integer) → HasBytes s → word_of (part (bytes_of s.frame (content s.own o)) from (size_of t)) < 2 ^ width t
+pub read_below : (s : State) (o : Object) (from : ℕ) (t : Integer) → HasBytes s → word_of (part (bytes_of s.frame (content s.own o)) from (size_of t))
+    < 2 ^ width t
 read_below s o from t h =
     let b = part_below (bytes_of s.frame (content s.own o)) from (size_of t) (content_bytes s o h) in
     let e = bytes_fill t in omega arith
@@ -138,10 +145,18 @@ written_bytes s (objects.Declared node number) at size word h =
     with_slot_bytes s node (put_in_slot at (bytes_of_word size word) (slot s.own node)) h
     (put_life at (bytes_of_word size word) (slot s.own node).life (slot_bytes s node h) (bytes_of_words size word))
 written_bytes s (objects.Chunk number) at size word h =
-    record { objects = h.objects; frame = each_put IsByte s.frame (start_in_frame (content_of_chunk s.own.chunks number) + at) (bytes_of_word size word) h.frame (bytes_of_words size word) }
+    record {
+      objects = h.objects;
+      frame = each_put IsByte s.frame (start_in_frame (content_of_chunk s.own.chunks number) + at)
+          (bytes_of_word size word) h.frame (bytes_of_words size word);
+    }
 
 pub declared_bytes : (s : State) (n : ℕ) → HasBytes s → HasBytes (record s { own = declare n s.own })
-declared_bytes s n h = record { objects = each_set (λ (x : Slot). IsOfBytes x.life) s.own.slots n (made s.own.born (slot s.own n)) h.objects (none_set (slot s.own n).size); frame = h.frame }
+declared_bytes s n h = record {
+  objects = each_set (λ (x : Slot). IsOfBytes x.life) s.own.slots n (made s.own.born (slot s.own n)) h.objects
+      (none_set (slot s.own n).size);
+  frame = h.frame;
+}
 
 pub ended_bytes : (s : State) (n : ℕ) → HasBytes s → HasBytes (record s { own = end_life n s.own })
 ended_bytes s n h = with_slot_bytes s n (memory.ended (slot s.own n)) h tt

@@ -28,7 +28,8 @@ use Rattle.vg_cmean.specs.declared.datum.Lvalue.{Lvalue}
 use Rattle.vg_cmean.specs.Outcomes.{Outcome, Next, Gives, Wrong, Untold, and_then, after, or_wrong, on_own, tick}
 use Rattle.vg_cmean.specs.Typings.{is_array}
 use Rattle.vg_cmean.specs.Values as values
-use Rattle.vg_cmean.specs.Values.{read, read_lvalue, read_pointer, write, integer_of, pointer_of, binary, unary, of_result, of_bool, as_type, converted_to, number, size_of, align_of}
+use Rattle.vg_cmean.specs.Values.{read, read_lvalue, read_pointer, write, integer_of, pointer_of, binary, unary, of_result, of_bool, as_type}
+use Rattle.vg_cmean.specs.Values.{converted_to, number, size_of, align_of}
 use Rattle.vg_cmean.specs.Places.{indexed, element, element_at, element_of, index_tests, start_under, address, address_tests}
 use Rattle.vg_cmean.specs.Meaning.{ended, closing, answer_as, frame_row, argument_at, unsigned_32}
 use Rattle.vg_cwidths.specs.Widths.{HasBytes, IsWord, IsWordIfInteger, Fits}
@@ -36,7 +37,8 @@ use Rattle.vg_cwidths.proofs.Octets.{read_below, written_bytes, ended_bytes, hel
 
 -- ---- one thing after the other
 
-pub bind_fits : (o : Outcome) (f : Datum → State → Outcome) → Fits o → ((d : Datum) (s : State) → IsWordIfInteger d → HasBytes s → Fits (f d s)) → Fits (and_then o f)
+pub bind_fits : (o : Outcome) (f : Datum → State → Outcome) → Fits o → ((d : Datum) (s : State) → IsWordIfInteger d → HasBytes s → Fits (f d s))
+    → Fits (and_then o f)
 bind_fits (Next s) f h g = g data_of.Nothing s tt h
 bind_fits (Gives d s) f h g = g d s h.0 h.1
 bind_fits (Wrong at reason s) f h g = h
@@ -52,11 +54,13 @@ or_wrong_fits : {A : Type 0} (r : Result A Reason) (at : ℕ) (s : State) (go : 
 or_wrong_fits (Ok x) at s go h g = g x
 or_wrong_fits (Err reason) at s go h g = h
 
-unless_fits : {A : Type 0} (first : Option Reason) (x : A) (at : ℕ) (s : State) (go : A → Outcome) → HasBytes s → Fits (go x) → Fits (or_wrong (unless first x) at s go)
+unless_fits : {A : Type 0} (first : Option Reason) (x : A) (at : ℕ) (s : State) (go : A → Outcome) → HasBytes s → Fits (go x)
+    → Fits (or_wrong (unless first x) at s go)
 unless_fits None x at s go h g = g
 unless_fits (Some reason) x at s go h g = h
 
-tested_fits : {A : Type 0} (tests : List Test) (x : A) (at : ℕ) (s : State) (go : A → Outcome) → HasBytes s → Fits (go x) → Fits (or_wrong (tested tests x) at s go)
+tested_fits : {A : Type 0} (tests : List Test) (x : A) (at : ℕ) (s : State) (go : A → Outcome) → HasBytes s → Fits (go x)
+    → Fits (or_wrong (tested tests x) at s go)
 tested_fits tests x at s go h g = unless_fits (first_against tests) x at s go h g
 
 pub if_fits : (c : Bool) (one other : Outcome) → Fits one → Fits other → Fits (if c then one else other)
@@ -141,7 +145,8 @@ write_fits (data_of.Lvalue p) d s h =
     let t = integer_of p.of in
     let v = values.word_of d in
     let word = converted t v.of v.word in
-    tested_fits (write_tests s p.pointer p.room (size_of t) (align_of p.loose t)) (written s p.pointer.object p.pointer.offset (bytes_of_word (size_of t) word)) p.at s Next h
+    tested_fits (write_tests s p.pointer p.room (size_of t) (align_of p.loose t)) (written s p.pointer.object p.pointer.offset
+    (bytes_of_word (size_of t) word)) p.at s Next h
     (written_bytes s p.pointer.object p.pointer.offset (size_of t) word h)
 write_fits (data_of.PointerVariable node at) d s h = held_bytes s node (pointer_of d) h
 write_fits _ d s h = h

@@ -35,17 +35,21 @@ none_passed terms facts made = record {
 }
 
 -- what was true of facts is true of them where terms were added
-true_later : (old new : List Term) → AreTerms old → Grows old new → (words : List Word) (facts : List TermId) → All (Stands old) facts → AreTrue old words facts → AreTrue new words facts
+true_later : (old new : List Term) → AreTerms old → Grows old new → (words : List Word) (facts : List TermId) → All (Stands old) facts
+    → AreTrue old words facts → AreTrue new words facts
 true_later old new made grows words facts stand true i d below = value_later old new made grows words (get_or facts i d) (stand i d below) ∙ true i d below
 
 true_front : (terms : List Term) (words : List Word) (xs : List TermId) (x : TermId) → AreTrue terms words (xs ++ x ∷ []) → AreTrue terms words xs
-true_front terms words xs x true i d below = sym (ap (value_of terms words) (get_or_append_left xs (x ∷ []) d i below)) ∙ true i d (omega (arith, below, length_push xs x))
+true_front terms words xs x true i d below = sym (ap (value_of terms words) (get_or_append_left xs (x ∷ []) d i below))
+    ∙ true i d (omega (arith, below, length_push xs x))
 
 true_last : (terms : List Term) (words : List Word) (xs : List TermId) (x : TermId) → AreTrue terms words (xs ++ x ∷ []) → value_of terms words x ≡ 1
 true_last terms words xs x true = sym (ap (value_of terms words) (get_or_push xs x x (length xs) refl)) ∙ true (length xs) x (omega (arith, length_push xs x))
 
-module _ {initial terms new : List Term} {facts simpler : List TermId} (k : ℕ) (none other : TermId) (stands : All (Stands initial) facts) (flags : All (λ fact. width_at initial fact ≡ 1) facts)
-    (p : Passed initial terms facts simpler k) (grown : Grown terms new) (same : IsSame new simpler (get_or facts k none) other) (within : k < length facts) where
+module _ {initial terms new : List Term} {facts simpler : List TermId} (k : ℕ) (none other : TermId) (stands : All (Stands initial) facts)
+    (flags : All (λ fact. width_at initial fact ≡ 1) facts)
+    (p : Passed initial terms facts simpler k) (grown : Grown terms new) (same : IsSame new simpler (get_or facts k none) other)
+    (within : k < length facts) where
   made : AreTerms terms
   made = p.grown.made
 
@@ -62,7 +66,8 @@ module _ {initial terms new : List Term} {facts simpler : List TermId} (k : ℕ)
   flag = width_later initial terms p.grown.grows fact (stands k none within) ∙ flags k none within
 
   stays : (words : List Word) (i : ℕ) (d : TermId) → i < k → value_of new words (get_or facts i d) ≡ value_of terms words (get_or facts i d)
-  stays words i d below = value_later terms new made grown.grows words (get_or facts i d) (stands_later initial terms p.grown.grows (get_or facts i d) (stands i d (omega (arith, below, within))))
+  stays words i d below = value_later terms new made grown.grows words (get_or facts i d) (stands_later initial terms p.grown.grows (get_or facts i d)
+      (stands i d (omega (arith, below, within))))
 
   forward : (words : List Word) → Assigns words new → AreTrue new words (simpler ++ other ∷ []) → FirstAreTrue new words facts (k + 1)
   forward words assigns true i d below =
@@ -73,12 +78,14 @@ module _ {initial terms new : List Term} {facts simpler : List TermId} (k : ℕ)
         | inl less ↦ stays words i d less ∙ first i d less
         | inr least ↦
             let last : i ≡ k = omega (arith, below, least) in
-            ap (λ (j : ℕ). value_of new words (get_or facts j d)) last ∙ ap (value_of new words) (here d) ∙ sym (same.value words assigns front) ∙ true_last new words simpler other true
+            ap (λ (j : ℕ). value_of new words (get_or facts j d)) last ∙ ap (value_of new words) (here d) ∙ sym (same.value words assigns front)
+            ∙ true_last new words simpler other true
       ]
 
   back : (words : List Word) → Assigns words new → FirstAreTrue new words facts (k + 1) → AreTrue new words (simpler ++ other ∷ [])
   back words assigns first =
-      let before = (p.same words (assigns_later terms new grown.grows words assigns)).1 (λ i d below. sym (stays words i d below) ∙ first i d (omega (arith, below))) in
+      let before = (p.same words (assigns_later terms new grown.grows words assigns)).1 (λ i d below. sym (stays words i d below)
+      ∙ first i d (omega (arith, below))) in
       let front = true_later terms new made grown.grows words simpler p.stand before in
       let last = same.value words assigns front ∙ sym (ap (value_of new words) (here fact)) ∙ first k fact (omega arith) in
       All-push (λ f. value_of new words f ≡ 1) simpler other front last
@@ -95,7 +102,8 @@ module _ {initial terms new : List Term} {facts simpler : List TermId} (k : ℕ)
   }
 
 -- where all facts were simplified, the others are as good
-pub all_passed : {initial terms : List Term} {facts simpler : List TermId} (k : ℕ) → Passed initial terms facts simpler k → k ≡ length facts → AreAsGood terms facts simpler
+pub all_passed : {initial terms : List Term} {facts simpler : List TermId} (k : ℕ) → Passed initial terms facts simpler k → k ≡ length facts
+    → AreAsGood terms facts simpler
 all_passed {terms = terms} {facts = facts} {simpler = simpler} k p all = record {
   stand = p.stand;
   flags = p.flags;

@@ -33,5 +33,6 @@ found files i x name h e same passed = record {
   where
     here : (files : List Named) (i : ℕ) → i < length files → x ≡ get_or files i x → lookup (drop i files) name ≡ Some x.1.items
     here [] i h e = absurd (omega arith)
-    here (y ∷ files) zero h e = let named : string_bytes y.0 ≡ name = ap (λ (z : Named). string_bytes z.0) (sym e) ∙ same in rw (equal named) (ap (λ (z : Named). Some z.1.items) (sym e))
+    here (y ∷ files) zero h e = let named : string_bytes y.0 ≡ name = ap (λ (z : Named). string_bytes z.0) (sym e) ∙ same in
+        rw (equal named) (ap (λ (z : Named). Some z.1.items) (sym e))
     here (y ∷ files) (suc i) h e = here files i (omega arith) e

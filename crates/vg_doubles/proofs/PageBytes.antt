@@ -1,5 +1,6 @@
 -- The pages of files in memory: one with other bytes, and what was written under each name.
-use Rattle.std.proofs.Common.{◌≡◌, ◌≢◌, ℕ, zero, suc, ◌+◌, ◌<◌, ◌≤◌, List, [], ◌∷◌, ◌++◌, length, set, get_or, true, false, Option, Some, IfSome, IsSome, refl, sym, ◌∙◌, ap, inl, inr, cond, arith}
+use Rattle.std.proofs.Common.{◌≡◌, ◌≢◌, ℕ, zero, suc, ◌+◌, ◌<◌, ◌≤◌, List, [], ◌∷◌, ◌++◌, length, set, get_or, true, false, Option, Some, IfSome}
+use Rattle.std.proofs.Common.{IsSome, refl, sym, ◌∙◌, ap, inl, inr, cond, arith}
 use mathlib.Core.Path.{fun_ext}
 use Rattle.std.specs.Prelude.{string_bytes, All, ◌&&◌, ◌||◌, nat_eq, nat_lt, nat_le, min, ◌-◌}
 use Rattle.std.proofs.lemmas.Bool.{cases_Bool, false≢true}
@@ -9,7 +10,8 @@ use Rattle.vg_doubles.specs.declared.pages.Role.TheVariants.{Free, Writing}
 use Rattle.vg_doubles.specs.declared.pages.Page.{Page}
 use Rattle.vg_base.specs.Files.{Opened, writing, Appends}
 use Rattle.vg_doubles.specs.Named.{Named}
-use Rattle.vg_doubles.specs.Pages.{is_made, is_made_as, made_on, IsFirstMade, seen_as, seen, opened_on, role_at, name_on, bytes_on, made_at, open_weight, free_weight, open_pages, free_pages, HasMemory, IsReadable, SameRoles, KeepsFit, TakesPage}
+use Rattle.vg_doubles.specs.Pages.{is_made, is_made_as, made_on, IsFirstMade, seen_as, seen, opened_on, role_at, name_on, bytes_on, made_at}
+use Rattle.vg_doubles.specs.Pages.{open_weight, free_weight, open_pages, free_pages, HasMemory, IsReadable, SameRoles, KeepsFit, TakesPage}
 use Rattle.vg_doubles.proofs.NamedLists.{equal, unequal}
 use Rattle.vg_doubles.proofs.PageRoles.{opened-seen, weight-within, role_at-get, name_on-get, readable_role}
 
@@ -27,12 +29,14 @@ opened-set_other held (p ∷ ps) zero y (suc j) ne = refl
 opened-set_other held (p ∷ ps) (suc i) y zero ne = refl
 opened-set_other held (p ∷ ps) (suc i) y (suc j) ne = opened-set_other held ps i y j (λ e. ne (ap suc e))
 
-pub open_pages-set : (ps : List Page) (i : ℕ) (y : Page) → i < length ps → open_pages (set ps i y) + open_weight (role_at ps i) ≡ open_pages ps + open_weight y.role
+pub open_pages-set : (ps : List Page) (i : ℕ) (y : Page) → i < length ps → open_pages (set ps i y) + open_weight (role_at ps i) ≡ open_pages ps +
+    open_weight y.role
 open_pages-set [] i y h = absurd (omega arith)
 open_pages-set (p ∷ ps) zero y h = omega arith
 open_pages-set (p ∷ ps) (suc i) y h = omega (arith, open_pages-set ps i y (omega arith))
 
-pub free_pages-set : (ps : List Page) (i : ℕ) (y : Page) → i < length ps → free_pages (set ps i y) + free_weight (role_at ps i) ≡ free_pages ps + free_weight y.role
+pub free_pages-set : (ps : List Page) (i : ℕ) (y : Page) → i < length ps → free_pages (set ps i y) + free_weight (role_at ps i) ≡ free_pages ps +
+    free_weight y.role
 free_pages-set [] i y h = absurd (omega arith)
 free_pages-set (p ∷ ps) zero y h = omega arith
 free_pages-set (p ∷ ps) (suc i) y h = omega (arith, free_pages-set ps i y (omega arith))
@@ -44,7 +48,8 @@ length-set_page (p ∷ ps) (suc i) y = ap suc (length-set_page ps i y)
 
 -- a page with other bytes, for what it was for
 
-module _ (ps : List Page) (i : ℕ) (x y : Page) (h : i < length ps) (e : x ≡ get_or ps i x) (role : y.role ≡ x.role) (name : string_bytes y.name ≡ string_bytes x.name) where
+module _ (ps : List Page) (i : ℕ) (x y : Page) (h : i < length ps) (e : x ≡ get_or ps i x) (role : y.role ≡ x.role)
+    (name : string_bytes y.name ≡ string_bytes x.name) where
   opened_same : (held : List Named) (j : ℕ) → opened_on held (set ps i y) j ≡ opened_on held ps j
   opened_same held = go ps i h e
     where
@@ -113,16 +118,19 @@ module _ (name : List ℕ) (x y : Page) (role : y.role ≡ x.role) (same_name : 
   made-set (p ∷ ps) zero first e = rw (same_for name p e, first) refl
   made-set (p ∷ ps) (suc i) first e = rw first.0 (made-set ps i first.1 e)
 
-  pub made-set_other : (ps : List Page) (i : ℕ) → IsFirstMade name ps i → x ≡ get_or ps i x → (other : List ℕ) → other ≢ name → made_on (set ps i y) other ≡ made_on ps other
+  pub made-set_other : (ps : List Page) (i : ℕ) → IsFirstMade name ps i → x ≡ get_or ps i x → (other : List ℕ) → other ≢ name
+      → made_on (set ps i y) other ≡ made_on ps other
   made-set_other [] i first e other ne = refl
   made-set_other (p ∷ ps) zero first e other ne =
       let apart : is_made_as other p ≡ false = for_one name other p first ne in
       rw (same_for other p e, apart) refl
-  made-set_other (p ∷ ps) (suc i) first e other ne = ap (λ (o : Option (List ℕ)). cond (is_made_as other p) (Some p.bytes.items) o) (made-set_other ps i first.1 e other ne)
+  made-set_other (p ∷ ps) (suc i) first e other ne = ap (λ (o : Option (List ℕ)). cond (is_made_as other p) (Some p.bytes.items) o)
+      (made-set_other ps i first.1 e other ne)
 
 -- a free page becomes one for a created file
 
-pub made-new : (name : List ℕ) (ps : List Page) (i : ℕ) (y : Page) → i < length ps → is_made_as name y ≡ true → y.bytes.items ≡ [] → IfSome (made_on ps name) (λ bytes. bytes ≡ []) → made_on (set ps i y) name ≡ Some []
+pub made-new : (name : List ℕ) (ps : List Page) (i : ℕ) (y : Page) → i < length ps → is_made_as name y ≡ true → y.bytes.items ≡ []
+    → IfSome (made_on ps name) (λ bytes. bytes ≡ []) → made_on (set ps i y) name ≡ Some []
 made-new name [] i y h is none empty = absurd (omega arith)
 made-new name (p ∷ ps) zero y h is none empty = rw is (ap Some none)
 made-new name (p ∷ ps) (suc i) y h is none empty = elim (cases_Bool (is_made_as name p)) [
@@ -130,12 +138,15 @@ made-new name (p ∷ ps) (suc i) y h is none empty = elim (cases_Bool (is_made_a
   | inr apart ↦ rw apart (made-new name ps i y (omega arith) is none (rw apart at empty))
 ]
 
-pub made-new_other : (other : List ℕ) (ps : List Page) (i : ℕ) (y : Page) → role_at ps i ≡ Free → is_made_as other y ≡ false → made_on (set ps i y) other ≡ made_on ps other
+pub made-new_other : (other : List ℕ) (ps : List Page) (i : ℕ) (y : Page) → role_at ps i ≡ Free → is_made_as other y ≡ false
+    → made_on (set ps i y) other ≡ made_on ps other
 made-new_other other [] i y free apart = refl
 made-new_other other (p ∷ ps) zero y free apart = rw (apart, free) refl
-made-new_other other (p ∷ ps) (suc i) y free apart = ap (λ (o : Option (List ℕ)). cond (is_made_as other p) (Some p.bytes.items) o) (made-new_other other ps i y free apart)
+made-new_other other (p ∷ ps) (suc i) y free apart = ap (λ (o : Option (List ℕ)). cond (is_made_as other p) (Some p.bytes.items) o)
+    (made-new_other other ps i y free apart)
 
-pub takes-page : (held : List Named) (ps : List Page) (i : ℕ) (y : Page) (name : List ℕ) → i < length ps → role_at ps i ≡ Free → y.role ≡ Writing → string_bytes y.name ≡ name → TakesPage held ps (set ps i y) (writing name) i
+pub takes-page : (held : List Named) (ps : List Page) (i : ℕ) (y : Page) (name : List ℕ) → i < length ps → role_at ps i ≡ Free → y.role ≡ Writing
+    → string_bytes y.name ≡ name → TakesPage held ps (set ps i y) (writing name) i
 takes-page held ps i y name h free writes is = record {
   was = opened-seen held ps i ∙ ap (seen_as held (name_on ps i)) free;
   now = opened-set held ps i y h ∙ ap (seen_as held (string_bytes y.name)) writes ∙ ap writing is;
@@ -155,7 +166,8 @@ some_is : {A : Type 0} {x y : A} → Some x ≡ Some y → x ≡ y
 some_is e = cc
 
 -- the first page of a name has grown
-pub appended : (name piece : List ℕ) (ps : List Page) (i : ℕ) (x y : Page) → y.role ≡ x.role → string_bytes y.name ≡ string_bytes x.name → IsFirstMade name ps i → x ≡ get_or ps i x →
+pub appended : (name piece : List ℕ) (ps : List Page) (i : ℕ) (x y : Page) → y.role ≡ x.role → string_bytes y.name ≡ string_bytes x.name
+    → IsFirstMade name ps i → x ≡ get_or ps i x →
     y.bytes.items ≡ x.bytes.items ++ piece → Appends (made_on ps) (made_on (set ps i y)) name piece
 appended name piece ps i x y role same_name first at grown = record {
   grown = λ bytes is.
@@ -208,7 +220,8 @@ KeepsFit-trans x y = record {
 }
 
 -- a page is taken where before only bytes have changed
-pub takes-after : {held : List Named} {a b c : List Page} {file : Option Opened} {id : ℕ} → SameRoles a b → TakesPage held b c file id → TakesPage held a c file id
+pub takes-after : {held : List Named} {a b c : List Page} {file : Option Opened} {id : ℕ} → SameRoles a b → TakesPage held b c file id
+    → TakesPage held a c file id
 takes-after {held} {id = id} x y = record {
   was = sym (ap (λ (f : ℕ → Option Opened). f id) (x.opened held)) ∙ y.was;
   now = y.now;

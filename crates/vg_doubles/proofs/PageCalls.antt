@@ -8,8 +8,11 @@ use Rattle.vg_doubles.specs.declared.pages.Role.TheVariants.{Free, Reading, Writ
 use Rattle.vg_doubles.specs.declared.pages.Page.{Page}
 use Rattle.vg_base.specs.Files.{Opened, AreBytes, Reads, Writes, IsOpen, reading, writing, GivesNext}
 use Rattle.vg_doubles.specs.Named.{Named, lookup, name_at, bytes_at}
-use Rattle.vg_doubles.specs.Pages.{is_made, made_on, made_at, seen_as, opened_on, role_at, name_on, open_weight, free_weight, is_reading, open_pages, free_pages, with_role, closed, HasMemory, IsReadable, KeepsFit, TakesPage, StartsReading, ReadsOn}
-use Rattle.vg_doubles.proofs.PageRoles.{opened-seen, weight-within, reading-weight, reads-reading, writes-writing, some-weight, length-with_role, opened-with_role, opened-with_role_other, open_pages-with_role, free_pages-with_role, made-with_role, memory-with_role, readable-with_role}
+use Rattle.vg_doubles.specs.Pages.{is_made, made_on, made_at, seen_as, opened_on, role_at, name_on, open_weight, free_weight, is_reading, open_pages}
+use Rattle.vg_doubles.specs.Pages.{free_pages, with_role, closed, HasMemory, IsReadable, KeepsFit, TakesPage, StartsReading, ReadsOn}
+use Rattle.vg_doubles.proofs.PageRoles.{opened-seen, weight-within, reading-weight, reads-reading, writes-writing, some-weight, length-with_role}
+use Rattle.vg_doubles.proofs.PageRoles.{opened-with_role, opened-with_role_other, open_pages-with_role, free_pages-with_role, made-with_role}
+use Rattle.vg_doubles.proofs.PageRoles.{memory-with_role, readable-with_role}
 
 some_is : {A : Type 0} {x y : A} → Some x ≡ Some y → x ≡ y
 some_is e = cc
@@ -74,7 +77,8 @@ module _ {held : List Named} {old new : List Page} {name : List ℕ} {id : ℕ} 
   starts-memory room all = rw starts.now (memory-with_role room old id (Reading place) all)
 
   pub starts-readable : All (IsReadable held) old → All (IsReadable held) new
-  starts-readable all = rw starts.now (readable-with_role held old id (Reading place) (λ p e. rw (← reading_is e) starts.first) (λ p e. rw (← reading_is e) (omega arith)) all)
+  starts-readable all = rw starts.now (readable-with_role held old id (Reading place) (λ p e. rw (← reading_is e) starts.first)
+      (λ p e. rw (← reading_is e) (omega arith)) all)
 
   pub starts-count : length new ≡ length old
   starts-count = ap (λ (ps : List Page). length ps) starts.now ∙ length-with_role old id (Reading place)
@@ -88,7 +92,8 @@ module _ {held : List Named} {old new : List Page} {id n : ℕ} {into : List ℕ
   here : id < length old
   here = weight-within old id (ap open_weight read.was)
 
-  pub reads-bytes : (name : List ℕ) (place : ℕ) (bytes : List ℕ) → opened_on held old id ≡ reading name place → lookup held name ≡ Some bytes → GivesNext bytes place n into
+  pub reads-bytes : (name : List ℕ) (place : ℕ) (bytes : List ℕ) → opened_on held old id ≡ reading name place → lookup held name ≡ Some bytes
+      → GivesNext bytes place n into
   reads-bytes name place bytes is found =
       let same = names-are (sym (reader-seen held old id read.place read.was) ∙ is) in
       let stored : bytes_at held read.place.file ≡ bytes = some_is (sym read.first.found ∙ ap (lookup held) same.0 ∙ found) in
@@ -121,13 +126,15 @@ module _ {held : List Named} {old new : List Page} {id n : ℕ} {into : List ℕ
   reads-memory room all = rw read.now (memory-with_role room old id (Reading next_place) all)
 
   pub reads-readable : All (IsReadable held) old → All (IsReadable held) new
-  reads-readable all = rw read.now (readable-with_role held old id (Reading next_place) (λ p e. rw (← reading_is e) read.first) (λ p e. rw (← reading_is e) read.next.within) all)
+  reads-readable all = rw read.now (readable-with_role held old id (Reading next_place) (λ p e. rw (← reading_is e) read.first)
+      (λ p e. rw (← reading_is e) read.next.within) all)
 
   pub reads-count : length new ≡ length old
   reads-count = ap (λ (ps : List Page). length ps) read.now ∙ length-with_role old id (Reading next_place)
 
 -- what is seen of the written bytes behind an id that writes
-pub made_behind-writing : (held : List Named) (ps : List Page) (id : ℕ) → role_at ps id ≡ Writing → unwrap_or (option_and_then (λ (file : Opened). made_on ps file.name) (opened_on held ps id)) [] ≡ made_at ps id
+pub made_behind-writing : (held : List Named) (ps : List Page) (id : ℕ) → role_at ps id ≡ Writing
+    → unwrap_or (option_and_then (λ (file : Opened). made_on ps file.name) (opened_on held ps id)) [] ≡ made_at ps id
 made_behind-writing held ps id e = rw (writer-seen held ps id e) refl
 
 -- what is taken of a piece is some of it, where there is room
@@ -167,7 +174,8 @@ closed-unread Written place e = cc (e)
 pub close-fit : (ps : List Page) (id : ℕ) → KeepsFit ps (with_role ps id (closed (role_at ps id)))
 close-fit ps id = record {
   memory = λ room all. memory-with_role room ps id (closed (role_at ps id)) all;
-  readable = λ held all. readable-with_role held ps id (closed (role_at ps id)) (λ p e. absurd (closed-unread (role_at ps id) p e)) (λ p e. absurd (closed-unread (role_at ps id) p e)) all;
+  readable = λ held all. readable-with_role held ps id (closed (role_at ps id)) (λ p e. absurd (closed-unread (role_at ps id) p e))
+      (λ p e. absurd (closed-unread (role_at ps id) p e)) all;
   count = length-with_role ps id (closed (role_at ps id));
 }
 
@@ -179,7 +187,8 @@ pub record ClosesPage (held : List Named) (old new : List Page) (id : ℕ) : Typ
   pub free_pages : free_pages new ≡ free_pages old
   pub made : made_on new ≡ made_on old
 
-pub closes-page : (held : List Named) (old new : List Page) (id : ℕ) → new ≡ with_role old id (closed (role_at old id)) → IsSome (opened_on held old id) → ClosesPage held old new id
+pub closes-page : (held : List Named) (old new : List Page) (id : ℕ) → new ≡ with_role old id (closed (role_at old id))
+    → IsSome (opened_on held old id) → ClosesPage held old new id
 closes-page held old new id e is =
     let r = role_at old id in
     let w = open-weight held old id is in
@@ -196,11 +205,19 @@ closes-page held old new id e is =
 
 pub blank-free_pages : (ps : List Page) → All (λ (page : Page). page.role ≡ Free) ps → free_pages ps ≡ length ps
 blank-free_pages [] h = refl
-blank-free_pages (p ∷ ps) h = omega (arith, ap free_weight (All-head (λ (page : Page). page.role ≡ Free) p ps h), blank-free_pages ps (All-tail (λ (page : Page). page.role ≡ Free) p ps h))
+blank-free_pages (p ∷ ps) h = omega (
+  arith,
+  ap free_weight (All-head (λ (page : Page). page.role ≡ Free) p ps h),
+  blank-free_pages ps (All-tail (λ (page : Page). page.role ≡ Free) p ps h),
+)
 
 pub blank-open_pages : (ps : List Page) → All (λ (page : Page). page.role ≡ Free) ps → open_pages ps ≡ 0
 blank-open_pages [] h = refl
-blank-open_pages (p ∷ ps) h = omega (arith, ap open_weight (All-head (λ (page : Page). page.role ≡ Free) p ps h), blank-open_pages ps (All-tail (λ (page : Page). page.role ≡ Free) p ps h))
+blank-open_pages (p ∷ ps) h = omega (
+  arith,
+  ap open_weight (All-head (λ (page : Page). page.role ≡ Free) p ps h),
+  blank-open_pages ps (All-tail (λ (page : Page). page.role ≡ Free) p ps h),
+)
 
 pub blank-opened : (held : List Named) (ps : List Page) (id : ℕ) → All (λ (page : Page). page.role ≡ Free) ps → opened_on held ps id ≡ None
 blank-opened held [] id h = refl

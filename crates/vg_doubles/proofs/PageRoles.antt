@@ -1,5 +1,6 @@
 -- The pages of files in memory: what one is for, one given another role, and the first of a kind.
-use Rattle.std.proofs.Common.{◌≡◌, ◌≢◌, ℕ, zero, suc, ◌+◌, ◌<◌, ◌≤◌, List, [], ◌∷◌, length, set, get_or, drop, true, false, Option, Some, IsSome, refl, sym, ◌∙◌, ap, cond, add-zero, arith}
+use Rattle.std.proofs.Common.{◌≡◌, ◌≢◌, ℕ, zero, suc, ◌+◌, ◌<◌, ◌≤◌, List, [], ◌∷◌, length, set, get_or, drop, true, false, Option, Some, IsSome}
+use Rattle.std.proofs.Common.{refl, sym, ◌∙◌, ap, cond, add-zero, arith}
 use mathlib.Core.Path.{fun_ext}
 use Rattle.std.proofs.lemmas.List.{drop_more}
 use Rattle.std.specs.Prelude.{string_bytes, All, ◌||◌, nat_eq, is_none}
@@ -11,7 +12,8 @@ use Rattle.vg_doubles.specs.declared.pages.Role.TheVariants.{Free, Reading, Writ
 use Rattle.vg_doubles.specs.declared.pages.Page.{Page}
 use Rattle.vg_base.specs.Files.{Reads, Writes, IsOpen}
 use Rattle.vg_doubles.specs.Named.{Named, bytes_at, IsFirst}
-use Rattle.vg_doubles.specs.Pages.{is_made, is_made_as, made_on, IsFirstMade, seen_as, opened_on, role_at, name_on, bytes_on, open_weight, free_weight, is_reading, open_pages, free_pages, with_role, HasMemory, IsReadable}
+use Rattle.vg_doubles.specs.Pages.{is_made, is_made_as, made_on, IsFirstMade, seen_as, opened_on, role_at, name_on, bytes_on, open_weight}
+use Rattle.vg_doubles.specs.Pages.{free_weight, is_reading, open_pages, free_pages, with_role, HasMemory, IsReadable}
 
 -- what is seen of an id is what is seen of its page
 pub opened-seen : (held : List Named) (ps : List Page) (i : ℕ) → opened_on held ps i ≡ seen_as held (name_on ps i) (role_at ps i)
@@ -64,7 +66,8 @@ with_role-set [] i x r h e = absurd (omega arith)
 with_role-set (p ∷ ps) zero x r h e = rw e refl
 with_role-set (p ∷ ps) (suc i) x r h e = ap (λ (l : List Page). p ∷ l) (with_role-set ps i x r (omega arith) e)
 
-pub opened-with_role : (held : List Named) (ps : List Page) (i : ℕ) (r : Role) → i < length ps → opened_on held (with_role ps i r) i ≡ seen_as held (name_on ps i) r
+pub opened-with_role : (held : List Named) (ps : List Page) (i : ℕ) (r : Role) → i < length ps
+    → opened_on held (with_role ps i r) i ≡ seen_as held (name_on ps i) r
 opened-with_role held [] i r h = absurd (omega arith)
 opened-with_role held (p ∷ ps) zero r h = refl
 opened-with_role held (p ∷ ps) (suc i) r h = opened-with_role held ps i r (omega arith)
@@ -76,12 +79,14 @@ opened-with_role_other held (p ∷ ps) zero r (suc j) ne = refl
 opened-with_role_other held (p ∷ ps) (suc i) r zero ne = refl
 opened-with_role_other held (p ∷ ps) (suc i) r (suc j) ne = opened-with_role_other held ps i r j (λ e. ne (ap suc e))
 
-pub open_pages-with_role : (ps : List Page) (i : ℕ) (r : Role) → i < length ps → open_pages (with_role ps i r) + open_weight (role_at ps i) ≡ open_pages ps + open_weight r
+pub open_pages-with_role : (ps : List Page) (i : ℕ) (r : Role) → i < length ps → open_pages (with_role ps i r) + open_weight (role_at ps i) ≡
+    open_pages ps + open_weight r
 open_pages-with_role [] i r h = absurd (omega arith)
 open_pages-with_role (p ∷ ps) zero r h = omega arith
 open_pages-with_role (p ∷ ps) (suc i) r h = omega (arith, open_pages-with_role ps i r (omega arith))
 
-pub free_pages-with_role : (ps : List Page) (i : ℕ) (r : Role) → i < length ps → free_pages (with_role ps i r) + free_weight (role_at ps i) ≡ free_pages ps + free_weight r
+pub free_pages-with_role : (ps : List Page) (i : ℕ) (r : Role) → i < length ps → free_pages (with_role ps i r) + free_weight (role_at ps i) ≡
+    free_pages ps + free_weight r
 free_pages-with_role [] i r h = absurd (omega arith)
 free_pages-with_role (p ∷ ps) zero r h = omega arith
 free_pages-with_role (p ∷ ps) (suc i) r h = omega (arith, free_pages-with_role ps i r (omega arith))
@@ -132,7 +137,8 @@ free_pages-some (p ∷ ps) (suc i) h e = omega (arith, free_pages-some ps i (ome
 
 -- looking for the first page of a name
 
-module _ (name : List ℕ) (ps : List Page) (n : ℕ) (x : Page) (h : n < length ps) (e : x ≡ get_or ps n x) (first : (k : ℕ) → IsFirstMade name (drop n ps) k → IsFirstMade name ps (n + k)) where
+module _ (name : List ℕ) (ps : List Page) (n : ℕ) (x : Page) (h : n < length ps) (e : x ≡ get_or ps n x)
+    (first : (k : ℕ) → IsFirstMade name (drop n ps) k → IsFirstMade name ps (n + k)) where
   here : drop n ps ≡ x ∷ drop (n + 1) ps
   here = rw (drop_more ps n x h) (ap (λ (z : Page). z ∷ drop (n + 1) ps) (sym e))
 
@@ -152,11 +158,15 @@ module _ (name : List ℕ) (ps : List Page) (n : ℕ) (x : Page) (h : n < length
 
 -- what the page at a place reads is there
 
-pub readable-first : (held : List Named) (ps : List Page) (i : ℕ) (place : Place) → i < length ps → All (IsReadable held) ps → role_at ps i ≡ Reading place → IsFirst held place.file
-readable-first held ps i place h all e = all-role (IsReadable held) (λ (r : Role). (p : Place) → r ≡ Reading p → IsFirst held p.file) (λ p fit. fit.first) ps i h all place e
+pub readable-first : (held : List Named) (ps : List Page) (i : ℕ) (place : Place) → i < length ps → All (IsReadable held) ps
+    → role_at ps i ≡ Reading place → IsFirst held place.file
+readable-first held ps i place h all e = all-role (IsReadable held) (λ (r : Role). (p : Place) → r ≡ Reading p → IsFirst held p.file)
+    (λ p fit. fit.first) ps i h all place e
 
-pub readable-within : (held : List Named) (ps : List Page) (i : ℕ) (place : Place) → i < length ps → All (IsReadable held) ps → role_at ps i ≡ Reading place → place.at ≤ length (bytes_at held place.file)
-readable-within held ps i place h all e = all-role (IsReadable held) (λ (r : Role). (p : Place) → r ≡ Reading p → p.at ≤ length (bytes_at held p.file)) (λ p fit. fit.within) ps i h all place e
+pub readable-within : (held : List Named) (ps : List Page) (i : ℕ) (place : Place) → i < length ps → All (IsReadable held) ps
+    → role_at ps i ≡ Reading place → place.at ≤ length (bytes_at held place.file)
+readable-within held ps i place h all e = all-role (IsReadable held) (λ (r : Role). (p : Place) → r ≡ Reading p
+    → p.at ≤ length (bytes_at held p.file)) (λ p fit. fit.within) ps i h all place e
 
 -- where a page is free and a file is there, it can be opened
 pub starts : (n : ℕ) (o : Option (List ℕ)) (x : List ℕ) → 0 < n → o ≡ Some x → false ≡ (nat_eq n 0 || is_none o)
@@ -171,6 +181,7 @@ readable_role held p q e fit = record {
 }
 
 -- a page that reads this place, which is there
-pub readable-with_role : (held : List Named) (ps : List Page) (i : ℕ) (r : Role) → ((p : Place) → r ≡ Reading p → IsFirst held p.file) → ((p : Place) → r ≡ Reading p → p.at ≤ length (bytes_at held p.file)) →
+pub readable-with_role : (held : List Named) (ps : List Page) (i : ℕ) (r : Role) → ((p : Place) → r ≡ Reading p → IsFirst held p.file)
+    → ((p : Place) → r ≡ Reading p → p.at ≤ length (bytes_at held p.file)) →
     All (IsReadable held) ps → All (IsReadable held) (with_role ps i r)
 readable-with_role held ps i r first within = all-with_role (IsReadable held) ps i r (λ p fit. record { first = first; within = within })

@@ -1,5 +1,6 @@
 -- The pages of files in memory: each is for one file that is opened or created, and its number is the id. No clause of the traits rests on this file.
-use Rattle.std.specs.Prelude.{ℕ, zero, suc, ◌+◌, ◌<◌, ◌≤◌, ◌≡◌, ◌≢◌, List, [], ◌∷◌, length, Bool, true, false, ◌&&◌, Option, Some, None, if◌then◌else◌, string_bytes, string_capacity, vec_len, vec_capacity, bytes_eq, All, unwrap_or}
+use Rattle.std.specs.Prelude.{ℕ, zero, suc, ◌+◌, ◌<◌, ◌≤◌, ◌≡◌, ◌≢◌, List, [], ◌∷◌, length, Bool, true, false, ◌&&◌, Option, Some, None}
+use Rattle.std.specs.Prelude.{if◌then◌else◌, string_bytes, string_capacity, vec_len, vec_capacity, bytes_eq, All, unwrap_or}
 use Rattle.vg_doubles.specs.declared.pages.Place.{Place}
 use Rattle.vg_doubles.specs.declared.pages.Role.{Role}
 use Rattle.vg_doubles.specs.declared.pages.Role.TheVariants.{Free, Reading, Writing, WasRead, Written}

@@ -1,9 +1,11 @@
 //! Creating and writing files in memory by the ids of pages.
-ghost use Rattle.std.specs.Prelude.{◌≡◌, ◌≢◌, ◌<◌, ◌≤◌, ◌+◌, ◌^◌, ◌||◌, ◌&&◌, ℕ, List, [], Some, All, length, take, nat_eq, nat_lt, nat_le, is_none, IfSome, IfNone, OnSome, vec_len};
+ghost use Rattle.std.specs.Prelude.{◌≡◌, ◌≢◌, ◌<◌, ◌≤◌, ◌+◌, ◌^◌, ◌||◌, ◌&&◌, ℕ, List, [], Some, All, length, take, nat_eq, nat_lt, nat_le, is_none};
+ghost use Rattle.std.specs.Prelude.{IfSome, IfNone, OnSome, vec_len};
 ghost use Rattle.vg_base.specs.Files.{Writes, IsOpen, writing, Appends, Empties};
 ghost use Rattle.vg_doubles.specs.Named.{Named as NamedFile};
 ghost use Rattle.vg_doubles.specs.Plan.{longest_name, taken};
-ghost use Rattle.vg_doubles.specs.Pages.{made_on, IsFirstMade, opened_on, role_at, bytes_on, name_on, made_at, free_pages, HasMemory, IsReadable, SameRoles, KeepsFit, TakesPage};
+ghost use Rattle.vg_doubles.specs.Pages.{made_on, IsFirstMade, opened_on, role_at, bytes_on, name_on, made_at, free_pages, HasMemory, IsReadable};
+ghost use Rattle.vg_doubles.specs.Pages.{SameRoles, KeepsFit, TakesPage};
 ghost use Rattle.vg_doubles.specs.declared.pages.Role.TheVariants.{Free, Writing};
 
 use crate::pages::{LONGEST_NAME, Page, Role, first_made, free_page};

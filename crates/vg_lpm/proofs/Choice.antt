@@ -1,5 +1,6 @@
 -- The passes choose the longest route that matches, and of equally long ones the last.
-use Rattle.std.proofs.Common.{◌≡◌, ◌≢◌, ℕ, zero, suc, ◌+◌, ◌-◌, ◌/◌, ◌^◌, ◌<◌, ◌≤◌, ◌⊎◌, List, [], ◌∷◌, ◌++◌, length, get_or, drop, Option, Some, None, refl, sym, ◌∙◌, ap, subst, inl, inr, arith, length-append, add-one}
+use Rattle.std.proofs.Common.{◌≡◌, ◌≢◌, ℕ, zero, suc, ◌+◌, ◌-◌, ◌/◌, ◌^◌, ◌<◌, ◌≤◌, ◌⊎◌, List, [], ◌∷◌, ◌++◌, length, get_or, drop, Option, Some}
+use Rattle.std.proofs.Common.{None, refl, sym, ◌∙◌, ap, subst, inl, inr, arith, length-append, add-one}
 use Rattle.std.specs.List.{All}
 use Rattle.std.specs.Prelude.{nat_eq, if◌then◌else◌}
 use Rattle.std.proofs.lemmas.Bool.{cases_eq, eq-eqb, ne_eqb, cond-true, cond-false}
@@ -12,7 +13,8 @@ use Rattle.vg_lpm.specs.Building.{taken, passed, passes}
 
 -- a pass that has come one route further
 passed-more : (len : ℕ) (routes : List Route) (i : ℕ) (d : Route) (a w next total : ℕ) → i < length routes
-    → next ≡ (if nat_eq (get_or routes i d).len len then taken (get_or routes i d) a w else w) → passed len (drop i routes) a w ≡ total → passed len (drop (i + 1) routes) a next ≡ total
+    → next ≡ (if nat_eq (get_or routes i d).len len then taken (get_or routes i d) a w else w) → passed len (drop i routes) a w ≡ total
+    → passed len (drop (i + 1) routes) a next ≡ total
 passed-more len routes i d a w next total within step ahead =
     ap (λ v. passed len (drop (i + 1) routes) a v) step ∙ sym (ap (λ xs. passed len xs a w) (drop_more routes i d within)) ∙ ahead
 
@@ -31,7 +33,8 @@ pub passed-done : (len : ℕ) (routes : List Route) (i a : ℕ) {w total : ℕ} 
 passed-done len routes i a {w} past ahead = sym (ap (λ xs. passed len xs a w) (drop_all i routes past)) ∙ ahead
 
 -- one pass more
-pub passes-more : (len : ℕ) (routes : List Route) (a before w : ℕ) → before ≡ passes len routes a → w ≡ passed len routes a before → w ≡ passes (len + 1) routes a
+pub passes-more : (len : ℕ) (routes : List Route) (a before w : ℕ) → before ≡ passes len routes a → w ≡ passed len routes a before
+    → w ≡ passes (len + 1) routes a
 passes-more len routes a before w e step = rw add-one (step ∙ ap (λ v. passed len routes a v) e)
 
 -- the last route of a length that matches
@@ -45,7 +48,8 @@ record IsLast (len : ℕ) (routes : List Route) (a : ℕ) (route : Route) : Type
 
 -- what a pass leaves: what was there where no route of the length matches, and else the value of the last
 abbrev IsPass : ℕ → List Route → ℕ → Option ℕ → Option ℕ → Type 0
-IsPass len routes a old new = ((new ≡ old) × All (λ other. other.len ≡ len → ¬ Matches other a) routes) ⊎ ((route : Route) × IsLast len routes a route × (new ≡ Some route.value))
+IsPass len routes a old new = ((new ≡ old) × All (λ other. other.len ≡ len → ¬ Matches other a) routes)
+    ⊎ ((route : Route) × IsLast len routes a route × (new ≡ Some route.value))
 
 IsLast-cons : (len : ℕ) (first : Route) (routes : List Route) (a : ℕ) (route : Route) → IsLast len routes a route → IsLast len (first ∷ routes) a route
 IsLast-cons len first routes a route last = record {
@@ -72,7 +76,8 @@ kept_pass len route routes a old not_it same rest = (
 )
 
 taken_pass : (len : ℕ) (route : Route) (routes : List Route) (a : ℕ) (old : Option ℕ) → route.len ≡ len → Matches route a
-    → (if nat_eq route.len len then taken route a (leaf old) else leaf old) ≡ leaf (Some route.value) → Passes len routes a (Some route.value) → Passes len (route ∷ routes) a old
+    → (if nat_eq route.len len then taken route a (leaf old) else leaf old) ≡ leaf (Some route.value) → Passes len routes a (Some route.value)
+    → Passes len (route ∷ routes) a old
 taken_pass len route routes a old length_is matches same rest = (
   rest.0,
   ap (λ v. passed len routes a v) same ∙ rest.1,
@@ -93,7 +98,8 @@ one_pass len (route ∷ routes) a old = elim (cases_eq route.len len) [
         (cond-true _ (taken route a (leaf old)) (leaf old) (eq-eqb route.len len same) ∙ cond-false _ (leaf (Some route.value)) (leaf old) (ne_eqb _ _ differs))
         (one_pass len routes a old)
   ]
-  | inr ne ↦ kept_pass len route routes a old (λ same. absurd (ne same)) (cond-false _ (taken route a (leaf old)) (leaf old) (ne_eqb route.len len ne)) (one_pass len routes a old)
+  | inr ne ↦ kept_pass len route routes a old (λ same. absurd (ne same)) (cond-false _ (taken route a (leaf old)) (leaf old)
+      (ne_eqb route.len len ne)) (one_pass len routes a old)
 ]
 
 -- the route for an address among those shorter than a length
@@ -119,7 +125,8 @@ All-back P before behind route all k d within =
     subst P (get_or-append-add before (route ∷ behind) (suc k) d) (all (length before + suc k) d (omega (arith, length-append before (route ∷ behind))))
 
 -- a pass in which no route matches changes nothing
-best-kept : (len : ℕ) (routes : List Route) (a : ℕ) (answer : Option ℕ) → All (λ other. other.len ≡ len → ¬ Matches other a) routes → IsBestBelow len routes a answer → IsBestBelow (suc len) routes a answer
+best-kept : (len : ℕ) (routes : List Route) (a : ℕ) (answer : Option ℕ) → All (λ other. other.len ≡ len → ¬ Matches other a) routes
+    → IsBestBelow len routes a answer → IsBestBelow (suc len) routes a answer
 best-kept len routes a None none best = λ k d within below matches.
     let other = get_or routes k d in
     elim (cases_eq other.len len) [ inl same ↦ none k d within same matches | inr ne ↦ best k d within (omega arith) matches ]
@@ -160,7 +167,8 @@ best-last len routes a route last = record {
       elim (cases_eq other.len len) [ inl same ↦ absurd (last.none k d within same matches) | inr ne ↦ omega (arith, last.length_is) ];
 }
 
-best-passed : (len : ℕ) (routes : List Route) (a : ℕ) (old new : Option ℕ) → IsPass len routes a old new → IsBestBelow len routes a old → IsBestBelow (suc len) routes a new
+best-passed : (len : ℕ) (routes : List Route) (a : ℕ) (old new : Option ℕ) → IsPass len routes a old new → IsBestBelow len routes a old
+    → IsBestBelow (suc len) routes a new
 best-passed len routes a old new pass best = elim pass [
   | inl kept ↦ subst (IsBestBelow (suc len) routes a) (sym kept.0) (best-kept len routes a old kept.1 best)
   | inr last ↦ subst (IsBestBelow (suc len) routes a) (sym last.2) (last.0, best-last len routes a last.0 last.1, refl)
@@ -173,7 +181,8 @@ best-passes (suc len) routes a =
     let pass = one_pass len routes a before.0 in
     (pass.0, ap (λ w. passed len routes a w) before.1 ∙ pass.1, best-passed len routes a before.0 pass.0 pass.2 before.2)
 
-best-all : (routes : List Route) (a : ℕ) (answer : Option ℕ) → All (λ route. route.len ≤ 32) routes → IsBestBelow 33 routes a answer → IsLongestMatch routes a answer
+best-all : (routes : List Route) (a : ℕ) (answer : Option ℕ) → All (λ route. route.len ≤ 32) routes → IsBestBelow 33 routes a answer
+    → IsLongestMatch routes a answer
 best-all routes a None lengths best = λ k d within matches. best k d within (omega (arith, lengths k d within)) matches
 best-all routes a (Some value) lengths best =
     let route = best.0 in
@@ -194,7 +203,8 @@ best-all routes a (Some value) lengths best =
     )
 
 -- after the passes for all lengths
-pub passes-IsLongestMatch : (routes : List Route) (a : ℕ) → All (λ route. route.len ≤ 32) routes → (answer : Option ℕ) × (passes 33 routes a ≡ leaf answer) × IsLongestMatch routes a answer
+pub passes-IsLongestMatch : (routes : List Route) (a : ℕ) → All (λ route. route.len ≤ 32) routes → (answer : Option ℕ)
+    × (passes 33 routes a ≡ leaf answer) × IsLongestMatch routes a answer
 passes-IsLongestMatch routes a lengths =
     let best = best-passes 33 routes a in
     (best.0, best.1, best-all routes a best.0 lengths best.2)

@@ -1,5 +1,6 @@
 -- Links between two levels: what a word leads to, and what keeps them.
-use Rattle.std.proofs.Common.{◌≡◌, ◌≢◌, ℕ, ◌+◌, ◌-◌, ◌*◌, ◌/◌, ◌%◌, ◌^◌, ◌<◌, ◌≤◌, ◌⊎◌, List, ◌++◌, length, get_or, set, take, sym, ◌∙◌, ap, inl, inr, arith, length-append, get_or-set_same, get_or-set_other}
+use Rattle.std.proofs.Common.{◌≡◌, ◌≢◌, ℕ, ◌+◌, ◌-◌, ◌*◌, ◌/◌, ◌%◌, ◌^◌, ◌<◌, ◌≤◌, ◌⊎◌, List, ◌++◌, length, get_or, set, take, sym, ◌∙◌, ap, inl, inr}
+use Rattle.std.proofs.Common.{arith, length-append, get_or-set_same, get_or-set_other}
 use Rattle.std.proofs.lemmas.Bool.{cases_lt, cases_eq, lt-ltb, le-ltb, cond-true, cond-false}
 use Rattle.std.proofs.lemmas.List.{get_or_append_left, get_or-replicate, get_or_past, take_all}
 use Rattle.std.proofs.Math.Seq.{get_or-append_right}
@@ -36,13 +37,15 @@ AreLinks-lower {upper} {lower} {newer} links same = record {
 }
 
 -- what stands where a leaf was filled in: the leaf or what stood there
-pub Fills-at : {old new : List ℕ} {place free word : ℕ} → Fills old new place free word → (j : ℕ) → j < length old → (get_or new j 0 ≡ word) ⊎ (get_or new j 0 ≡ get_or old j 0)
+pub Fills-at : {old new : List ℕ} {place free word : ℕ} → Fills old new place free word → (j : ℕ) → j < length old → (get_or new j 0 ≡ word)
+    ⊎ (get_or new j 0 ≡ get_or old j 0)
 Fills-at {old} {new} {place} {free} fills j within = elim (cases_eq (j / 2 ^ free) (place / 2 ^ free)) [
   | inl same ↦ inl (fills.filled j within same)
   | inr ne ↦ inr (fills.others j ne)
 ]
 
-pub AreLinks-filled : {upper newer lower : List ℕ} {place free word : ℕ} → AreLinks upper lower → Fills upper newer place free word → word < 65537 → AreLinks newer lower
+pub AreLinks-filled : {upper newer lower : List ℕ} {place free word : ℕ} → AreLinks upper lower → Fills upper newer place free word → word < 65537
+    → AreLinks newer lower
 AreLinks-filled {upper} {newer} {lower} {place} {free} {word} links fills leaf = AreLinks-upper links (λ j within is.
     let old_in : j < length upper = omega (arith, fills.same_length) in
     elim (Fills-at fills j old_in) [ inl now ↦ absurd (omega arith) | inr was ↦ (old_in, was) ])
@@ -67,7 +70,8 @@ pushed-leaf lower word j leaf low = elim (cases_lt j (length lower + 256)) [
   | inr past ↦ omega (arith, get_or_past (lower ++ replicate 256 word) j 0 (omega (arith, pushed-length lower word)))
 ]
 
-pushed_links : {upper lower : List ℕ} (at word : ℕ) → AreLinks upper lower → at < length upper → AreLinks (set upper at (65537 + length lower / 256)) (lower ++ replicate 256 word)
+pushed_links : {upper lower : List ℕ} (at word : ℕ) → AreLinks upper lower → at < length upper
+    → AreLinks (set upper at (65537 + length lower / 256)) (lower ++ replicate 256 word)
 pushed_links {upper} {lower} at word links within =
     let block = length lower / 256 in
     let here = get_or-set_same upper at (65537 + block) 0 within in
@@ -102,7 +106,8 @@ pushed_links {upper} {lower} at word links within =
       whole = omega arith;
     }
 
-pushed_leads : {upper lower : List ℕ} (at word : ℕ) → AreLinks upper lower → at < length upper → word ≡ get_or upper at 0 → word < 65537 → (i bits : ℕ) → i < length upper
+pushed_leads : {upper lower : List ℕ} (at word : ℕ) → AreLinks upper lower → at < length upper → word ≡ get_or upper at 0 → word < 65537
+    → (i bits : ℕ) → i < length upper
     → follow (lower ++ replicate 256 word) (get_or (set upper at (65537 + length lower / 256)) i 0) bits ≡ follow lower (get_or upper i 0) bits
 pushed_leads {upper} {lower} at word links within stood leaf i bits i_in =
     let block = length lower / 256 in
@@ -112,7 +117,8 @@ pushed_leads {upper} {lower} at word links within stood leaf i bits i_in =
       | inl same ↦
           let value = ap (λ n. get_or (set upper at (65537 + block)) n 0) same ∙ get_or-set_same upper at (65537 + block) 0 within in
           let old : get_or upper i 0 ≡ word = ap (λ n. get_or upper n 0) same ∙ sym stood in
-          ap (λ v. follow newer v bits) value ∙ follow-link newer (65537 + block) bits (omega arith) ∙ pushed lower word ((65537 + block - 65537) * 256 + bits % 256) (omega arith) (omega arith)
+          ap (λ v. follow newer v bits) value ∙ follow-link newer (65537 + block) bits (omega arith)
+          ∙ pushed lower word ((65537 + block - 65537) * 256 + bits % 256) (omega arith) (omega arith)
           ∙ sym (ap (λ v. follow lower v bits) old ∙ follow-leaf lower word bits leaf)
       | inr ne ↦
           let w = get_or upper i 0 in
@@ -121,7 +127,8 @@ pushed_leads {upper} {lower} at word links within stood leaf i bits i_in =
             | inl is_leaf ↦ follow-leaf newer w bits is_leaf ∙ sym (follow-leaf lower w bits is_leaf)
             | inr is_link ↦
                 let at_i = links.blocks i i_in is_link in
-                follow-link newer w bits is_link ∙ get_or_append_left lower (replicate 256 word) 0 ((w - 65537) * 256 + bits % 256) (omega arith) ∙ sym (follow-link lower w bits is_link)
+                follow-link newer w bits is_link ∙ get_or_append_left lower (replicate 256 word) 0 ((w - 65537) * 256 + bits % 256) (omega arith)
+                ∙ sym (follow-link lower w bits is_link)
           ]
     ]
 
@@ -146,9 +153,12 @@ resized lower word n e =
     let more : n + 256 - length lower ≡ 256 = omega arith in
     ap (λ xs. xs ++ replicate (n + 256 - length lower) word) (take_all (n + 256) lower (omega arith)) ∙ ap (λ k. lower ++ replicate k word) more
 
-pub Opens-resized : {upper lower items : List ℕ} (at word linked n m len : ℕ) → AreLinks upper lower → at < length upper → word ≡ get_or upper at 0 → word < 65537
-    → n ≡ length lower → m ≡ length lower → len ≡ length lower → linked ≡ 65537 + n / 256 → items ≡ take (m + 256) lower ++ replicate (m + 256 - len) word → Opens upper lower (set upper at linked) items at (n / 256)
+pub Opens-resized : {upper lower items : List ℕ} (at word linked n m len : ℕ) → AreLinks upper lower → at < length upper → word ≡ get_or upper at 0
+    → word < 65537
+    → n ≡ length lower → m ≡ length lower → len ≡ length lower → linked ≡ 65537 + n / 256 → items ≡ take (m + 256) lower
+    ++ replicate (m + 256 - len) word → Opens upper lower (set upper at linked) items at (n / 256)
 Opens-resized {upper} {lower} {items} at word linked n m len links within stood leaf n_is m_is len_is linked_is items_is =
     let linked_e : linked ≡ 65537 + length lower / 256 = linked_is ∙ ap (λ k. 65537 + k / 256) n_is in
-    let items_e : items ≡ lower ++ replicate 256 word = items_is ∙ ap (λ k. take (m + 256) lower ++ replicate (m + 256 - k) word) len_is ∙ resized lower word m m_is in
+    let items_e : items ≡ lower ++ replicate 256 word = items_is ∙ ap (λ k. take (m + 256) lower ++ replicate (m + 256 - k) word) len_is
+    ∙ resized lower word m m_is in
     rw (linked_e, items_e, n_is) (Opens-new at word links within stood leaf)

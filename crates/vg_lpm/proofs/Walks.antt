@@ -22,12 +22,14 @@ upper_8 : (n len : ℕ) → len ≤ 24 → n / 256 / 2 ^ (24 - len) ≡ n / 2 ^ 
 upper_8 n len h = let e : 8 + (24 - len) ≡ 32 - len = omega arith in shr-shr n 8 (24 - len) ∙ ap (λ m. n / 2 ^ m) e
 
 -- opening an entry of the first level
-pub walk-opened_first : {first second newer_first newer_second : List ℕ} (third : List ℕ) {at block : ℕ} → Opens first second newer_first newer_second at block → length first ≡ 65536
+pub walk-opened_first : {first second newer_first newer_second : List ℕ} (third : List ℕ) {at block : ℕ}
+    → Opens first second newer_first newer_second at block → length first ≡ 65536
     → (a : ℕ) → a < 2 ^ 32 → walk newer_first newer_second third a ≡ walk first second third a
 walk-opened_first third opens whole a fits = ap (λ v. follow third v a) (opens.leads (a / 65536) (a / 256) (omega arith))
 
 -- opening an entry of the second
-pub walk-opened_second : {first second third newer_second newer_third : List ℕ} {at block : ℕ} → AreLinks first second → Opens second third newer_second newer_third at block → length first ≡ 65536
+pub walk-opened_second : {first second third newer_second newer_third : List ℕ} {at block : ℕ} → AreLinks first second
+    → Opens second third newer_second newer_third at block → length first ≡ 65536
     → (a : ℕ) → a < 2 ^ 32 → walk first newer_second newer_third a ≡ walk first second third a
 walk-opened_second {first} {second} {third} {newer_second} {newer_third} links opens whole a fits =
     let w = get_or first (a / 65536) 0 in
@@ -53,11 +55,13 @@ walk-filled_first {first} {newer} second third route short small whole fills a f
     taken-by route a
     (λ same.
     let at = fills.filled (a / 65536) (omega arith) (bits a ∙ same ∙ sym (bits route.address)) in
-    ap (λ v. follow third (follow second v (a / 256)) a) at ∙ ap (λ v. follow third v a) (follow-leaf second (route.value + 1) (a / 256) leaf) ∙ follow-leaf third (route.value + 1) a leaf)
+    ap (λ v. follow third (follow second v (a / 256)) a) at ∙ ap (λ v. follow third v a) (follow-leaf second (route.value + 1) (a / 256) leaf)
+    ∙ follow-leaf third (route.value + 1) a leaf)
     (λ other. ap (λ v. follow third (follow second v (a / 256)) a) (fills.others (a / 65536) (λ e. other (sym (bits a) ∙ e ∙ bits route.address))))
 
 -- a leaf in the block of the second level that the route's first 16 bits lead to
-pub walk-filled_second : {first second newer : List ℕ} (third : List ℕ) (route : Route) (b : ℕ) → 16 < route.len → route.len ≤ 24 → route.value < 2 ^ 16 → route.address < 2 ^ 32 → length first ≡ 65536
+pub walk-filled_second : {first second newer : List ℕ} (third : List ℕ) (route : Route) (b : ℕ) → 16 < route.len → route.len ≤ 24
+    → route.value < 2 ^ 16 → route.address < 2 ^ 32 → length first ≡ 65536
     → AreLinks first second → get_or first (route.address / 65536) 0 ≡ 65537 + b
     → Fills second newer (b * 256 + route.address / 256 % 256) (24 - route.len) (route.value + 1)
     → (a : ℕ) → a < 2 ^ 32 → walk first newer third a ≡ taken route a (walk first second third a)
@@ -86,7 +90,8 @@ walk-filled_second {first} {second} {newer} third route b long short small fits_
           (λ same.
           let here : w ≡ 65537 + b = leads same in
           let at : w - 65537 ≡ b = omega arith in
-          let run : q / 2 ^ k ≡ (b * 256 + r / 256 % 256) / 2 ^ k = ap (λ n. (n * 256 + a / 256 % 256) / 2 ^ k) at ∙ in_block b (a / 256) (r / 256) k low (agree same) in
+          let run : q / 2 ^ k ≡ (b * 256 + r / 256 % 256) / 2 ^ k = ap (λ n. (n * 256 + a / 256 % 256) / 2 ^ k) at
+          ∙ in_block b (a / 256) (r / 256) k low (agree same) in
           let word = fills.filled q (omega arith) run in
           ap (λ v. follow third v a) (now ∙ word) ∙ follow-leaf third (route.value + 1) a leaf)
           (λ other. ap (λ v. follow third v a) (now ∙ fills.others q (λ run.
@@ -99,7 +104,8 @@ walk-filled_second {first} {second} {newer} third route b long short small fits_
     ]
 
 -- where the second level leads to a link, the first leads into it
-second_place : {first second : List ℕ} (a : ℕ) → a < 2 ^ 32 → length first ≡ 65536 → AreLinks first second → 65537 ≤ follow second (get_or first (a / 65536) 0) (a / 256)
+second_place : {first second : List ℕ} (a : ℕ) → a < 2 ^ 32 → length first ≡ 65536 → AreLinks first second
+    → 65537 ≤ follow second (get_or first (a / 65536) 0) (a / 256)
     → (65537 ≤ get_or first (a / 65536) 0) × ((get_or first (a / 65536) 0 - 65537) * 256 + a / 256 % 256 < length second)
     × (follow second (get_or first (a / 65536) 0) (a / 256) ≡ get_or second ((get_or first (a / 65536) 0 - 65537) * 256 + a / 256 % 256) 0)
 second_place {first} {second} a fits whole links is =
@@ -112,8 +118,10 @@ second_place {first} {second} a fits whole links is =
     ]
 
 -- a leaf in the block of the third level that the route's first 24 bits lead to
-pub walk-filled_third : {first second third newer : List ℕ} (route : Route) (b c : ℕ) → 24 < route.len → route.len ≤ 32 → route.value < 2 ^ 16 → route.address < 2 ^ 32 → length first ≡ 65536
-    → AreLinks first second → AreLinks second third → get_or first (route.address / 65536) 0 ≡ 65537 + b → get_or second (b * 256 + route.address / 256 % 256) 0 ≡ 65537 + c
+pub walk-filled_third : {first second third newer : List ℕ} (route : Route) (b c : ℕ) → 24 < route.len → route.len ≤ 32 → route.value < 2 ^ 16
+    → route.address < 2 ^ 32 → length first ≡ 65536
+    → AreLinks first second → AreLinks second third → get_or first (route.address / 65536) 0 ≡ 65537 + b
+    → get_or second (b * 256 + route.address / 256 % 256) 0 ≡ 65537 + c
     → Fills third newer (c * 256 + route.address % 256) (32 - route.len) (route.value + 1)
     → (a : ℕ) → a < 2 ^ 32 → walk first second newer a ≡ taken route a (walk first second third a)
 walk-filled_third {first} {second} {third} {newer} route b c long short small fits_route whole links lower opened lower_opened fills a fits =

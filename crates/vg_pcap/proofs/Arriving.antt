@@ -1,5 +1,6 @@
 -- Lists of arrivals, and lists of which one element is replaced.
-use Rattle.std.proofs.Common.{◌≡◌, ◌≢◌, ℕ, zero, suc, ◌<◌, ◌≤◌, ◌==◌, max, refl, ◌∙◌, ap, subst, List, [], ◌∷◌, ◌++◌, length, get_or, set, map, filter, filter_map, All, slice_get, Some, Option, arith, append-nil, eq-eqb, ne_eqb}
+use Rattle.std.proofs.Common.{◌≡◌, ◌≢◌, ℕ, zero, suc, ◌<◌, ◌≤◌, ◌==◌, max, refl, ◌∙◌, ap, subst, List, [], ◌∷◌, ◌++◌, length, get_or, set, map}
+use Rattle.std.proofs.Common.{filter, filter_map, All, slice_get, Some, Option, arith, append-nil, eq-eqb, ne_eqb}
 use Rattle.std.proofs.lemmas.List.{map-append}
 use Rattle.std.proofs.lemmas.List.Elements.{All-cons, All-nil, filter-append}
 use Rattle.vg_pcap.specs.Captures.{Encoding, Record}
@@ -46,7 +47,9 @@ abbrev frames_of : ℕ → Arrival → List Framed
 frames_of port a = map (λ x. x.frame) (filter (λ x. x.port == port) (a ∷ []))
 
 pub frames_from-append : (port : ℕ) (xs ys : List Arrival) → frames_from port (xs ++ ys) ≡ frames_from port xs ++ frames_from port ys
-frames_from-append port xs ys = rw (filter-append (λ x. x.port == port) xs ys) (map-append (λ (x : Arrival). x.frame) (filter (λ x. x.port == port) xs) (filter (λ x. x.port == port) ys))
+frames_from-append port xs ys =
+    rw (filter-append (λ x. x.port == port) xs ys) (map-append (λ (x : Arrival). x.frame) (filter (λ x. x.port == port) xs)
+    (filter (λ x. x.port == port) ys))
 
 pub frames_from-same : (a : Arrival) (xs : List Arrival) → frames_from a.port (a ∷ xs) ≡ a.frame ∷ frames_from a.port xs
 frames_from-same a xs = rw (eq-eqb a.port a.port refl) refl

@@ -1,5 +1,6 @@
 -- Closing one input after another.
-use Rattle.std.proofs.Common.{◌≡◌, ◌≢◌, ℕ, zero, suc, ◌<◌, ⊎_elim, refl, ◌∙◌, sym, ap, subst, List, [], ◌∷◌, ◌++◌, length, slice_get, Ok, Err, Some, None, Option, Result, arith, append_assoc, append-nil}
+use Rattle.std.proofs.Common.{◌≡◌, ◌≢◌, ℕ, zero, suc, ◌<◌, ⊎_elim, refl, ◌∙◌, sym, ap, subst, List, [], ◌∷◌, ◌++◌, length, slice_get, Ok, Err, Some}
+use Rattle.std.proofs.Common.{None, Option, Result, arith, append_assoc, append-nil}
 use Rattle.std.specs.Result.{result_and}
 use Rattle.std.specs.List.{cons_option}
 use Rattle.std.proofs.lemmas.Bool.{cases_eq}
@@ -30,9 +31,24 @@ slice_get-append_next (y ∷ xs) ys x = slice_get-append_next xs ys x
 
 pub Counts-then : {a b c : ℕ} (first second : Result (Unit {0}) Failed) → Counts a b first → Counts b c second → Counts a c (result_and first second)
 Counts-then (Ok done) (Ok done-2) x y = record { failed = tt; same = y.same ∙ x.same; rises = omega (arith, x.rises, y.rises) }
-Counts-then (Ok done) (Err e) x y = record { failed = (let rose = y.failed in let same = x.same in omega arith); same = tt; rises = omega (arith, x.rises, y.rises) }
-Counts-then (Err e) (Ok done) x y = record { failed = (let rose = x.failed in let same = y.same in omega arith); same = tt; rises = omega (arith, x.rises, y.rises) }
-Counts-then (Err e) (Err e-2) x y = record { failed = (let rose = x.failed in let rises = y.rises in omega arith); same = tt; rises = omega (arith, x.rises, y.rises) }
+Counts-then (Ok done) (Err e) x y = record {
+  failed = (let rose = y.failed in let same = x.same in omega arith);
+  same = tt;
+  rises =
+      omega (arith, x.rises, y.rises);
+}
+Counts-then (Err e) (Ok done) x y = record {
+  failed = (let rose = x.failed in let same = y.same in omega arith);
+  same = tt;
+  rises =
+      omega (arith, x.rises, y.rises);
+}
+Counts-then (Err e) (Err e-2) x y = record {
+  failed = (let rose = x.failed in let rises = y.rises in omega arith);
+  same = tt;
+  rises =
+      omega (arith, x.rises, y.rises);
+}
 
 -- ---- the ids
 
@@ -41,7 +57,8 @@ pub differs-none : (s : Disk) → DiffersBy s s []
 differs-none s = record { closed = All-nil (λ id. s.opened id ≡ None); others = λ id all. refl; count = omega arith }
 
 -- one more id is closed, or none
-pub differs-more : {s t u : Disk} {ids : List ℕ} (id : Option ℕ) → DiffersBy t s ids → (id ≡ None → SameIds t u) → ((j : ℕ) → id ≡ Some j → ClosesOne t u j) → DiffersBy u s (cons_option id ids)
+pub differs-more : {s t u : Disk} {ids : List ℕ} (id : Option ℕ) → DiffersBy t s ids → (id ≡ None → SameIds t u)
+    → ((j : ℕ) → id ≡ Some j → ClosesOne t u j) → DiffersBy u s (cons_option id ids)
 differs-more {s} {t} {u} {ids} None before none one =
     let same = none refl in
     record {
@@ -54,7 +71,8 @@ differs-more {s} {t} {u} {ids} (Some j) before none one =
     let still_closed : (id : ℕ) → t.opened id ≡ None → u.opened id ≡ None =
     λ id e. ⊎_elim (λ (same : id ≡ j). ap u.opened same ∙ closes.now) (λ (ne : id ≢ j). closes.others id ne ∙ e) (cases_eq id j) in
     record {
-      closed = All-cons (λ id. u.opened id ≡ None) j ids closes.now (All-weaker (λ id. t.opened id ≡ None) (λ id. u.opened id ≡ None) still_closed ids before.closed);
+      closed = All-cons (λ id. u.opened id ≡ None) j ids closes.now (All-weaker (λ id. t.opened id ≡ None) (λ id. u.opened id ≡ None) still_closed ids
+          before.closed);
       others = λ id all. before.others id (All-tail (λ other. id ≢ other) j ids all) ∙ sym (closes.others id (All-head (λ other. id ≢ other) j ids all));
       count = omega (arith, before.count, closes.one_less);
     }
@@ -83,11 +101,15 @@ closing-none {s} inputs readable = record {
 }
 
 -- the input that is closed next can be read
-pub last_readable : {s t : Disk} {all items : List Input} {result : Result (Unit {0}) Failed} (rest : List Input) (input : Input) → Closing s t all items result → items ≡ rest ++ input ∷ [] → IsReadable t input.reader.id
+pub last_readable : {s t : Disk} {all items : List Input} {result : Result (Unit {0}) Failed} (rest : List Input) (input : Input)
+    → Closing s t all items result → items ≡ rest ++ input ∷ [] → IsReadable t input.reader.id
 last_readable {s} {t} {all} {items} rest input before is =
-    All-at_place (λ i. IsReadable t i.reader.id) items (length rest) input before.readable (ap (λ l. slice_get l (length rest)) is ∙ slice_get-append_next rest [] input)
+    All-at_place (λ i. IsReadable t i.reader.id) items (length rest) input before.readable
+    (ap (λ l. slice_get l (length rest)) is ∙ slice_get-append_next rest [] input)
 
-pub closing-more : {s t u : Disk} {all items : List Input} {first second : Result (Unit {0}) Failed} (rest : List Input) (input : Input) → AreApart all → Closing s t all items first → items ≡ rest ++ input ∷ [] → Shuts t u input.reader.id second → Closing s u all rest (result_and first second)
+pub closing-more : {s t u : Disk} {all items : List Input} {first second : Result (Unit {0}) Failed} (rest : List Input) (input : Input)
+    → AreApart all → Closing s t all items first → items ≡ rest ++ input ∷ [] → Shuts t u input.reader.id second
+    → Closing s u all rest (result_and first second)
 closing-more {s} {t} {u} {all} {items} {first} {second} rest input apart before is shuts =
     let whole : all ≡ rest ++ input ∷ before.closed = before.whole ∙ (ap (λ l. l ++ before.closed) is ∙ append_assoc rest (input ∷ []) before.closed) in
     record {
@@ -103,8 +125,13 @@ closing-more {s} {t} {u} {all} {items} {first} {second} rest input apart before 
           let readable : IsReadable t x.reader.id = All-at_place (λ i. IsReadable t i.reader.id) items p x before.readable there in
           let lt : p < length rest = slice_get_within rest p x at in
           let in_all : slice_get all p ≡ Some x = ap (λ l. slice_get l p) whole ∙ slice_get-append_left rest (input ∷ before.closed) p x at in
-          let last_in_all : slice_get all (length rest) ≡ Some input = ap (λ l. slice_get l (length rest)) whole ∙ slice_get-append_next rest before.closed input in
-          let stands : SameId t u x.reader.id = record { stands = λ j x-is. same_after input.reader.id j (λ same. let same_place = apart.places p (length rest) x input j in_all last_in_all x-is same in omega arith) shuts.none shuts.one } in
+          let last_in_all : slice_get all (length rest) ≡ Some input = ap (λ l. slice_get l (length rest)) whole
+          ∙ slice_get-append_next rest before.closed input in
+          let stands : SameId t u x.reader.id =
+          record {
+            stands = λ j x-is. same_after input.reader.id j (λ same. let same_place =
+                apart.places p (length rest) x input j in_all last_in_all x-is same in omega arith) shuts.none shuts.one;
+          } in
           IsReadable-stays x.reader.id readable stands);
     }
   where
@@ -112,7 +139,8 @@ closing-more {s} {t} {u} {all} {items} {first} {second} rest input apart before 
     same_after None j ne none one = ap (λ f. f j) (none refl).opened
     same_after (Some k) j ne none one = (one k refl).others j (λ e. ne (ap Some (sym e)))
 
-pub closing-all : {s t : Disk} {all rest : List Input} {result : Result (Unit {0}) Failed} → rest ≡ [] → Closing s t all rest result → ClosesInputs s t all result
+pub closing-all : {s t : Disk} {all rest : List Input} {result : Result (Unit {0}) Failed} → rest ≡ [] → Closing s t all rest result
+    → ClosesInputs s t all result
 closing-all {s} {t} {all} {rest} none closing =
     let whole : all ≡ closing.closed = closing.whole ∙ ap (λ l. l ++ closing.closed) none in
     record {

@@ -1,5 +1,6 @@
 -- Headers at the front of a file.
-use Rattle.std.proofs.Common.{◌≡◌, ◌≤◌, ℕ, ◌+◌, List, [], ◌++◌, length, take, drop, refl, sym, ap, ◌∙◌, append_assoc, append-nil, length-append, length-drop, arith}
+use Rattle.std.proofs.Common.{◌≡◌, ◌≤◌, ℕ, ◌+◌, List, [], ◌++◌, length, take, drop, refl, sym, ap, ◌∙◌, append_assoc, append-nil, length-append}
+use Rattle.std.proofs.Common.{length-drop, arith}
 use Rattle.std.proofs.lemmas.List.{drop_at, take_at, length-take-le, take-append-drop, take-append-le, drop-append-le}
 use Rattle.std.proofs.Math.Seq.{take-add}
 use Rattle.vg_pcap.specs.Captures.{Encoding, HasHeader, HasMagic, IsBadHeader, header_bytes, magic_bytes, version_bytes, link_bytes}
@@ -19,14 +20,16 @@ twenty_four file =
     ∙ ap (λ (front : List ℕ). front ++ take 12 (drop 8 file) ++ take 4 (drop 20 file)) (take-add 4 4 file)
 
 -- a header's parts stand at their places
-pub header_of_parts : (encoding : Encoding) (file : List ℕ) → take 4 file ≡ magic_bytes encoding → take 4 (drop 4 file) ≡ version_bytes encoding → take 4 (drop 20 file) ≡ link_bytes encoding →
+pub header_of_parts : (encoding : Encoding) (file : List ℕ) → take 4 file ≡ magic_bytes encoding → take 4 (drop 4 file) ≡ version_bytes encoding
+    → take 4 (drop 20 file) ≡ link_bytes encoding →
     take 24 file ≡ header_bytes encoding (take 12 (drop 8 file))
 unfolding header_bytes
 header_of_parts encoding file magic version link =
     let ignored : take 12 (drop 8 file) ≡ take 12 (drop 8 file) = refl in
     twenty_four file ∙ four_pieces magic version ignored link
 
-pub HasHeader-of_parts : (encoding : Encoding) (file : List ℕ) → 24 ≤ length file → take 4 file ≡ magic_bytes encoding → take 4 (drop 4 file) ≡ version_bytes encoding →
+pub HasHeader-of_parts : (encoding : Encoding) (file : List ℕ) → 24 ≤ length file → take 4 file ≡ magic_bytes encoding
+    → take 4 (drop 4 file) ≡ version_bytes encoding →
     take 4 (drop 20 file) ≡ link_bytes encoding → HasHeader encoding file (drop 24 file)
 HasHeader-of_parts encoding file long magic version link = record {
   ignored = take 12 (drop 8 file);
@@ -52,9 +55,11 @@ regroup m v i l behind = simp append_assoc
 places : (m v i l behind : List ℕ) → length m ≡ 4 → length v ≡ 4 → length i ≡ 12 → length l ≡ 4 →
     (take 4 (m ++ v ++ i ++ l ++ behind) ≡ m) × (take 4 (drop 4 (m ++ v ++ i ++ l ++ behind)) ≡ v) × (take 4 (drop 20 (m ++ v ++ i ++ l ++ behind)) ≡ l)
 places m v i l behind size_m size_v size_i size_l =
-    let at_version : drop 4 (m ++ v ++ i ++ l ++ behind) ≡ v ++ (i ++ (l ++ behind)) = ap (drop 4) (regroup m v i l behind) ∙ drop_at m (v ++ (i ++ (l ++ behind))) 4 size_m in
+    let at_version : drop 4 (m ++ v ++ i ++ l ++ behind) ≡ v ++ (i ++ (l ++ behind)) = ap (drop 4) (regroup m v i l behind)
+    ∙ drop_at m (v ++ (i ++ (l ++ behind))) 4 size_m in
     let front : length (m ++ v ++ i) ≡ 20 = omega (arith, length-append (m ++ v) i, length-append m v) in
-    let at_link : drop 20 (m ++ v ++ i ++ l ++ behind) ≡ l ++ behind = ap (drop 20) (append_assoc (m ++ v ++ i) l behind) ∙ drop_at (m ++ v ++ i) (l ++ behind) 20 front in (
+    let at_link : drop 20 (m ++ v ++ i ++ l ++ behind) ≡ l ++ behind = ap (drop 20) (append_assoc (m ++ v ++ i) l behind)
+    ∙ drop_at (m ++ v ++ i) (l ++ behind) 20 front in (
       ap (take 4) (regroup m v i l behind) ∙ take_at m (v ++ (i ++ (l ++ behind))) 4 size_m,
       ap (take 4) at_version ∙ take_at v (i ++ (l ++ behind)) 4 size_v,
       ap (take 4) at_link ∙ take_at l behind 4 size_l,
@@ -67,7 +72,8 @@ header_parts : (encoding : Encoding) (ignored behind : List ℕ) → length igno
 unfolding header_bytes
 header_parts encoding ignored behind size =
     let o = encoding.order in
-    let at = places (magic_bytes encoding) (version_bytes encoding) ignored (link_bytes encoding) behind (length-number_bytes o 4 _) (length-version_bytes encoding) size (length-number_bytes o 4 1) in
+    let at = places (magic_bytes encoding) (version_bytes encoding) ignored (link_bytes encoding) behind (length-number_bytes o 4 _)
+    (length-version_bytes encoding) size (length-number_bytes o 4 1) in
     record {
       long = omega (arith, length-append (header_bytes encoding ignored) behind, length-header_bytes encoding ignored size);
       magic = at.0;
@@ -81,7 +87,8 @@ HasHeader-parts {encoding} behind is = rw is.whole (header_parts encoding is.ign
 pub magic_of : {encoding : Encoding} {file : List ℕ} → 24 ≤ length file → take 4 file ≡ magic_bytes encoding → HasMagic encoding file
 magic_of long magic = record { long = long; magic = magic }
 
-pub HasHeader-whole : (encoding : Encoding) (header : List ℕ) → length header ≡ 24 → take 4 header ≡ magic_bytes encoding → take 4 (drop 4 header) ≡ version_bytes encoding →
+pub HasHeader-whole : (encoding : Encoding) (header : List ℕ) → length header ≡ 24 → take 4 header ≡ magic_bytes encoding
+    → take 4 (drop 4 header) ≡ version_bytes encoding →
     take 4 (drop 20 header) ≡ link_bytes encoding → HasHeader encoding header []
 HasHeader-whole encoding header size magic version link =
     let is = HasHeader-of_parts encoding header (omega arith) magic version link in

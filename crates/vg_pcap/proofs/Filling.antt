@@ -57,7 +57,8 @@ filling-none {s} {inputs} readable = record {
 first_count : (count was waits : ℕ) → number_after count ≡ number_after (was + waits) → was ≡ 0 → number_after count ≡ number_after waits
 first_count count was waits e zero_before = omega arith
 
-pub filling-more : {s t u : Disk} {old mid new : List Input} {port : ℕ} → Filling s t old mid port → RefillsAt t u mid new port (Ok tt) → Filling s u old new (port + 1)
+pub filling-more : {s t u : Disk} {old mid new : List Input} {port : ℕ} → Filling s t old mid port → RefillsAt t u mid new port (Ok tt)
+    → Filling s u old new (port + 1)
 filling-more {s} {t} {u} {old} {mid} {new} {port} before r = record {
   reads = ReadsInputs-trans (Ok tt) before.reads (reads_one r);
   comes = λ streams come.
@@ -71,7 +72,8 @@ filling-more {s} {t} {u} {old} {mid} {new} {port} before r = record {
             (subst (λ (i : Input). InputComes u i (stream_at streams port)) (sym e.1) (r.refills.comes (stream_at streams port) still)))
             (λ (e : (p ≢ port) × (slice_get mid p ≡ Some input)).
             let ne = e.0 in
-            InputComes-stays (f.filled p input (omega arith) e.1) r.refills.keeps.held.tells_held r.refills.keeps.held.held (other_id r.inputs.apart r.was_at r.refills p input e.0 e.1))
+            InputComes-stays (f.filled p input (omega arith) e.1) r.refills.keeps.held.tells_held r.refills.keeps.held.held
+            (other_id r.inputs.apart r.was_at r.refills p input e.0 e.1))
             (at_refilled r p input at);
         counts = λ p input lt at. ⊎_elim
             (λ (e : (p ≡ port) × (input ≡ r.now)).
@@ -111,7 +113,8 @@ filling-all {s} {t} {old} {new} {port} all filling = record {
         first = none_come streams;
         ports = f.ports;
         still = λ p input at. let lt = slice_get_within new p input at in f.filled p input (omega arith) at;
-        counts = λ p input at. let lt = slice_get_within new p input at in subst (λ (n : ℕ). number_after input.reader.count ≡ number_after n) (none_before (waiting_count input)) (f.counts p input (omega arith) at);
+        counts = λ p input at. let lt = slice_get_within new p input at in subst (λ (n : ℕ). number_after input.reader.count ≡ number_after n)
+            (none_before (waiting_count input)) (f.counts p input (omega arith) at);
       };
   refused = λ streams come. tt;
   fault = tt;
@@ -121,7 +124,8 @@ filling-all {s} {t} {old} {new} {port} all filling = record {
     none_before : (n : ℕ) → n ≡ 0 + n
     none_before n = omega arith
 
-pub filling-refused : {s t u : Disk} {old mid new : List Input} {port : ℕ} {fault : CaptureFault} → Filling s t old mid port → RefillsAt t u mid new port (Err fault) → Fills s u old new (Err (record { port = port; fault = fault }))
+pub filling-refused : {s t u : Disk} {old mid new : List Input} {port : ℕ} {fault : CaptureFault} → Filling s t old mid port
+    → RefillsAt t u mid new port (Err fault) → Fills s u old new (Err (record { port = port; fault = fault }))
 filling-refused {s} {t} {u} {old} {mid} {new} {port} {fault} before r = record {
   reads = ReadsInputs-trans (Err (record { port = port; fault = fault })) before.reads (reads_refused r);
   comes = λ streams come. tt;
@@ -133,7 +137,8 @@ filling-refused {s} {t} {u} {old} {mid} {new} {port} {fault} before r = record {
       let ports = f.ports in
       ⊎_elim
       (λ (read : fault ≡ faults.Read). inl read)
-      (λ (refused : ((stream_at streams port).frames ≡ []) × (damage : Damage) × ((stream_at streams port).end ≡ Refused damage) × (fault ≡ fault_of damage (number_after r.was.reader.count))).
+      (λ (refused : ((stream_at streams port).frames ≡ []) × (damage : Damage) × ((stream_at streams port).end ≡ Refused damage)
+      × (fault ≡ fault_of damage (number_after r.was.reader.count))).
       let none : 0 ≡ length (stream_at streams port).frames = sym (ap length refused.0) in
       let upto : ComeUpTo streams [] port refused.1 = record {
         left = streams;
@@ -153,6 +158,7 @@ filling-refused {s} {t} {u} {old} {mid} {new} {port} {fault} before r = record {
       } in
       inr (refused.1, refused.3 ∙ ap (λ n. fault_of refused.1 (number_after n)) (fresh ∙ none), upto))
       (r.refills.refused (stream_at streams port) still);
-  fault = ⊎_elim (λ read. inl read) (λ (d : (damage : Damage) × (fault ≡ fault_of damage (number_after r.was.reader.count))). inr (d.0, number_after r.was.reader.count, d.1)) r.refills.fault;
+  fault = ⊎_elim (λ read. inl read) (λ (d : (damage : Damage) × (fault ≡ fault_of damage (number_after r.was.reader.count))). inr
+      (d.0, number_after r.was.reader.count, d.1)) r.refills.fault;
   port = omega (arith, slice_get_within mid port r.was r.was_at, before.reads.ports);
 }

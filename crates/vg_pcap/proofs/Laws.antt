@@ -1,5 +1,6 @@
 -- What a reader of the definitions may rely on: any file has a bad header or is one stream, and what is written is read again as the same frames.
-use Rattle.std.proofs.Common.{◌≡◌, ◌≢◌, ◌≤◌, ◌⊎◌, inl, inr, max, ℕ, suc, List, [], ◌∷◌, ◌++◌, length, take, drop, slice_index, append-nil, refl, sym, ap, ◌∙◌, All, arith}
+use Rattle.std.proofs.Common.{◌≡◌, ◌≢◌, ◌≤◌, ◌⊎◌, inl, inr, max, ℕ, suc, List, [], ◌∷◌, ◌++◌, length, take, drop, slice_index, append-nil, refl, sym}
+use Rattle.std.proofs.Common.{ap, ◌∙◌, All, arith}
 use Rattle.std.specs.List.{flat_map}
 use Rattle.std.specs.List.Sorted.{IsNonDecreasingBy}
 use Rattle.std.specs.Prelude.{map}
@@ -12,7 +13,8 @@ use Rattle.std.proofs.Math.Nat.{max-eq_right}
 use Rattle.vg_base.specs.Files.{AreBytes}
 use Rattle.vg_pcap.specs.declared.faults.HeaderField.{HeaderField}
 use Rattle.vg_pcap.specs.declared.faults.HeaderField.TheVariants.{Length, Magic, Version, Link}
-use Rattle.vg_pcap.specs.Captures.{Encoding, Order, Little, Big, Resolution, Microseconds, Nanoseconds, magic_bytes, version_bytes, link_bytes, number_bytes, longest, HasHeader, IsBadHeader, header_bytes, IsGood, record_bytes, CaptureEnd, Whole, AreRecords}
+use Rattle.vg_pcap.specs.Captures.{Encoding, Order, Little, Big, Resolution, Microseconds, Nanoseconds, magic_bytes, version_bytes, link_bytes}
+use Rattle.vg_pcap.specs.Captures.{number_bytes, longest, HasHeader, IsBadHeader, header_bytes, IsGood, record_bytes, CaptureEnd, Whole, AreRecords}
 use Rattle.vg_pcap.specs.Frames.{Framed, Stream, Fits, frames_after, time_of, HoldsStream, written_encoding, written_record, record_of, capture_of}
 use Rattle.vg_pcap.proofs.FileHeaders.{HasParts, HasHeader-of_parts, HasHeader-parts, length-header_bytes}
 use Rattle.vg_pcap.proofs.RecordLists.{AreRecords-same}
@@ -30,7 +32,8 @@ third_differs : {xs ys : List ℕ} → xs ≡ ys → slice_index xs 2 ≡ slice_
 third_differs e = ap (λ (bytes : List ℕ). slice_index bytes 2) e
 
 -- a magic is one of one encoding
-same_magic : (order : Order) (resolution : Resolution) (order' : Order) (resolution' : Resolution) → magic_bytes (encoding_with order resolution) ≡ magic_bytes (encoding_with order' resolution') →
+same_magic : (order : Order) (resolution : Resolution) (order' : Order) (resolution' : Resolution)
+    → magic_bytes (encoding_with order resolution) ≡ magic_bytes (encoding_with order' resolution') →
     encoding_with order resolution ≡ encoding_with order' resolution'
 same_magic Little Microseconds Little Microseconds e = refl
 same_magic Little Microseconds Little Nanoseconds e = absurd (omega (arith, first_differs e))
@@ -61,7 +64,8 @@ HasHeader-same {e} {f} {file} a b x y = (
 )
 
 -- a file with a header has no bad one
-pub IsBadHeader-none : {encoding : Encoding} {file : List ℕ} (behind : List ℕ) (field : HeaderField) → HasHeader encoding file behind → IsBadHeader file field → ⊥
+pub IsBadHeader-none : {encoding : Encoding} {file : List ℕ} (behind : List ℕ) (field : HeaderField) → HasHeader encoding file behind
+    → IsBadHeader file field → ⊥
 IsBadHeader-none {encoding} {file} behind field is bad = has_none field (HasHeader-parts behind is) bad
   where
     has_none : (field : HeaderField) → HasParts encoding file → IsBadHeader file field → ⊥
@@ -134,8 +138,10 @@ magic_or_none front = elim (same_or_not front (magic_bytes (encoding_with Little
   ]
 ]
   where
-    none_of : (order : Order) (resolution : Resolution) → front ≢ magic_bytes (encoding_with Little Microseconds) → front ≢ magic_bytes (encoding_with Little Nanoseconds) →
-        front ≢ magic_bytes (encoding_with Big Microseconds) → front ≢ magic_bytes (encoding_with Big Nanoseconds) → front ≢ magic_bytes (encoding_with order resolution)
+    none_of : (order : Order) (resolution : Resolution) → front ≢ magic_bytes (encoding_with Little Microseconds)
+        → front ≢ magic_bytes (encoding_with Little Nanoseconds) →
+        front ≢ magic_bytes (encoding_with Big Microseconds) → front ≢ magic_bytes (encoding_with Big Nanoseconds)
+        → front ≢ magic_bytes (encoding_with order resolution)
     none_of Little Microseconds a b c d = a
     none_of Little Nanoseconds a b c d = b
     none_of Big Microseconds a b c d = c
@@ -184,16 +190,19 @@ all_good (f ∷ frames) fits =
 time_of-written : (f : Framed) → time_of written_encoding (written_record f) ≡ f.time
 time_of-written f = omega arith
 
-frames_after-written : (latest : ℕ) (frames : List Framed) → All (λ f. latest ≤ f.time) frames → IsNonDecreasingBy (λ f. f.time) frames → frames_after written_encoding latest (map written_record frames) ≡ frames
+frames_after-written : (latest : ℕ) (frames : List Framed) → All (λ f. latest ≤ f.time) frames → IsNonDecreasingBy (λ f. f.time) frames
+    → frames_after written_encoding latest (map written_record frames) ≡ frames
 frames_after-written latest [] later rising = refl
 frames_after-written latest (f ∷ frames) later rising =
     let after : latest ≤ f.time = later 0 f (omega arith) in
     let time : max latest (time_of written_encoding (written_record f)) ≡ f.time = rw (time_of-written f) (max-eq_right after) in
-    let others = frames_after-written f.time frames (λ k d h. rising 0 (suc k) d (omega arith) (omega arith)) (λ i j d le h. rising (suc i) (suc j) d (omega arith) (omega arith)) in
+    let others = frames_after-written f.time frames (λ k d h. rising 0 (suc k) d (omega arith) (omega arith))
+    (λ i j d le h. rising (suc i) (suc j) d (omega arith) (omega arith)) in
     rw (time, others) refl
 
 -- what is written for frames whose times don't fall is a whole capture of these frames
-pub HoldsStream-written : (frames : List Framed) → All Fits frames → IsNonDecreasingBy (λ f. f.time) frames → HoldsStream (capture_of frames) (record { frames = frames; end = Whole })
+pub HoldsStream-written : (frames : List Framed) → All Fits frames → IsNonDecreasingBy (λ f. f.time) frames
+    → HoldsStream (capture_of frames) (record { frames = frames; end = Whole })
 HoldsStream-written frames fits rising = (
   written_encoding,
   record {

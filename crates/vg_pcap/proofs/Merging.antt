@@ -1,5 +1,7 @@
 -- One frame after another comes in the one order.
-use Rattle.std.proofs.Common.{◌≡◌, ◌≢◌, ℕ, zero, suc, ◌+◌, ◌<◌, ◌≤◌, ◌⊎◌, inl, inr, ⊎_elim, le_of_eq, refl, ◌∙◌, sym, ap, subst, List, [], ◌∷◌, ◌++◌, length, set, get_or, All, Contains, slice_get, if◌then◌else◌, Bool, true, false, Ok, Err, Some, None, Option, IfSome, IfNone, arith, length-set, append_assoc, true≢false, get_or-set_same, get_or-set_other}
+use Rattle.std.proofs.Common.{◌≡◌, ◌≢◌, ℕ, zero, suc, ◌+◌, ◌<◌, ◌≤◌, ◌⊎◌, inl, inr, ⊎_elim, le_of_eq, refl, ◌∙◌, sym, ap, subst, List, [], ◌∷◌, ◌++◌}
+use Rattle.std.proofs.Common.{length, set, get_or, All, Contains, slice_get, if◌then◌else◌, Bool, true, false, Ok, Err, Some, None, Option, IfSome}
+use Rattle.std.proofs.Common.{IfNone, arith, length-set, append_assoc, true≢false, get_or-set_same, get_or-set_other}
 use Rattle.std.proofs.lemmas.Bool.{cases_eq, cases_lt}
 use Rattle.std.proofs.lemmas.List.{get_or_past, length_push}
 use Rattle.std.proofs.lemmas.List.Elements.{All-push, All-contains, Contains-append_cases}
@@ -23,7 +25,8 @@ use Rattle.vg_pcap.proofs.Ports.{at_refilled, other_id, reads_one, reads_refused
 -- ---- the order of frames
 
 -- what comes no later than a frame comes no later than one after it
-pub Precedes-later : (a : Arrival) (port : ℕ) (f g : Framed) → Precedes a (record { port = port; frame = f }) → f.time ≤ g.time → Precedes a (record { port = port; frame = g })
+pub Precedes-later : (a : Arrival) (port : ℕ) (f g : Framed) → Precedes a (record { port = port; frame = f }) → f.time ≤ g.time
+    → Precedes a (record { port = port; frame = g })
 Precedes-later a port f g first later =
     ⊎_elim
     (λ (lt : a.frame.time < f.time). inl (omega arith))
@@ -67,7 +70,8 @@ pub ComeFirst-more : {streams left : List Stream} {past : List Arrival} (a : Arr
 ComeFirst-more {streams} {left} {past} a rest first lt head least =
     let now : Stream = record { frames = rest; end = (stream_at left a.port).end } in
     let at_port : stream_at (set left a.port now) a.port ≡ now = get_or-set_same left a.port now no_frames lt in
-    let elsewhere : (port : ℕ) → port ≢ a.port → stream_at (set left a.port now) port ≡ stream_at left port = λ port ne. get_or-set_other left a.port port now no_frames ne in
+    let elsewhere : (port : ℕ) → port ≢ a.port → stream_at (set left a.port now) port ≡ stream_at left port =
+    λ port ne. get_or-set_other left a.port port now no_frames ne in
     let within : (port : ℕ) (f : Framed) → Contains (stream_at (set left a.port now) port).frames f → Contains (stream_at left port).frames f =
     λ port f h. ⊎_elim
     (λ (e : port ≡ a.port).
@@ -88,12 +92,15 @@ ComeFirst-more {streams} {left} {past} a rest first lt head least =
           (cases_eq port a.port);
       ends = λ port. ⊎_elim
           (λ (e : port ≡ a.port).
-          subst (λ (k : ℕ). (stream_at (set left a.port now) k).end ≡ (stream_at streams k).end) (sym e) (ap (λ (s : Stream). s.end) at_port ∙ first.ends a.port))
+          subst (λ (k : ℕ). (stream_at (set left a.port now) k).end ≡ (stream_at streams k).end) (sym e)
+          (ap (λ (s : Stream). s.end) at_port ∙ first.ends a.port))
           (λ (ne : port ≢ a.port). ap (λ (s : Stream). s.end) (elsewhere port ne) ∙ first.ends port)
           (cases_eq port a.port);
       of_ports = All-push (λ x. x.port < length streams) past a first.of_ports (omega (arith, first.ports));
-      ordered = all_pairs_push Precedes past a first.ordered (first.before a.port a.frame (subst (λ (fs : List Framed). Contains fs a.frame) (sym head) (at_head a.frame rest)));
-      before = λ port f h. All-push (λ x. Precedes x (record { port = port; frame = f })) past a (first.before port f (within port f h)) (least port f (within port f h));
+      ordered = all_pairs_push Precedes past a first.ordered
+          (first.before a.port a.frame (subst (λ (fs : List Framed). Contains fs a.frame) (sym head) (at_head a.frame rest)));
+      before = λ port f h. All-push (λ x. Precedes x (record { port = port; frame = f })) past a (first.before port f (within port f h))
+          (least port f (within port f h));
     }
 
 -- ---- what comes next
@@ -105,7 +112,8 @@ input_at (x ∷ xs) zero lt = (x, refl)
 input_at (x ∷ xs) (suc port) lt = input_at xs port (omega arith)
 
 -- a frame that waits is its reader's last one, also where its bytes have been changed
-pub waits_last : {came old : List Input} {a : Arrival} → IsChanged came old a → All IsSound old → (port : ℕ) (input : Input) → slice_get came port ≡ Some input → input.waits ≡ true →
+pub waits_last : {came old : List Input} {a : Arrival} → IsChanged came old a → All IsSound old → (port : ℕ) (input : Input)
+    → slice_get came port ≡ Some input → input.waits ≡ true →
     input.reader.frame.time ≡ input.reader.latest
 waits_last {came} {old} {a} changed sound port input at waits =
     ⊎_elim
@@ -113,7 +121,9 @@ waits_last {came} {old} {a} changed sound port input at waits =
     let here : slice_get came a.port ≡ Some input = ap (λ k. slice_get came k) (sym e) ∙ at in
     let now = changed.bytes input here in
     let same : changed.next.input ≡ input = same_Some changed.next.input input (sym changed.next.at ∙ here) in
-    let last : IsLastFrame (record input.reader { frame = record a.frame { bytes = now.0 } }) = All-at_place IsSound old a.port (record input { reader = record input.reader { frame = record a.frame { bytes = now.0 } } }) sound now.2 waits in
+    let last : IsLastFrame (record input.reader { frame = record a.frame { bytes = now.0 } }) =
+    All-at_place IsSound old a.port (record input { reader = record input.reader { frame = record a.frame { bytes = now.0 } } }) sound now.2 waits
+    in
     ap (λ (f : Framed). f.time) (ap (λ (i : Input). i.reader.frame) (sym same) ∙ sym changed.next.frame) ∙ last.time)
     (λ (ne : port ≢ a.port). (All-at_place IsSound old port input sound (changed.others port ne ∙ at) waits).time)
     (cases_eq port a.port)
@@ -144,7 +154,9 @@ least_of_all {s} {inputs} left a next ports still last port f h =
         ⊎_elim
         (λ (e : input.reader.frame ≡ f). subst (λ (g : Framed). Precedes a (record { port = port; frame = g })) e first)
         (λ (more : Contains comes.0 f).
-        let later : input.reader.latest ≤ f.time = All-contains (λ g. input.reader.latest ≤ g.time) comes.0 f (subst (All (λ g. input.reader.latest ≤ g.time)) (sym comes.2.frames) (no_later input.reader.encoding input.reader.latest comes.2.records)) more in
+        let later : input.reader.latest ≤ f.time = All-contains (λ g. input.reader.latest ≤ g.time) comes.0 f
+        (subst (All (λ g. input.reader.latest ≤ g.time)) (sym comes.2.frames) (no_later input.reader.encoding input.reader.latest
+        comes.2.records)) more in
         let time = last port input at w in
         Precedes-later a port input.reader.frame f first (omega arith))
         (in_cons f input.reader.frame comes.0 (subst (λ (fs : List Framed). Contains fs f) comes.1 h))
@@ -166,11 +178,13 @@ record Handled (s : Disk) (old : List Input) (streams : List Stream) (past : Lis
   counts : (port : ℕ) (input : Input) → port ≢ a.port → slice_get old port ≡ Some input →
       number_after input.reader.count ≡ number_after (length (frames_from port past) + waiting_count input)
 
-one_waits : (count len : ℕ) (waits : Bool) → waits ≡ true → number_after count ≡ number_after (len + (if waits then 1 else 0)) → number_after count ≡ number_after (len + 1)
+one_waits : (count len : ℕ) (waits : Bool) → waits ≡ true → number_after count ≡ number_after (len + (if waits then 1 else 0))
+    → number_after count ≡ number_after (len + 1)
 one_waits count len true w e = e
 one_waits count len false w e = absurd (true≢false (sym w))
 
-handled : {s : Disk} {came old : List Input} {streams : List Stream} {past : List Arrival} {a : Arrival} {was : Input} → IsChanged came old a → All IsSound old → slice_get old a.port ≡ Some was → Comes s came streams past → Handled s old streams past a was
+handled : {s : Disk} {came old : List Input} {streams : List Stream} {past : List Arrival} {a : Arrival} {was : Input} → IsChanged came old a
+    → All IsSound old → slice_get old a.port ≡ Some was → Comes s came streams past → Handled s old streams past a was
 handled {s} {came} {old} {streams} {past} {a} {was} changed sound at comes =
     let input = changed.next.input in
     let here = comes.still a.port input changed.next.at in
@@ -181,7 +195,8 @@ handled {s} {came} {old} {streams} {past} {a} {was} changed sound at comes =
     let bytes = changed.bytes input changed.next.at in
     let is : record input { reader = record input.reader { frame = record a.frame { bytes = bytes.0 } } } ≡ was = same_Some _ was (sym bytes.2 ∙ at) in
     let least = least_of_all left a changed.next (comes.ports ∙ sym comes.first.ports) comes.still (waits_last changed sound) in
-    let changed_still : StillComes s (record input.reader { frame = record a.frame { bytes = bytes.0 } }) (record { frames = w.0; end = (stream_at left a.port).end }) = record {
+    let changed_still : StillComes s (record input.reader { frame = record a.frame { bytes = bytes.0 } })
+    (record { frames = w.0; end = (stream_at left a.port).end }) = record {
       told = w.2.told;
       bytes = w.2.bytes;
       before = w.2.before;
@@ -205,11 +220,13 @@ handled {s} {came} {old} {streams} {past} {a} {was} changed sound at comes =
       counts = λ port i ne there. comes.counts port i (sym (changed.others port ne) ∙ there);
     }
 
-number_after-more : (count was len waits : ℕ) → number_after count ≡ number_after (was + waits) → number_after was ≡ number_after (len + 1) → number_after count ≡ number_after (len + 1 + waits)
+number_after-more : (count was len waits : ℕ) → number_after count ≡ number_after (was + waits) → number_after was ≡ number_after (len + 1)
+    → number_after count ≡ number_after (len + 1 + waits)
 number_after-more count was len waits now before = omega arith
 
 -- the next record was read
-pub Comes-more : {s t : Disk} {came old new : List Input} {streams : List Stream} {past : List Arrival} {a : Arrival} → IsChanged came old a → All IsSound old → Comes s came streams past → RefillsAt s t old new a.port (Ok tt) → Comes t new streams (past ++ a ∷ [])
+pub Comes-more : {s t : Disk} {came old new : List Input} {streams : List Stream} {past : List Arrival} {a : Arrival} → IsChanged came old a
+    → All IsSound old → Comes s came streams past → RefillsAt s t old new a.port (Ok tt) → Comes t new streams (past ++ a ∷ [])
 Comes-more {s} {t} {came} {old} {new} {streams} {past} {a} changed sound comes r =
     let h = handled changed sound r.was_at comes in
     let now : Stream = record { frames = h.rest; end = (stream_at h.left a.port).end } in
@@ -225,23 +242,27 @@ Comes-more {s} {t} {came} {old} {new} {streams} {past} {a} changed sound comes r
           (subst (λ (st : Stream). InputComes t input st) (sym here) (subst (λ (i : Input). InputComes t i now) (sym e.1) (r.refills.comes now h.still))))
           (λ (e : (port ≢ a.port) × (slice_get old port ≡ Some input)).
           subst (λ (st : Stream). InputComes t input st) (sym (get_or-set_other h.left a.port port now no_frames e.0))
-          (InputComes-stays (h.others port input e.0 e.1) r.refills.keeps.held.tells_held r.refills.keeps.held.held (other_id r.inputs.apart r.was_at r.refills port input e.0 e.1)))
+          (InputComes-stays (h.others port input e.0 e.1) r.refills.keeps.held.tells_held r.refills.keeps.held.held
+          (other_id r.inputs.apart r.was_at r.refills port input e.0 e.1)))
           (at_refilled r port input at);
       counts = λ port input at. ⊎_elim
           (λ (e : (port ≡ a.port) × (input ≡ r.now)).
-          let long : length (frames_from a.port (past ++ a ∷ [])) ≡ length (frames_from a.port past) + 1 = ap length (frames_from-push_same a past) ∙ length_push (frames_from a.port past) a.frame in
+          let long : length (frames_from a.port (past ++ a ∷ [])) ≡ length (frames_from a.port past) + 1 = ap length (frames_from-push_same a past)
+          ∙ length_push (frames_from a.port past) a.frame in
           let here : number_after r.now.reader.count ≡ number_after (length (frames_from a.port past) + 1 + waiting_count r.now) =
           number_after-more r.now.reader.count r.was.reader.count (length (frames_from a.port past)) (waiting_count r.now) r.refills.counts h.count in
           subst (λ (k : ℕ). number_after input.reader.count ≡ number_after (length (frames_from k (past ++ a ∷ [])) + waiting_count input)) (sym e.0)
           (subst (λ (i : Input). number_after i.reader.count ≡ number_after (length (frames_from a.port (past ++ a ∷ [])) + waiting_count i)) (sym e.1)
           (subst (λ (n : ℕ). number_after r.now.reader.count ≡ number_after (n + waiting_count r.now)) (sym long) here)))
           (λ (e : (port ≢ a.port) × (slice_get old port ≡ Some input)).
-          subst (λ (fs : List Framed). number_after input.reader.count ≡ number_after (length fs + waiting_count input)) (sym (frames_from-push_other port a past (λ q. e.0 (sym q)))) (h.counts port input e.0 e.1))
+          subst (λ (fs : List Framed). number_after input.reader.count ≡ number_after (length fs + waiting_count input))
+          (sym (frames_from-push_other port a past (λ q. e.0 (sym q)))) (h.counts port input e.0 e.1))
           (at_refilled r port input at);
     }
 
 -- where a stream is still to come, no refused record is next
-pub no_damage : {s : Disk} {input : Input} {stream : Stream} {damage : Damage} → InputComes s input stream → stream.frames ≡ [] → stream.end ≡ Refused damage → ⊥
+pub no_damage : {s : Disk} {input : Input} {stream : Stream} {damage : Damage} → InputComes s input stream → stream.frames ≡ []
+    → stream.end ≡ Refused damage → ⊥
 no_damage {s} {input} {stream} {damage} comes none refused = by input.waits refl
   where
     by : (waits : Bool) → input.waits ≡ waits → ⊥
@@ -256,7 +277,8 @@ number-after_all : (count len all : ℕ) → number_after count ≡ number_after
 number-after_all count len all e is = e ∙ ap number_after (sym is)
 
 -- the next record is refused
-pub refuses_more : {s t : Disk} {came old new : List Input} {streams : List Stream} {past : List Arrival} {a : Arrival} {fault : CaptureFault} → IsChanged came old a → All IsSound old → Comes s came streams past → RefillsAt s t old new a.port (Err fault) →
+pub refuses_more : {s t : Disk} {came old new : List Input} {streams : List Stream} {past : List Arrival} {a : Arrival} {fault : CaptureFault}
+    → IsChanged came old a → All IsSound old → Comes s came streams past → RefillsAt s t old new a.port (Err fault) →
     RefusesRecord streams (past ++ a ∷ []) (record { port = a.port; fault = fault })
 refuses_more {s} {t} {came} {old} {new} {streams} {past} {a} {fault} changed sound comes r =
     let h = handled changed sound r.was_at comes in
@@ -341,14 +363,16 @@ same_next changed next = one_next (still_next changed) next
 pub advanced : {s t : Disk} {old new : List Input} {b : Arrival} → IsNext old b → RefillsAt s t old new b.port (Ok tt) → Advances s t old new (Ok tt)
 advanced {s} {t} {old} {new} {b} next r = record {
   reads = reads_one r;
-  comes = λ came streams past a changed comes. Comes-more changed r.inputs.sound comes (subst (λ (k : ℕ). RefillsAt s t old new k (Ok tt)) (sym (same_next changed next)) r);
+  comes = λ came streams past a changed comes. Comes-more changed r.inputs.sound comes (subst (λ (k : ℕ). RefillsAt s t old new k (Ok tt))
+      (sym (same_next changed next)) r);
   refused = λ came streams past a changed comes. tt;
   fault = tt;
   port = λ a is. tt;
 }
 
 -- it is refused
-pub advance_refused : {s t : Disk} {old new : List Input} {b : Arrival} {fault : CaptureFault} → IsNext old b → RefillsAt s t old new b.port (Err fault) → Advances s t old new (Err (record { port = b.port; fault = fault }))
+pub advance_refused : {s t : Disk} {old new : List Input} {b : Arrival} {fault : CaptureFault} → IsNext old b
+    → RefillsAt s t old new b.port (Err fault) → Advances s t old new (Err (record { port = b.port; fault = fault }))
 advance_refused {s} {t} {old} {new} {b} {fault} next r = record {
   reads = reads_refused r;
   comes = λ came streams past a changed comes. tt;
@@ -356,18 +380,22 @@ advance_refused {s} {t} {old} {new} {b} {fault} next r = record {
       let same = same_next changed next in
       subst (λ (k : ℕ). RefusesRecord streams (past ++ a ∷ []) (record { port = k; fault = fault })) same
       (refuses_more changed r.inputs.sound comes (subst (λ (k : ℕ). RefillsAt s t old new k (Err fault)) (sym same) r));
-  fault = ⊎_elim (λ read. inl read) (λ (d : (damage : Damage) × (fault ≡ fault_of damage (number_after r.was.reader.count))). inr (d.0, number_after r.was.reader.count, d.1)) r.refills.fault;
+  fault = ⊎_elim (λ read. inl read) (λ (d : (damage : Damage) × (fault ≡ fault_of damage (number_after r.was.reader.count))). inr
+      (d.0, number_after r.was.reader.count, d.1)) r.refills.fault;
   port = λ a is. one_next next is;
 }
 
 -- no frame waits, and so all have come
-pub all_come : {s : Disk} {inputs : List Input} {streams : List Stream} {past : List Arrival} → All (λ input. input.waits ≡ false) inputs → Comes s inputs streams past → AllCome streams past
+pub all_come : {s : Disk} {inputs : List Input} {streams : List Stream} {past : List Arrival} → All (λ input. input.waits ≡ false) inputs
+    → Comes s inputs streams past → AllCome streams past
 all_come {s} {inputs} {streams} {past} none comes =
     let same_ports : length inputs ≡ length comes.left = comes.ports ∙ sym comes.first.ports in
     let ended : (port : ℕ) → ((stream_at comes.left port).frames ≡ []) × ((stream_at comes.left port).end ≡ Whole) =
     λ port. ⊎_elim
-    (λ (lt : port < length inputs). let i = input_at inputs port lt in (comes.still port i.0 i.1).ended (All-at_place (λ (input : Input). input.waits ≡ false) inputs port i.0 none i.1))
-    (λ (past_all : length inputs ≤ port). let is = past_ports comes.left port (omega arith) in (ap (λ (st : Stream). st.frames) is, ap (λ (st : Stream). st.end) is))
+    (λ (lt : port < length inputs). let i = input_at inputs port lt in (comes.still port i.0 i.1).ended
+    (All-at_place (λ (input : Input). input.waits ≡ false) inputs port i.0 none i.1))
+    (λ (past_all : length inputs ≤ port). let is = past_ports comes.left port (omega arith) in
+    (ap (λ (st : Stream). st.frames) is, ap (λ (st : Stream). st.end) is))
     (cases_lt port (length inputs)) in
     record {
       left = comes.left;
@@ -395,7 +423,8 @@ next_of_all inputs port (Some p) past least =
 pub none_of_all : (inputs : List Input) (port : ℕ) (next : Option ℕ) → length inputs ≤ port → IsLeastBelow inputs port next →
     IfNone next (All (λ input. input.waits ≡ false) inputs)
 none_of_all inputs port None past least =
-    All-from_places (λ (input : Input). input.waits ≡ false) inputs (λ p input at. let lt = slice_get_within inputs p input at in least p input (omega arith) at)
+    All-from_places (λ (input : Input). input.waits ≡ false) inputs (λ p input at. let lt = slice_get_within inputs p input at in
+    least p input (omega arith) at)
 none_of_all inputs port (Some p) past least = tt
 
 pub end_of_all : (inputs : List Input) (port : ℕ) (next : Option ℕ) → length inputs ≤ port → IsLeastBelow inputs port next →
@@ -416,12 +445,17 @@ IsChanged-same {inputs} {a} next = record {
   others = λ port ne. refl;
   bytes = λ input at.
       let same : next.input ≡ input = same_Some next.input input (sym next.at ∙ at) in
-      let frame : a.frame ≡ input.reader.frame = next.frame ∙ ap (λ (i : Input). i.reader.frame) same in
-      (a.frame.bytes, refl, subst (λ (f : Framed). slice_get inputs a.port ≡ Some (record input { reader = record input.reader { frame = record f { bytes = f.bytes } } })) (sym frame) at);
+      let frame : a.frame ≡ input.reader.frame = next.frame ∙ ap (λ (i : Input). i.reader.frame) same in (
+        a.frame.bytes,
+        refl,
+        subst (λ (f : Framed). slice_get inputs a.port ≡ Some (record input
+            { reader = record input.reader { frame = record f { bytes = f.bytes } } })) (sym frame) at,
+      );
 }
 
 -- the next frame is the first of what is left
-pub next_first : {inputs : List Input} {a : Arrival} → All IsSound inputs → IsNext inputs a → (s : Disk) (streams : List Stream) (past : List Arrival) → Comes s inputs streams past →
+pub next_first : {inputs : List Input} {a : Arrival} → All IsSound inputs → IsNext inputs a → (s : Disk) (streams : List Stream) (past : List Arrival)
+    → Comes s inputs streams past →
     (left : List Stream) × ComeFirst streams (past ++ a ∷ []) left
 next_first {inputs} {a} sound next s streams past comes =
     let h = handled (IsChanged-same next) sound next.at comes in

@@ -1,6 +1,7 @@
 -- The port of the next frame as a function of the inputs, and what is left where its bytes are changed.
 use Rattle.std.specs.Prelude.{nat_lt}
-use Rattle.std.proofs.Common.{◌≡◌, ◌≢◌, ℕ, zero, suc, ◌+◌, ◌<◌, ◌≤◌, inl, inr, ⊎_elim, refl, ◌∙◌, sym, ap, subst, List, [], ◌∷◌, length, set, slice_get, if◌then◌else◌, Bool, true, false, Some, None, Option, arith, length-set, true≢false}
+use Rattle.std.proofs.Common.{◌≡◌, ◌≢◌, ℕ, zero, suc, ◌+◌, ◌<◌, ◌≤◌, inl, inr, ⊎_elim, refl, ◌∙◌, sym, ap, subst, List, [], ◌∷◌, length, set}
+use Rattle.std.proofs.Common.{slice_get, if◌then◌else◌, Bool, true, false, Some, None, Option, arith, length-set, true≢false}
 use Rattle.std.proofs.lemmas.Bool.{cases_eq, cases_lt, ltb-true, ltb-false}
 use Rattle.std.proofs.lemmas.List.Elements.{All-set}
 use Rattle.std.proofs.lemmas.Option.{same_Some, slice_get_within}
@@ -35,7 +36,8 @@ IsFirstIf port inputs None = (q : ℕ) (other : Input) → slice_get inputs q �
 IsFirstIf port inputs (Some x) = IsFirst port inputs x
 
 -- what comes first of the later inputs comes first of all, where it comes before the one before them, if that waits
-first_before : (port : ℕ) (i : Input) (inputs : List Input) (x : Waiting) → IsFirst (port + 1) inputs x → (i.waits ≡ true → x.input.reader.frame.time < i.reader.frame.time) → IsFirst port (i ∷ inputs) x
+first_before : (port : ℕ) (i : Input) (inputs : List Input) (x : Waiting) → IsFirst (port + 1) inputs x
+    → (i.waits ≡ true → x.input.reader.frame.time < i.reader.frame.time) → IsFirst port (i ∷ inputs) x
 first_before port i inputs x first before = record {
   place = suc first.place;
   is = (let e = first.is in omega arith);
@@ -63,13 +65,15 @@ first_here port i inputs w later = record { place = 0; is = omega arith; at = re
         (λ (ge : other.reader.frame.time ≤ i.reader.frame.time). let same : i.reader.frame.time ≡ other.reader.frame.time = omega arith in inr (same, low))
         (cases_lt i.reader.frame.time other.reader.frame.time)
 
-    least : (q p : ℕ) (other : Input) → p ≡ port + q → slice_get (i ∷ inputs) q ≡ Some other → other.waits ≡ true → Precedes (waiting_at port i) (waiting_at p other)
+    least : (q p : ℕ) (other : Input) → p ≡ port + q → slice_get (i ∷ inputs) q ≡ Some other → other.waits ≡ true
+        → Precedes (waiting_at port i) (waiting_at p other)
     least zero p other e at waits =
         let same : i.reader.frame.time ≡ other.reader.frame.time = ap (λ (o : Input). o.reader.frame.time) (same_Some i other at) in
         no_earlier p other (omega arith) (omega arith)
     least (suc q) p other e at waits = no_earlier p other (omega arith) (later q p other (omega arith) at waits)
 
-first_choice : (port : ℕ) (i : Input) (inputs : List Input) (x : Waiting) → i.waits ≡ true → IsFirst (port + 1) inputs x → (b : Bool) → nat_lt x.input.reader.frame.time i.reader.frame.time ≡ b →
+first_choice : (port : ℕ) (i : Input) (inputs : List Input) (x : Waiting) → i.waits ≡ true → IsFirst (port + 1) inputs x → (b : Bool)
+    → nat_lt x.input.reader.frame.time i.reader.frame.time ≡ b →
     IsFirst port (i ∷ inputs) (if b then x else record { port = port; input = i })
 first_choice port i inputs x w first true e = first_before port i inputs x first (λ waits. ltb-true x.input.reader.frame.time i.reader.frame.time e)
 first_choice port i inputs x w first false e =
@@ -100,7 +104,8 @@ same_waiting : (x : Waiting) (port : ℕ) (input : Input) → x.port ≡ port �
 same_waiting x port input p i = ap (λ (k : ℕ). record { port = k; input = x.input }) p ∙ ap (λ (there : Input). record { port = port; input = there }) i
 
 -- the frame that comes first is the next one
-first_is_next : (inputs : List Input) (a : Arrival) (next : IsNext inputs a) (o : Option Waiting) → IsFirstIf 0 inputs o → o ≡ Some (record { port = a.port; input = next.input })
+first_is_next : (inputs : List Input) (a : Arrival) (next : IsNext inputs a) (o : Option Waiting) → IsFirstIf 0 inputs o
+    → o ≡ Some (record { port = a.port; input = next.input })
 first_is_next inputs a next None none = absurd (none a.port next.input next.at next.waits)
 first_is_next inputs a next (Some x) first =
     let place : first.place ≡ x.port = (let e = first.is in omega arith) in
@@ -116,28 +121,33 @@ first_is_next inputs a next (Some x) first =
     let input : x.input ≡ next.input = same_Some x.input next.input (sym at ∙ (ap (λ k. slice_get inputs k) port ∙ next.at)) in
     ap (λ (w : Waiting). Some w) (same_waiting x a.port next.input port input)
 
-over_next_is : {inputs : List Input} {a : Arrival} (next : IsNext inputs a) (bytes : List ℕ) → over_next inputs bytes ≡ set inputs a.port (over_input next.input bytes)
+over_next_is : {inputs : List Input} {a : Arrival} (next : IsNext inputs a) (bytes : List ℕ)
+    → over_next inputs bytes ≡ set inputs a.port (over_input next.input bytes)
 over_next_is {inputs} {a} next bytes =
     ap (λ (o : Option Waiting). over_waiting inputs o bytes) (first_is_next inputs a next (next_from 0 inputs) (next_is_first 0 inputs))
 
 -- ---- what is left where its bytes are changed
 
 -- the input at its port is the one whose frame is next
-pub next_input_is : {inputs : List Input} {a b : Arrival} (next : IsNext inputs a) (x : Input) → IsNext inputs b → slice_get inputs b.port ≡ Some x → x ≡ next.input
+pub next_input_is : {inputs : List Input} {a b : Arrival} (next : IsNext inputs a) (x : Input) → IsNext inputs b → slice_get inputs b.port ≡ Some x
+    → x ≡ next.input
 next_input_is {inputs} {a} {b} next x there at =
     same_Some x next.input (sym at ∙ (ap (λ k. slice_get inputs k) (one_next there next) ∙ next.at))
 
 -- the bytes of that input's frame
-pub next_bytes : {inputs : List Input} {a b : Arrival} (x : Input) → IsNext inputs b → slice_get inputs b.port ≡ Some x → IsNext inputs a → x.reader.frame.bytes ≡ a.frame.bytes
+pub next_bytes : {inputs : List Input} {a b : Arrival} (x : Input) → IsNext inputs b → slice_get inputs b.port ≡ Some x → IsNext inputs a
+    → x.reader.frame.bytes ≡ a.frame.bytes
 next_bytes x there at next =
     ap (λ (i : Input). i.reader.frame.bytes) (next_input_is next x there at) ∙ ap (λ (f : Framed). f.bytes) (sym next.frame)
 
-pub lent_next : {inputs : List Input} {a : Arrival} (x : Input) (bytes : List ℕ) → IsNext inputs a → slice_get inputs a.port ≡ Some x → set inputs a.port (over_input x bytes) ≡ over_next inputs bytes
+pub lent_next : {inputs : List Input} {a : Arrival} (x : Input) (bytes : List ℕ) → IsNext inputs a → slice_get inputs a.port ≡ Some x
+    → set inputs a.port (over_input x bytes) ≡ over_next inputs bytes
 lent_next {inputs} {a} x bytes next at =
     ap (λ (i : Input). set inputs a.port (over_input i bytes)) (next_input_is next x next at) ∙ sym (over_next_is next bytes)
 
 -- whatever is written, the inputs stay sound
-pub inputs-written : {inputs : List Input} {port : ℕ} (x : Input) (bytes : List ℕ) → port < length inputs → slice_get inputs port ≡ Some x → AreInputs inputs → AreInputs (set inputs port (over_input x bytes))
+pub inputs-written : {inputs : List Input} {port : ℕ} (x : Input) (bytes : List ℕ) → port < length inputs → slice_get inputs port ≡ Some x
+    → AreInputs inputs → AreInputs (set inputs port (over_input x bytes))
 inputs-written {inputs} {port} x bytes lt at are = record {
   few = omega (arith, are.few, length-set inputs port (over_input x bytes));
   apart = apart-set (over_input x bytes) lt at refl are.apart;
@@ -149,11 +159,13 @@ inputs-written {inputs} {port} x bytes lt at are = record {
 }
 
 -- where as many bytes are written as there were, the frame has these
-pub written_next : {inputs : List Input} {a : Arrival} (bytes : List ℕ) → IsNext inputs a → length bytes ≡ length a.frame.bytes → IsWritten inputs (over_next inputs bytes) a bytes
+pub written_next : {inputs : List Input} {a : Arrival} (bytes : List ℕ) → IsNext inputs a → length bytes ≡ length a.frame.bytes
+    → IsWritten inputs (over_next inputs bytes) a bytes
 written_next {inputs} {a} bytes next same =
     let input = next.input in
     let now : Input = record input { reader = record input.reader { frame = record a.frame { bytes = bytes } } } in
-    let whole : over input.reader.frame.bytes bytes ≡ bytes = over_whole input.reader.frame.bytes bytes (same ∙ ap (λ (f : Framed). length f.bytes) next.frame) in
+    let whole : over input.reader.frame.bytes bytes ≡ bytes = over_whole input.reader.frame.bytes bytes
+    (same ∙ ap (λ (f : Framed). length f.bytes) next.frame) in
     let is : over_input input bytes ≡ now =
     ap (λ (w : List ℕ). record input { reader = record input.reader { frame = record input.reader.frame { bytes = w } } }) whole
     ∙ ap (λ (f : Framed). record input { reader = record input.reader { frame = record f { bytes = bytes } } }) (sym next.frame) in
@@ -166,7 +178,8 @@ written_next {inputs} {a} bytes next same =
         bytes,
         same,
         slice_get-set_same inputs a.port now lt
-            ∙ ap (λ (i : Input). Some (record i { reader = record i.reader { frame = record a.frame { bytes = bytes } } })) (same_Some input x (sym next.at ∙ at)),
+            ∙ ap (λ (i : Input). Some (record i { reader = record i.reader { frame = record a.frame { bytes = bytes } } }))
+            (same_Some input x (sym next.at ∙ at)),
       );
     } in
     let all : over_next inputs bytes ≡ set inputs a.port now = over_next_is next bytes ∙ ap (set inputs a.port) is in

@@ -1,11 +1,13 @@
 -- Numbers as bytes: what was written is read, and what was read is written.
-use Rattle.std.proofs.Common.{◌≡◌, ◌≤◌, ◌<◌, ℕ, zero, suc, ◌+◌, ◌*◌, ◌/◌, ◌%◌, ◌^◌, List, [], ◌∷◌, ◌++◌, length, take, drop, slice_index, refl, sym, ap, ◌∙◌, arith}
+use Rattle.std.proofs.Common.{◌≡◌, ◌≤◌, ◌<◌, ℕ, zero, suc, ◌+◌, ◌*◌, ◌/◌, ◌%◌, ◌^◌, List, [], ◌∷◌, ◌++◌, length, take, drop, slice_index, refl, sym}
+use Rattle.std.proofs.Common.{ap, ◌∙◌, arith}
 use Rattle.std.proofs.Math.Nat.{div-div-eq-div-mul, pow-succ'}
 use Rattle.std.proofs.lemmas.Nat.{div-mul-add}
 use Rattle.std.proofs.lemmas.List.{drop_at, get_or-drop, length-take-le, take-append-drop}
 use Rattle.std.specs.Int.{byte_at, bytes_low_first}
 use Rattle.byteorder.specs.Endian.{little_number, little_bytes, big_number, big_bytes}
-use Rattle.byteorder.specs.Numbers.{little_from-cons, little_from-lt, big_from-cons, big_from-lt, big_from-take, length-bytes_low_first, length-bytes_high_first, little_number-reads_back, big_number-reads_back}
+use Rattle.byteorder.specs.Numbers.{little_from-cons, little_from-lt, big_from-cons, big_from-lt, big_from-take, length-bytes_low_first}
+use Rattle.byteorder.specs.Numbers.{length-bytes_high_first, little_number-reads_back, big_number-reads_back}
 use Rattle.vg_base.specs.Files.{AreBytes}
 use Rattle.vg_pcap.specs.Captures.{Order, Little, Big, number_bytes}
 use Rattle.vg_pcap.specs.Reading.{number_in}
@@ -70,7 +72,8 @@ big_same (suc size) [] ys p q small_x small_y e = absurd (omega arith)
 big_same (suc size) (x ∷ xs) [] p q small_x small_y e = absurd (omega arith)
 big_same (suc size) (x ∷ xs) (y ∷ ys) p q small_x small_y e =
     let both : x * 256 ^ size + big_number size xs ≡ y * 256 ^ size + big_number size ys = rw (big_from-cons 0 size x xs, big_from-cons 0 size y ys) at e in
-    let parts = split_same (256 ^ size) x y (big_number size xs) (big_number size ys) (big_from-lt 0 size xs (λ k. small_x (suc k))) (big_from-lt 0 size ys (λ k. small_y (suc k))) both in
+    let parts = split_same (256 ^ size) x y (big_number size xs) (big_number size ys) (big_from-lt 0 size xs (λ k. small_x (suc k)))
+    (big_from-lt 0 size ys (λ k. small_y (suc k))) both in
     same_bytes parts.0 (big_same size xs ys (omega arith) (omega arith) (λ k. small_x (suc k)) (λ k. small_y (suc k)) parts.1)
 
 AreBytes-take : (n : ℕ) (bytes : List ℕ) → AreBytes bytes → AreBytes (take n bytes)
@@ -87,13 +90,15 @@ big_bytes-number : (size : ℕ) (bytes : List ℕ) → size ≤ length bytes →
 big_bytes-number size bytes long small =
     let n = big_number size bytes in
     let read : big_number size (big_bytes size n) ≡ n = rw append_nil at (big_number-reads_back size n [] (big_from-lt 0 size bytes small)) in
-    big_same size (big_bytes size n) (take size bytes) (length-bytes_high_first size n) (length-take-le size bytes long) (big_bytes-small size n) (AreBytes-take size bytes small)
+    big_same size (big_bytes size n) (take size bytes) (length-bytes_high_first size n) (length-take-le size bytes long) (big_bytes-small size n)
+    (AreBytes-take size bytes small)
     (read ∙ sym (big_from-take 0 size size bytes (omega arith)))
 
 -- ---- either order
 
 -- the bytes of the number that was read are those that it was read from
-pub number_bytes-number : (order : Order) (size : ℕ) (bytes : List ℕ) → size ≤ length bytes → AreBytes bytes → number_bytes order size (number_in order size bytes) ≡ take size bytes
+pub number_bytes-number : (order : Order) (size : ℕ) (bytes : List ℕ) → size ≤ length bytes → AreBytes bytes
+    → number_bytes order size (number_in order size bytes) ≡ take size bytes
 number_bytes-number Little size bytes long small = little_bytes-number size bytes long small
 number_bytes-number Big size bytes long small = big_bytes-number size bytes long small
 
@@ -108,19 +113,22 @@ length-number_bytes Little size n = length-bytes_low_first 0 size n
 length-number_bytes Big size n = length-bytes_high_first size n
 
 -- a number is read just where its bytes stand
-pub number_is : (order : Order) (size n : ℕ) (bytes : List ℕ) → size ≤ length bytes → AreBytes bytes → number_in order size bytes ≡ n → take size bytes ≡ number_bytes order size n
+pub number_is : (order : Order) (size n : ℕ) (bytes : List ℕ) → size ≤ length bytes → AreBytes bytes → number_in order size bytes ≡ n
+    → take size bytes ≡ number_bytes order size n
 number_is order size n bytes long small e = sym (number_bytes-number order size bytes long small) ∙ ap (number_bytes order size) e
 
 pub number_told : (order : Order) (size n : ℕ) (bytes : List ℕ) → n < 256 ^ size → take size bytes ≡ number_bytes order size n → number_in order size bytes ≡ n
 number_told order size n bytes fits e =
-    ap (number_in order size) (sym (take-append-drop size bytes) ∙ ap (λ (front : List ℕ). front ++ drop size bytes) e) ∙ number_in-bytes order size n (drop size bytes) fits
+    ap (number_in order size) (sym (take-append-drop size bytes) ∙ ap (λ (front : List ℕ). front ++ drop size bytes) e)
+    ∙ number_in-bytes order size n (drop size bytes) fits
 
 -- the same bytes are the same number, and the same bytes behind it
 pub record SameFront (x y : ℕ) (a b : List ℕ) : Type 0 where
   pub number : x ≡ y
   pub rest : a ≡ b
 
-pub number_bytes-same : (order : Order) (size x y : ℕ) (a b : List ℕ) → x < 256 ^ size → y < 256 ^ size → number_bytes order size x ++ a ≡ number_bytes order size y ++ b → SameFront x y a b
+pub number_bytes-same : (order : Order) (size x y : ℕ) (a b : List ℕ) → x < 256 ^ size → y < 256 ^ size → number_bytes order size x
+    ++ a ≡ number_bytes order size y ++ b → SameFront x y a b
 number_bytes-same order size x y a b fits_x fits_y e = record {
   number = sym (number_in-bytes order size x a fits_x) ∙ ap (number_in order size) e ∙ number_in-bytes order size y b fits_y;
   rest = sym (drop_at _ a size (length-number_bytes order size x)) ∙ ap (drop size) e ∙ drop_at _ b size (length-number_bytes order size y);

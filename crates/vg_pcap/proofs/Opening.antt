@@ -1,5 +1,7 @@
 -- The capture of one port is opened after that of another.
-use Rattle.std.proofs.Common.{◌≡◌, ◌≢◌, ℕ, zero, suc, ◌+◌, ◌<◌, ◌≤◌, ◌⊎◌, inl, inr, ⊎_elim, refl, ◌∙◌, sym, ap, subst, List, [], ◌∷◌, ◌++◌, length, All, Contains, get_or, slice_get, codes, bytes_eq, Bool, true, false, IsTrue, Ok, Err, Some, None, Option, Result, arith, append-nil, take, drop, take_all, length-append, length-take-le, take-append-drop}
+use Rattle.std.proofs.Common.{◌≡◌, ◌≢◌, ℕ, zero, suc, ◌+◌, ◌<◌, ◌≤◌, ◌⊎◌, inl, inr, ⊎_elim, refl, ◌∙◌, sym, ap, subst, List, [], ◌∷◌, ◌++◌, length}
+use Rattle.std.proofs.Common.{All, Contains, get_or, slice_get, codes, bytes_eq, Bool, true, false, IsTrue, Ok, Err, Some, None, Option, Result}
+use Rattle.std.proofs.Common.{arith, append-nil, take, drop, take_all, length-append, length-take-le, take-append-drop}
 use Rattle.std.specs.List.{cons_option}
 use Rattle.std.proofs.Math.Path.{fun_ext}
 use Rattle.std.proofs.lemmas.Bool.{cases_eq}
@@ -105,7 +107,8 @@ opens_more {s} {t} {u} {ids} None these opens =
 opens_more {s} {t} {u} {ids} (Some j) these opens =
     let one = opens.one j refl in
     let apart : All (λ k. j ≢ k) ids =
-    All-weaker (λ k. IsOpen Reads (t.opened k)) (λ k. j ≢ k) (λ k is same. let some = IsOpen-some Reads (t.opened k) is in let closed = ap t.opened (sym same) ∙ one.was in cc) ids these.1 in (
+    All-weaker (λ k. IsOpen Reads (t.opened k)) (λ k. j ≢ k) (λ k is same. let some = IsOpen-some Reads (t.opened k) is in let closed =
+    ap t.opened (sym same) ∙ one.was in cc) ids these.1 in (
       record {
         closed = All-push (λ k. s.opened k ≡ None) ids j these.0.closed (sym (these.0.others j apart) ∙ one.was);
         others = λ k all.
@@ -121,7 +124,8 @@ opens_more {s} {t} {u} {ids} (Some j) these opens =
 ComesIn-before : {s t : Disk} (name : List ℕ) (stream : Stream) → ReadKeeps s t → ComesIn t name stream → ComesIn s name stream
 ComesIn-before {s} {t} name stream keeps comes =
     ⊎_elim (λ e. inl e)
-    (λ (f : (name ≢ codes "-") × (file : List ℕ) × (t.held name ≡ Some file) × HoldsStream file stream). inr (f.0, f.1, ap (λ (h : List ℕ → Option (List ℕ)). h name) (sym keeps.held.held) ∙ f.2, f.3))
+    (λ (f : (name ≢ codes "-") × (file : List ℕ) × (t.held name ≡ Some file) × HoldsStream file stream). inr
+    (f.0, f.1, ap (λ (h : List ℕ → Option (List ℕ)). h name) (sym keeps.held.held) ∙ f.2, f.3))
     comes
 
 HasBadHeader-before : {s t : Disk} (name : List ℕ) (field : HeaderField) → ReadKeeps s t → HasBadHeader t name field → HasBadHeader s name field
@@ -167,7 +171,8 @@ opening-none s = record {
 }
 
 -- one more id differs from those that are open
-apart-more : {t u : Disk} {inputs : List Input} (reader : Reader) → AreApart inputs → AreReadable t inputs → OpensAtMost t u reader.id → AreApart (inputs ++ opened_input reader ∷ [])
+apart-more : {t u : Disk} {inputs : List Input} (reader : Reader) → AreApart inputs → AreReadable t inputs → OpensAtMost t u reader.id
+    → AreApart (inputs ++ opened_input reader ∷ [])
 apart-more {t} {u} {inputs} reader apart readable opens = record {
   places = λ p q a b id at-a at-b is-a is-b.
       ⊎_elim
@@ -189,14 +194,16 @@ apart-more {t} {u} {inputs} reader apart readable opens = record {
         let was = (opens.one id new).was in
         cc
 
-come-more : {t u : Disk} {inputs : List Input} {streams : List Stream} {reader : Reader} (stream : Stream) → AreToCome t inputs streams → AreReadable t inputs → ReadKeeps t u → OpensAtMost t u reader.id → StillComes u reader stream → reader.count ≡ 0 →
+come-more : {t u : Disk} {inputs : List Input} {streams : List Stream} {reader : Reader} (stream : Stream) → AreToCome t inputs streams
+    → AreReadable t inputs → ReadKeeps t u → OpensAtMost t u reader.id → StillComes u reader stream → reader.count ≡ 0 →
     AreToCome u (inputs ++ opened_input reader ∷ []) (streams ++ stream ∷ [])
 come-more {t} {u} {inputs} {streams} {reader} stream come readable keeps opens still fresh = record {
   ports = omega (arith, come.ports, length_push inputs (opened_input reader), length_push streams stream);
   still = λ p x at. ⊎_elim
       (λ (here : slice_get inputs p ≡ Some x).
       let lt = slice_get_within inputs p x here in
-      let same : stream_at (streams ++ stream ∷ []) p ≡ stream_at streams p = get_or_append_left streams (stream ∷ []) no_frames p (omega (arith, come.ports)) in
+      let same : stream_at (streams ++ stream ∷ []) p ≡ stream_at streams p = get_or_append_left streams (stream ∷ []) no_frames p
+      (omega (arith, come.ports)) in
       let id : SameId t u x.reader.id = opens_elsewhere reader.id x.reader.id opens (All-at_place (λ i. IsReadable t i.reader.id) inputs p x readable here) in
       subst (λ (st : Stream). StillComes u x.reader st) (sym same) (StillComes-stays (come.still p x here) keeps.held.tells_held keeps.held.held id))
       (λ (new : (p ≡ length inputs) × (x ≡ opened_input reader)).
@@ -207,7 +214,8 @@ come-more {t} {u} {inputs} {streams} {reader} stream come readable keeps opens s
   none = All-push (λ i. (i.waits ≡ false) × (i.reader.count ≡ 0)) inputs (opened_input reader) come.none (refl, fresh);
 }
 
-names-more : {s : Disk} {names : List (List ℕ)} {streams : List Stream} (name : List ℕ) (stream : Stream) → AllComeIn s names streams → ComesIn s name stream → AllComeIn s (names ++ name ∷ []) (streams ++ stream ∷ [])
+names-more : {s : Disk} {names : List (List ℕ)} {streams : List Stream} (name : List ℕ) (stream : Stream) → AllComeIn s names streams
+    → ComesIn s name stream → AllComeIn s (names ++ name ∷ []) (streams ++ stream ∷ [])
 names-more {s} {names} {streams} name stream all here = record {
   ports = omega (arith, all.ports, length_push names name, length_push streams stream);
   each = λ p n at. ⊎_elim
@@ -222,11 +230,13 @@ names-more {s} {names} {streams} name stream all here = record {
       (at_push names name p n at);
 }
 
-pub opening-more : {s t u : Disk} {names : List (List ℕ)} {inputs : List Input} {reader : Reader} (name : List ℕ) → Opening s t names inputs → Starts t u name (Ok reader) → Opening s u (names ++ name ∷ []) (inputs ++ opened_input reader ∷ [])
+pub opening-more : {s t u : Disk} {names : List (List ℕ)} {inputs : List Input} {reader : Reader} (name : List ℕ) → Opening s t names inputs
+    → Starts t u name (Ok reader) → Opening s u (names ++ name ∷ []) (inputs ++ opened_input reader ∷ [])
 opening-more {s} {t} {u} {names} {inputs} {reader} name opening one =
     let before = opening.starts in
     let opens = opens_at_most one in
-    let ids : ids_of (inputs ++ opened_input reader ∷ []) ≡ ids_of inputs ++ cons_option reader.id [] = filter_map-append (λ (i : Input). i.reader.id) inputs (opened_input reader ∷ []) in
+    let ids : ids_of (inputs ++ opened_input reader ∷ []) ≡ ids_of inputs ++ cons_option reader.id [] =
+    filter_map-append (λ (i : Input). i.reader.id) inputs (opened_input reader ∷ []) in
     record {
       starts = record {
         cause = record { fault = tt; same = one.cause.same ∙ before.cause.same; same_else = tt; rises = omega (arith, before.cause.rises, one.cause.rises) };
@@ -236,7 +246,8 @@ opening-more {s} {t} {u} {names} {inputs} {reader} name opening one =
         ports = omega (arith, before.ports, length_push inputs (opened_input reader), length_push names name);
         opens = subst (λ (l : List ℕ). OpensThese s u Reads l) (sym ids) (opens_more reader.id before.opens opens);
         readable = All-push (λ i. IsReadable u i.reader.id) inputs (opened_input reader)
-            (All-weaker (λ i. IsReadable t i.reader.id) (λ i. IsReadable u i.reader.id) (λ i readable. IsReadable-stays i.reader.id readable (opens_elsewhere reader.id i.reader.id opens readable)) inputs before.readable)
+            (All-weaker (λ i. IsReadable t i.reader.id) (λ i. IsReadable u i.reader.id) (λ i readable. IsReadable-stays i.reader.id readable
+            (opens_elsewhere reader.id i.reader.id opens readable)) inputs before.readable)
             (opens_readable reader.id opens);
         comes = λ told.
             let first = before.comes told in
@@ -260,12 +271,15 @@ same_ids_closed : {s t u v : Disk} {ids : List ℕ} → DiffersBy s t ids → Sa
 same_ids_closed {s} {t} {u} {v} {ids} opened same closed = record {
   opened = fun_ext (λ id. ⊎_elim
       (λ (none : All (λ other. id ≢ other) ids). sym (closed.others id none) ∙ (ap (λ f. f id) same.opened ∙ opened.others id none))
-      (λ (h : Contains ids id). All-contains (λ k. v.opened k ≡ None) ids id closed.closed h ∙ sym (All-contains (λ k. s.opened k ≡ None) ids id opened.closed h))
+      (λ (h : Contains ids id). All-contains (λ k. v.opened k ≡ None) ids id closed.closed h
+      ∙ sym (All-contains (λ k. s.opened k ≡ None) ids id opened.closed h))
       (among id ids));
   open_count = omega (arith, opened.count, same.open_count, closed.count);
 }
 
-pub opening-refused : {s t u v : Disk} {names : List (List ℕ)} {inputs : List Input} {fault : CaptureFault} {result : Result (Unit {0}) Failed} (name : List ℕ) (more : List (List ℕ)) (port : ℕ) → Opening s t names inputs → Starts t u name (Err fault) → ClosesInputs u v inputs result → port ≡ length names →
+pub opening-refused : {s t u v : Disk} {names : List (List ℕ)} {inputs : List Input} {fault : CaptureFault} {result : Result (Unit {0}) Failed}
+    (name : List ℕ) (more : List (List ℕ)) (port : ℕ) → Opening s t names inputs → Starts t u name (Err fault) → ClosesInputs u v inputs result
+    → port ≡ length names →
     StartsMerge s v (names ++ name ∷ more) (Err (record { port = port; fault = fault }))
 opening-refused {s} {t} {u} {v} {names} {inputs} {fault} {result} name more port opening one closes is =
     let before = opening.starts in
@@ -331,16 +345,19 @@ few_ids (x ∷ inputs) = one x.reader.id (ids_of inputs) (few_ids inputs)
 
 -- the name at a place, among all
 split_at : (names : List (List ℕ)) (k : ℕ) (name : List ℕ) → k < length names → name ≡ get_or names k name → names ≡ take k names ++ name ∷ drop (k + 1) names
-split_at names k name lt is = sym (take-append-drop k names) ∙ ap (λ l. take k names ++ l) (drop_more names k name lt ∙ ap (λ n. n ∷ drop (k + 1) names) (sym is))
+split_at names k name lt is = sym (take-append-drop k names) ∙ ap (λ l. take k names ++ l)
+    (drop_more names k name lt ∙ ap (λ n. n ∷ drop (k + 1) names) (sym is))
 
-pub opening-next : {s t u : Disk} {old : List Input} (names : List (List ℕ)) (k : ℕ) (name : List ℕ) (new : List Input) → k < length names → name ≡ get_or names k name → Opening s t (take k names) old → OpensPort t u name old new (Ok tt) → Opening s u (take (k + 1) names) new
+pub opening-next : {s t u : Disk} {old : List Input} (names : List (List ℕ)) (k : ℕ) (name : List ℕ) (new : List Input) → k < length names
+    → name ≡ get_or names k name → Opening s t (take k names) old → OpensPort t u name old new (Ok tt) → Opening s u (take (k + 1) names) new
 opening-next {s} {t} {u} {old} names k name new lt is opening opens =
     let one = opening-more name opening opens.2 in
     let all : take (k + 1) names ≡ take k names ++ name ∷ [] = take_more names k name lt ∙ ap (λ n. take k names ++ n ∷ []) (sym is) in
     subst (λ (l : List (List ℕ)). Opening s u l new) (sym all) (subst (λ (l : List Input). Opening s u (take k names ++ name ∷ []) l) (sym opens.1) one)
 
 -- where one is refused, those before can be closed
-pub opening-stands : {s t u : Disk} {names : List (List ℕ)} {old : List Input} (name : List ℕ) (new : List Input) (fault : CaptureFault) → Opening s t names old → OpensPort t u name old new (Err fault) → AreReadable u new × AreApart new
+pub opening-stands : {s t u : Disk} {names : List (List ℕ)} {old : List Input} (name : List ℕ) (new : List Input) (fault : CaptureFault)
+    → Opening s t names old → OpensPort t u name old new (Err fault) → AreReadable u new × AreApart new
 opening-stands {s} {t} {u} {names} {old} name new fault opening opens =
     let same = opens.1.closed in
     let readable : AreReadable u old = All-weaker (λ i. IsReadable t i.reader.id) (λ i. IsReadable u i.reader.id)
@@ -350,7 +367,9 @@ opening-stands {s} {t} {u} {names} {old} name new fault opening opens =
     same_id : (id : Option ℕ) → SameIds t u → SameId t u id
     same_id id same = record { stands = λ j is. ap (λ f. f j) same.opened }
 
-pub opening-stops : {s t u v : Disk} {names : List (List ℕ)} {k : ℕ} {old new : List Input} {result : Result (Unit {0}) Failed} (name : List ℕ) (fault : CaptureFault) → k < length names → name ≡ get_or names k name → Opening s t (take k names) old → OpensPort t u name old new (Err fault) → ClosesInputs u v new result →
+pub opening-stops : {s t u v : Disk} {names : List (List ℕ)} {k : ℕ} {old new : List Input} {result : Result (Unit {0}) Failed} (name : List ℕ)
+    (fault : CaptureFault) → k < length names → name ≡ get_or names k name → Opening s t (take k names) old → OpensPort t u name old new (Err fault)
+    → ClosesInputs u v new result →
     StartsMerge s v names (Err (record { port = k; fault = fault }))
 opening-stops {s} {t} {u} {v} {names} {k} {old} {new} {result} name fault lt is opening opens closes =
     let closes_old : ClosesInputs u v old result = subst (λ (l : List Input). ClosesInputs u v l result) opens.0 closes in
@@ -358,5 +377,6 @@ opening-stops {s} {t} {u} {v} {names} {k} {old} {new} {result} name fault lt is 
     subst (λ (l : List (List ℕ)). StartsMerge s v l (Err (record { port = k; fault = fault }))) (sym (split_at names k name lt is))
     (opening-refused name (drop (k + 1) names) k opening opens.1 closes_old port)
 
-pub opening-all : {s t : Disk} {names : List (List ℕ)} {k : ℕ} {inputs : List Input} → length names ≤ k → Opening s t (take k names) inputs → Opening s t names inputs
+pub opening-all : {s t : Disk} {names : List (List ℕ)} {k : ℕ} {inputs : List Input} → length names ≤ k → Opening s t (take k names) inputs
+    → Opening s t names inputs
 opening-all {s} {t} {names} {k} {inputs} le opening = subst (λ (l : List (List ℕ)). Opening s t l inputs) (take_all k names le) opening

@@ -1,5 +1,6 @@
 -- The order of arrivals is one: laws on the definitions, which no code cites.
-use Rattle.std.proofs.Common.{◌≡◌, ◌≢◌, ℕ, suc, ◌≤◌, ◌⊎◌, ◌==◌, inl, inr, refl, ◌∙◌, sym, ap, subst, List, [], ◌∷◌, ◌++◌, length, filter, All, AllPairs, Contains, arith, append-nil, length-append, append_assoc, eq-eqb, ne_eqb}
+use Rattle.std.proofs.Common.{◌≡◌, ◌≢◌, ℕ, suc, ◌≤◌, ◌⊎◌, ◌==◌, inl, inr, refl, ◌∙◌, sym, ap, subst, List, [], ◌∷◌, ◌++◌, length, filter, All}
+use Rattle.std.proofs.Common.{AllPairs, Contains, arith, append-nil, length-append, append_assoc, eq-eqb, ne_eqb}
 use Rattle.std.proofs.lemmas.Bool.{cases_eq}
 use Rattle.std.proofs.lemmas.List.{map-append, append_cancel_left}
 use Rattle.std.proofs.lemmas.List.Elements.{All-head, All-tail, filter-append}
@@ -99,8 +100,10 @@ same_first x y xs ys left others l o same = elim (cases_eq x.port y.port) [
       let is : at_port x.port x.frame ≡ at_port y.port y.frame = rw (here, frame) refl in
       is
   | inr ne ↦
-      let at_y : frames_from y.port (x ∷ xs) ++ left y.port ≡ y.frame ∷ (frames_from y.port ys ++ others y.port) = same y.port ∙ ap (λ (l : List Framed). l ++ others y.port) (frames_from-here y ys) in
-      let at_x : frames_from x.port (y ∷ ys) ++ others x.port ≡ x.frame ∷ (frames_from x.port xs ++ left x.port) = sym (same x.port) ∙ ap (λ (l : List Framed). l ++ left x.port) (frames_from-here x xs) in
+      let at_y : frames_from y.port (x ∷ xs) ++ left y.port ≡ y.frame ∷ (frames_from y.port ys ++ others y.port) = same y.port
+      ∙ ap (λ (l : List Framed). l ++ others y.port) (frames_from-here y ys) in
+      let at_x : frames_from x.port (y ∷ ys) ++ others x.port ≡ x.frame ∷ (frames_from x.port xs ++ left x.port) = sym (same x.port)
+      ∙ ap (λ (l : List Framed). l ++ left x.port) (frames_from-here x xs) in
       absurd (not_both x y ne (comes_first x y xs left _ l ne at_y) (comes_first y x ys others _ o (λ e. ne (sym e)) at_x))
 ]
 
@@ -136,21 +139,24 @@ left_at left port = (stream_at left port).frames
 left_behind : {streams : List Stream} {first : List Arrival} {left : List Stream} → ComeFirst streams first left → IsLeftBehind first (left_at left)
 left_behind c = record { ordered = c.ordered; before = c.before }
 
-pub ComeFirst-order : {streams : List Stream} {a b : List Arrival} {la lb : List Stream} → ComeFirst streams a la → ComeFirst streams b lb → BeginsWith a b ⊎ BeginsWith b a
+pub ComeFirst-order : {streams : List Stream} {a b : List Arrival} {la lb : List Stream} → ComeFirst streams a la → ComeFirst streams b lb
+    → BeginsWith a b ⊎ BeginsWith b a
 ComeFirst-order {a = a} {b = b} {la = la} {lb = lb} x y =
     one_begins a b (left_at la) (left_at lb) (left_behind x) (left_behind y) (λ port. sym (x.in_turn port) ∙ y.in_turn port)
 
 -- ---- one list of all
 
 frames_from-both : (port : ℕ) (xs ys : List Arrival) → frames_from port (xs ++ ys) ≡ frames_from port xs ++ frames_from port ys
-frames_from-both port xs ys = rw (filter-append (λ x. x.port == port) xs ys) (map-append (λ (x : Arrival). x.frame) (filter (λ x. x.port == port) xs) (filter (λ x. x.port == port) ys))
+frames_from-both port xs ys = rw (filter-append (λ x. x.port == port) xs ys) (map-append (λ (x : Arrival). x.frame) (filter (λ x. x.port == port) xs)
+    (filter (λ x. x.port == port) ys))
 
 -- what was left behind fewer arrivals came with the others, or is left
 left_of_more : {streams : List Stream} (b more : List Arrival) {la lb : List Stream} → ComeFirst streams (b ++ more) la → ComeFirst streams b lb → (port : ℕ) →
     left_at lb port ≡ frames_from port more ++ left_at la port
 left_of_more b more {la} {lb} x y port =
     append_cancel_left (frames_from port b) (left_at lb port) (frames_from port more ++ left_at la port)
-    (sym (y.in_turn port) ∙ x.in_turn port ∙ ap (λ (l : List Framed). l ++ left_at la port) (frames_from-both port b more) ∙ append_assoc (frames_from port b) (frames_from port more) (left_at la port))
+    (sym (y.in_turn port) ∙ x.in_turn port ∙ ap (λ (l : List Framed). l ++ left_at la port) (frames_from-both port b more)
+    ∙ append_assoc (frames_from port b) (frames_from port more) (left_at la port))
 
 -- where nothing came at any port there is no arrival
 no_arrivals : (more : List Arrival) → ((port : ℕ) → frames_from port more ≡ []) → more ≡ []
@@ -162,7 +168,8 @@ nil_parts [] ys e = (refl, e)
 nil_parts (x ∷ xs) ys e = absurd cc
 
 -- nothing comes behind all
-none_behind : {streams : List Stream} (b more : List Arrival) {la lb : List Stream} → ComeFirst streams (b ++ more) la → ComeFirst streams b lb → ((port : ℕ) → left_at lb port ≡ []) → more ≡ []
+none_behind : {streams : List Stream} (b more : List Arrival) {la lb : List Stream} → ComeFirst streams (b ++ more) la → ComeFirst streams b lb
+    → ((port : ℕ) → left_at lb port ≡ []) → more ≡ []
 none_behind b more {la} x y none =
     no_arrivals more (λ port. (nil_parts (frames_from port more) (left_at la port) (sym (left_of_more b more x y port) ∙ none port)).0)
 
@@ -198,7 +205,8 @@ ends_later (x ∷ []) m ms port ends none = ends_later [] m ms port ends none
 ends_later (x ∷ y ∷ xs) m ms port ends none = ends_later (y ∷ xs) m ms port ends none
 
 -- a port whose next record is refused stays so
-stays_at : {streams : List Stream} (b more : List Arrival) {la lb : List Stream} {port : ℕ} {damage : Damage} → ComeFirst streams (b ++ more) la → ComeFirst streams b lb →
+stays_at : {streams : List Stream} (b more : List Arrival) {la lb : List Stream} {port : ℕ} {damage : Damage} → ComeFirst streams (b ++ more) la
+    → ComeFirst streams b lb →
     IsAtDamage lb port damage → (frames_from port more ≡ []) × IsAtDamage la port damage
 stays_at b more {la} {lb} {port} x y at =
     let parts = nil_parts (frames_from port more) (left_at la port) (sym (left_of_more b more x y port) ∙ at.none_left) in
@@ -219,7 +227,8 @@ no_later a (m ∷ more) {p} {q} x y =
     nil_append (x ∷ xs) z zs e = absurd cc
 
 -- the same is left behind the same arrivals
-moved : {streams : List Stream} {a : List Arrival} {la lb : List Stream} {port : ℕ} {damage : Damage} → ComeFirst streams a la → ComeFirst streams a lb → IsAtDamage la port damage → IsAtDamage lb port damage
+moved : {streams : List Stream} {a : List Arrival} {la lb : List Stream} {port : ℕ} {damage : Damage} → ComeFirst streams a la
+    → ComeFirst streams a lb → IsAtDamage la port damage → IsAtDamage lb port damage
 moved {a = a} {la = la} {lb = lb} {port = port} x y at = record {
   none_left = append_cancel_left (frames_from port a) (left_at lb port) (left_at la port) (sym (y.in_turn port) ∙ x.in_turn port) ∙ at.none_left;
   refused = y.ends port ∙ sym (x.ends port) ∙ at.refused;
@@ -243,7 +252,8 @@ same_damage {p = p} {q = q} {d = d} {e = e} x y same =
     cc
 
 -- the arrivals up to a refused record, and that record, are one thing
-pub ComeUpTo-same : {streams : List Stream} (a b : List Arrival) {p q : ℕ} {d e : Damage} → ComeUpTo streams a p d → ComeUpTo streams b q e → (a ≡ b) × (p ≡ q) × (d ≡ e)
+pub ComeUpTo-same : {streams : List Stream} (a b : List Arrival) {p q : ℕ} {d e : Damage} → ComeUpTo streams a p d → ComeUpTo streams b q e → (a ≡ b)
+    × (p ≡ q) × (d ≡ e)
 ComeUpTo-same {streams} a b {p} {q} {d} {e} x y =
     let same : a ≡ b = elim (ComeFirst-order x.first y.first) [
       | inl more ↦
@@ -263,7 +273,8 @@ none_more xs [] short = refl
 none_more xs (m ∷ more) short = absurd (omega (arith, length-append xs (m ∷ more)))
 
 -- as many arrivals as there are of whole streams, or more, leave nothing
-pub AllCome-most : {streams : List Stream} (a b : List Arrival) {lb : List Stream} → AllCome streams a → ComeFirst streams b lb → length a ≤ length b → (port : ℕ) → (stream_at lb port).frames ≡ []
+pub AllCome-most : {streams : List Stream} (a b : List Arrival) {lb : List Stream} → AllCome streams a → ComeFirst streams b lb → length a ≤ length b
+    → (port : ℕ) → (stream_at lb port).frames ≡ []
 AllCome-most a b {lb} x y enough port = elim (ComeFirst-order x.first y) [
   | inl more ↦
       let none = none_more b more.0 (rw more.1 at enough) in
@@ -276,7 +287,8 @@ AllCome-most a b {lb} x y enough port = elim (ComeFirst-order x.first y) [
 ]
 
 -- as many arrivals as there are up to a refused record, or more, leave that record next
-pub ComeUpTo-most : {streams : List Stream} (a b : List Arrival) {lb : List Stream} {port : ℕ} {damage : Damage} → ComeUpTo streams a port damage → ComeFirst streams b lb → length a ≤ length b →
+pub ComeUpTo-most : {streams : List Stream} (a b : List Arrival) {lb : List Stream} {port : ℕ} {damage : Damage} → ComeUpTo streams a port damage
+    → ComeFirst streams b lb → length a ≤ length b →
     IsAtDamage lb port damage
 ComeUpTo-most {streams} a b {lb} {port} {damage} x y enough = elim (ComeFirst-order x.first y) [
   | inl more ↦

@@ -1,5 +1,6 @@
 -- Bytes that are read ahead, and then given.
-use Rattle.std.proofs.Common.{◌≡◌, ◌≤◌, ◌<◌, ◌+◌, ◌-◌, ℕ, min, List, [], ◌++◌, length, take, drop, Option, Some, None, IsTrue, Ok, refl, sym, ap, ◌∙◌, append_assoc, length-append, length-drop, arith}
+use Rattle.std.proofs.Common.{◌≡◌, ◌≤◌, ◌<◌, ◌+◌, ◌-◌, ℕ, min, List, [], ◌++◌, length, take, drop, Option, Some, None, IsTrue, Ok, refl, sym, ap, ◌∙◌}
+use Rattle.std.proofs.Common.{append_assoc, length-append, length-drop, arith}
 use Rattle.std.proofs.lemmas.List.{drop_at, take_at, drop-drop, length-take-le, take-append-drop, take-append-le}
 use Rattle.std.proofs.Math.Seq.{take-add, take-append-add}
 use borrow.Rule.Slice.PartMut.{put_mid, post_of, same_len_mid}
@@ -12,7 +13,8 @@ use Rattle.vg_pcap.proofs.Pieces.{no_items}
 -- ---- pieces of the buffer
 
 -- what is given of what is ahead, and what is left of it
-pub given_parts : (items ahead copied rest : List ℕ) (from until n : ℕ) → take (until - from) (drop from items) ≡ ahead → copied ≡ take (from + n - from) (drop from items) →
+pub given_parts : (items ahead copied rest : List ℕ) (from until n : ℕ) → take (until - from) (drop from items) ≡ ahead
+    → copied ≡ take (from + n - from) (drop from items) →
     from ≤ until → until ≤ length items → n ≤ until - from → ahead ≡ take n (copied ++ rest) ++ take (until - (from + n)) (drop (from + n) items)
 given_parts items ahead copied rest from until n is copy order within small =
     let count : from + n - from ≡ n = omega arith in
@@ -38,7 +40,8 @@ Stays-trans x y = record {
 }
 
 -- what was read ahead of a file stands before it
-pub refilled : {s t : Disk} {id n : ℕ} {into : List ℕ} (bytes : List ℕ) → ReadsNext s t id into (Ok n) → IsTrue s.tells_held → IsBefore s (Some id) [] bytes → IsBefore t (Some id) (take n into) bytes
+pub refilled : {s t : Disk} {id n : ℕ} {into : List ℕ} (bytes : List ℕ) → ReadsNext s t id into (Ok n) → IsTrue s.tells_held
+    → IsBefore s (Some id) [] bytes → IsBefore t (Some id) (take n into) bytes
 refilled {n = n} {into = into} bytes read told (name, place, file, opened, held, within, is) =
     let given = read.bytes told name place file opened held in (
       name,
@@ -54,7 +57,8 @@ refilled {n = n} {into = into} bytes read told (name, place, file, opened, held,
     two p q = cc
 
 -- nothing is read ahead only at the file's end
-pub refilled-end : {s t : Disk} {id n : ℕ} {into : List ℕ} (bytes : List ℕ) → ReadsNext s t id into (Ok n) → IsTrue s.tells_held → IsBefore s (Some id) [] bytes → 0 < length into →
+pub refilled-end : {s t : Disk} {id n : ℕ} {into : List ℕ} (bytes : List ℕ) → ReadsNext s t id into (Ok n) → IsTrue s.tells_held
+    → IsBefore s (Some id) [] bytes → 0 < length into →
     take n into ≡ [] → bytes ≡ []
 refilled-end {n = n} {into = into} bytes read told (name, place, file, opened, held, within, is) room nothing =
     let given = read.bytes told name place file opened held in
@@ -62,7 +66,8 @@ refilled-end {n = n} {into = into} bytes read told (name, place, file, opened, h
     is ∙ no_items (drop place file) (omega (arith, length-drop place file, given.end none room))
 
 -- reading ahead, where it went well
-pub refill_done : {s t : Disk} {id n : ℕ} {into : List ℕ} (old new : Source) → old.id ≡ Some id → new.id ≡ Some id → new.ahead ≡ take n into → 0 < length into → ReadsNext s t id into (Ok n) →
+pub refill_done : {s t : Disk} {id n : ℕ} {into : List ℕ} (old new : Source) → old.id ≡ Some id → new.id ≡ Some id → new.ahead ≡ take n into
+    → 0 < length into → ReadsNext s t id into (Ok n) →
     Refills s t old new (Ok tt)
 refill_done old new was now ahead room read = record {
   faults = record { failed = tt; same = read.faults.same; rises = read.faults.rises };
@@ -81,7 +86,8 @@ refill_done old new was now ahead room read = record {
 -- ---- giving
 
 -- what is ahead is given in part
-given_of : (t : Disk) (id : Option ℕ) (ahead rest into bytes : List ℕ) (n : ℕ) → ahead ≡ take n into ++ rest → n ≡ min (length ahead) (length into) → (id ≡ None → ahead ≡ []) →
+given_of : (t : Disk) (id : Option ℕ) (ahead rest into bytes : List ℕ) (n : ℕ) → ahead ≡ take n into ++ rest → n ≡ min (length ahead) (length into)
+    → (id ≡ None → ahead ≡ []) →
     IsBefore t id ahead bytes → (n ≤ length bytes) × (take n into ≡ take n bytes) × IsBefore t id rest (drop n bytes)
 given_of t None ahead rest into bytes n parts count none is =
     let nothing = none refl in
@@ -89,13 +95,15 @@ given_of t None ahead rest into bytes n parts count none is =
     rw (zero_is, is) (omega arith, refl, refl)
 given_of t (Some id) ahead rest into bytes n parts count none (name, place, file, opened, held, within, is) =
     let size : length (take n into) ≡ n = length-take-le n into (omega arith) in
-    let whole : bytes ≡ take n into ++ (rest ++ drop place file) = is ∙ ap (λ (front : List ℕ). front ++ drop place file) parts ∙ append_assoc (take n into) rest (drop place file) in (
+    let whole : bytes ≡ take n into ++ (rest ++ drop place file) = is ∙ ap (λ (front : List ℕ). front ++ drop place file) parts
+    ∙ append_assoc (take n into) rest (drop place file) in (
       omega (arith, size, ap (λ (xs : List ℕ). length xs) whole, length-append (take n into) (rest ++ drop place file)),
       sym (ap (take n) whole ∙ take_at (take n into) (rest ++ drop place file) n size),
       (name, place, file, opened, held, within, ap (drop n) whole ∙ drop_at (take n into) (rest ++ drop place file) n size),
     )
 
-pub given : {t : Disk} {mid new : Source} {n : ℕ} {into : List ℕ} (bytes : List ℕ) → mid.ahead ≡ take n into ++ new.ahead → new.id ≡ mid.id → n ≡ min (length mid.ahead) (length into) →
+pub given : {t : Disk} {mid new : Source} {n : ℕ} {into : List ℕ} (bytes : List ℕ) → mid.ahead ≡ take n into ++ new.ahead → new.id ≡ mid.id
+    → n ≡ min (length mid.ahead) (length into) →
     (mid.id ≡ None → mid.ahead ≡ []) → IsBefore t mid.id mid.ahead bytes → Gives t new n into bytes
 given {t} {mid} {new} {n} {into} bytes parts same count none before =
     let all = given_of t mid.id mid.ahead new.ahead into bytes n parts count none before in
@@ -104,10 +112,12 @@ given {t} {mid} {new} {n} {into} bytes parts same count none before =
 take_put : (a m k : ℕ) (xs ys : List ℕ) → a ≤ length xs → m ≤ length ys → take (a + m) (put_mid a k xs ys) ≡ take a xs ++ take m ys
 take_put a m k xs ys long enough =
     let size : length (take a xs) ≡ a = length-take-le a xs long in
-    ap (λ (n : ℕ). take (n + m) (put_mid a k xs ys)) (sym size) ∙ take-append-add (take a xs) (ys ++ post_of a k xs) m ∙ ap (λ (back : List ℕ). take a xs ++ back) (take-append-le m ys (post_of a k xs) enough)
+    ap (λ (n : ℕ). take (n + m) (put_mid a k xs ys)) (sym size) ∙ take-append-add (take a xs) (ys ++ post_of a k xs) m
+    ∙ ap (λ (back : List ℕ). take a xs ++ back) (take-append-le m ys (post_of a k xs) enough)
 
 -- some bytes were given, and then some more
-pub Gives-more : {t u : Disk} {mid new : Source} {a m : ℕ} {xs ys bytes : List ℕ} (k n : ℕ) → n ≡ a + m → a ≤ length xs → m ≤ length ys → Gives t mid a xs bytes → Gives u new m ys (drop a bytes) →
+pub Gives-more : {t u : Disk} {mid new : Source} {a m : ℕ} {xs ys bytes : List ℕ} (k n : ℕ) → n ≡ a + m → a ≤ length xs → m ≤ length ys
+    → Gives t mid a xs bytes → Gives u new m ys (drop a bytes) →
     Gives u new n (put_mid a k xs ys) bytes
 Gives-more {a = a} {m} {xs} {ys} {bytes} k n count long enough first more = record {
   within = omega (arith, first.within, more.within, length-drop a bytes);

@@ -12,7 +12,8 @@ pub length-head_bytes : (encoding : Encoding) (h : RecordHead) → length (head_
 unfolding head_bytes
 length-head_bytes encoding h = simp (length-append, length-number_bytes) refl
 
-pub HasHead-length : {encoding : Encoding} {bytes : List ℕ} {h : RecordHead} (behind : List ℕ) → HasHead encoding bytes h behind → length bytes ≡ 16 + length behind
+pub HasHead-length : {encoding : Encoding} {bytes : List ℕ} {h : RecordHead} (behind : List ℕ) → HasHead encoding bytes h behind
+    → length bytes ≡ 16 + length behind
 HasHead-length {encoding} {h = h} behind is = rw (is.whole, length-append (head_bytes encoding h) behind, length-head_bytes encoding h) refl
 
 sixteen : (bytes : List ℕ) → take 4 bytes ++ take 4 (drop 4 bytes) ++ take 4 (drop 8 bytes) ++ take 4 (drop 12 bytes) ≡ take 16 bytes
@@ -33,7 +34,8 @@ head_at-bytes : (encoding : Encoding) (bytes : List ℕ) → 16 ≤ length bytes
 unfolding head_bytes
 head_at-bytes encoding bytes long small =
     let o = encoding.order in
-    four_pieces (number_bytes-number o 4 bytes (omega arith) small) (number_bytes-number o 4 (drop 4 bytes) (omega (arith, length-drop 4 bytes)) (AreBytes-drop 4 bytes small))
+    four_pieces (number_bytes-number o 4 bytes (omega arith) small) (number_bytes-number o 4 (drop 4 bytes) (omega (arith, length-drop 4 bytes))
+    (AreBytes-drop 4 bytes small))
     (number_bytes-number o 4 (drop 8 bytes) (omega (arith, length-drop 8 bytes)) (AreBytes-drop 8 bytes small))
     (number_bytes-number o 4 (drop 12 bytes) (omega (arith, length-drop 12 bytes)) (AreBytes-drop 12 bytes small)) ∙ sixteen bytes
 
@@ -49,7 +51,8 @@ HasHead-read encoding bytes long small =
       whole = sym (take-append-drop 16 bytes) ∙ ap (λ (front : List ℕ). front ++ drop 16 bytes) (sym (head_at-bytes encoding bytes long small));
     }
 
-pub HasHead-more : {encoding : Encoding} {bytes : List ℕ} {h : RecordHead} {a : List ℕ} (more : List ℕ) → HasHead encoding bytes h a → HasHead encoding (bytes ++ more) h (a ++ more)
+pub HasHead-more : {encoding : Encoding} {bytes : List ℕ} {h : RecordHead} {a : List ℕ} (more : List ℕ) → HasHead encoding bytes h a
+    → HasHead encoding (bytes ++ more) h (a ++ more)
 HasHead-more {encoding} {h = h} {a = a} more is = record {
   seconds = is.seconds;
   fraction = is.fraction;
@@ -71,11 +74,13 @@ regroup : (a b c d rest : List ℕ) → a ++ b ++ c ++ d ++ rest ≡ a ++ (b ++ 
 regroup a b c d rest = simp append_assoc
 
 -- the bytes tell the numbers that they begin with, and what stands behind them
-pub HasHead-same : {encoding : Encoding} {bytes : List ℕ} (h g : RecordHead) (a b : List ℕ) → HasHead encoding bytes h a → HasHead encoding bytes g b → (h ≡ g) × (a ≡ b)
+pub HasHead-same : {encoding : Encoding} {bytes : List ℕ} (h g : RecordHead) (a b : List ℕ) → HasHead encoding bytes h a → HasHead encoding bytes g b
+    → (h ≡ g) × (a ≡ b)
 unfolding head_bytes
 HasHead-same {encoding} h g a b x y =
     let o = encoding.order in
-    let both = sym (regroup (number_bytes o 4 h.seconds) (number_bytes o 4 h.fraction) (number_bytes o 4 h.size) (number_bytes o 4 h.original) a) ∙ (sym x.whole ∙ y.whole)
+    let both = sym (regroup (number_bytes o 4 h.seconds) (number_bytes o 4 h.fraction) (number_bytes o 4 h.size) (number_bytes o 4 h.original) a)
+    ∙ (sym x.whole ∙ y.whole)
     ∙ regroup (number_bytes o 4 g.seconds) (number_bytes o 4 g.fraction) (number_bytes o 4 g.size) (number_bytes o 4 g.original) b in
     let seconds = number_bytes-same o 4 h.seconds g.seconds _ _ x.seconds y.seconds both in
     let fraction = number_bytes-same o 4 h.fraction g.fraction _ _ x.fraction y.fraction seconds.rest in
@@ -84,8 +89,10 @@ HasHead-same {encoding} h g a b x y =
     (same_head seconds.number fraction.number size.number original.number, original.rest)
 
 -- these numbers stand at their places in sixteen bytes
-pub HasHead-sixteen : (encoding : Encoding) (bytes : List ℕ) (h : RecordHead) → length bytes ≡ 16 → AreBytes bytes → h.seconds ≡ number_in encoding.order 4 bytes →
-    h.fraction ≡ number_in encoding.order 4 (drop 4 bytes) → h.size ≡ number_in encoding.order 4 (drop 8 bytes) → h.original ≡ number_in encoding.order 4 (drop 12 bytes) →
+pub HasHead-sixteen : (encoding : Encoding) (bytes : List ℕ) (h : RecordHead) → length bytes ≡ 16 → AreBytes bytes
+    → h.seconds ≡ number_in encoding.order 4 bytes →
+    h.fraction ≡ number_in encoding.order 4 (drop 4 bytes) → h.size ≡ number_in encoding.order 4 (drop 8 bytes)
+    → h.original ≡ number_in encoding.order 4 (drop 12 bytes) →
     HasHead encoding bytes h []
 HasHead-sixteen encoding bytes h size small p q r s =
     let nothing : drop 16 bytes ≡ [] = no_items (drop 16 bytes) (omega (arith, length-drop 16 bytes)) in

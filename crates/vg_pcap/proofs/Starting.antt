@@ -27,7 +27,8 @@ pub record IsFresh (r : Reader) (source : Source) (encoding : Encoding) : Type 0
   pub count : r.count ≡ 0
 
 -- the name `-`
-pub starts_empty : (s : Disk) (name : List ℕ) (r : Reader) (encoding : Encoding) → name ≡ codes "-" → IsFresh r (record { id = None; ahead = [] }) encoding → Starts s s name (Ok r)
+pub starts_empty : (s : Disk) (name : List ℕ) (r : Reader) (encoding : Encoding) → name ≡ codes "-"
+    → IsFresh r (record { id = None; ahead = [] }) encoding → Starts s s name (Ok r)
 starts_empty s name r encoding is fresh = record {
   cause = cause_ok r refl;
   keeps = record { write_faults = refl; held = SameHeld-refl s; made = refl };
@@ -60,7 +61,8 @@ there (Some file) is = (file, refl)
 there None is = absurd (cc (is))
 
 -- the bytes of a file, and how it was opened
-file_of : {s m : Disk} {name : List ℕ} {id : ℕ} → OpensRead s m name (Ok id) → IsTrue s.tells_held → (file : List ℕ) × (s.held name ≡ Some file) × AreBytes file × IsBefore m (Some id) [] file
+file_of : {s m : Disk} {name : List ℕ} {id : ℕ} → OpensRead s m name (Ok id) → IsTrue s.tells_held → (file : List ℕ) × (s.held name ≡ Some file)
+    × AreBytes file × IsBefore m (Some id) [] file
 file_of {s} {m} {name} opens told =
     let (file, held) = there (s.held name) (opens.exists told) in
     (file, held, opens.bytes told file held, (name, 0, file, opens.start told, rw opens.held.held held, omega arith, refl))
@@ -71,7 +73,8 @@ bytes_behind {encoding} {file} behind is small =
     rw (drop_at front behind (length front) refl) at (AreBytes-drop (length front) (front ++ behind) (rw is.whole at small))
 
 -- what stands behind a header is a stream
-pub stream_behind : {file : List ℕ} (encoding : Encoding) (behind : List ℕ) → HasHeader encoding file behind → AreBytes file → (stream : Stream) × HoldsStream file stream
+pub stream_behind : {file : List ℕ} (encoding : Encoding) (behind : List ℕ) → HasHeader encoding file behind → AreBytes file → (stream : Stream)
+    × HoldsStream file stream
 stream_behind encoding behind header small =
     let all = records_of encoding behind (bytes_behind behind header small) in (
       record { frames = frames_after encoding 0 all.0; end = all.1 },
@@ -79,7 +82,8 @@ stream_behind encoding behind header small =
     )
 
 -- and it is still to come
-streams : {t : Disk} {file : List ℕ} (r : Reader) (behind : List ℕ) (encoding : Encoding) → HasHeader encoding file behind → AreBytes file → IsTrue t.tells_held → IsBefore t r.id r.ahead behind →
+streams : {t : Disk} {file : List ℕ} (r : Reader) (behind : List ℕ) (encoding : Encoding) → HasHeader encoding file behind → AreBytes file
+    → IsTrue t.tells_held → IsBefore t r.id r.ahead behind →
     r.encoding ≡ encoding → r.latest ≡ 0 → (stream : Stream) × HoldsStream file stream × StillComes t r stream
 unfolding stream_behind
 streams r behind encoding header small told before written early =
@@ -101,7 +105,8 @@ apart_from o id j is apart e = apart (same (e ∙ is))
     same e = cc
 
 -- the header of a file was read
-pub starts_file : {s m t : Disk} {name : List ℕ} {id : ℕ} {a b : Source} {e : coded_encoding.Encoding} (r : Reader) → name ≢ codes "-" → OpensRead s m name (Ok id) → a.id ≡ Some id → a.ahead ≡ [] →
+pub starts_file : {s m t : Disk} {name : List ℕ} {id : ℕ} {a b : Source} {e : coded_encoding.Encoding} (r : Reader) → name ≢ codes "-"
+    → OpensRead s m name (Ok id) → a.id ≡ Some id → a.ahead ≡ [] →
     TakesHeader m t a b (Ok e) → IsFresh r b (encoding_view e) → Starts s t name (Ok r)
 starts_file {s} {m} {t} {name} {id} {a} {b} {e} r other opens opened none takes fresh = record {
   cause = cause_ok r (takes.cause.same ∙ opens.faults.same);
@@ -125,14 +130,16 @@ starts_file {s} {m} {t} {name} {id} {a} {b} {e} r other opens opened none takes 
   comes = λ told.
       let file = file_of opens told in
       let good = takes.good (rw opens.held.tells_held told) file.0 (rw (opened, none) file.3) in
-      let all = streams r good.0 (encoding_view e) good.1 file.2 (told_before takes.stays.keeps (rw opens.held.tells_held told)) (rw (fresh.id, fresh.ahead) good.2) fresh.encoding_is fresh.latest in
+      let all = streams r good.0 (encoding_view e) good.1 file.2 (told_before takes.stays.keeps (rw opens.held.tells_held told))
+      (rw (fresh.id, fresh.ahead) good.2) fresh.encoding_is fresh.latest in
       (all.0, inr (other, file.0, file.1, all.1), all.2);
   closed = tt;
   refused = tt;
 }
 
 -- the header was refused, or there was a fault at reading it, and the file was closed
-pub starts_refused : {s m t u : Disk} {name : List ℕ} {id : ℕ} {a b : Source} {fault : CaptureFault} (closed : Result (Unit {0}) Failed) → name ≢ codes "-" → OpensRead s m name (Ok id) → a.id ≡ Some id →
+pub starts_refused : {s m t u : Disk} {name : List ℕ} {id : ℕ} {a b : Source} {fault : CaptureFault} (closed : Result (Unit {0}) Failed)
+    → name ≢ codes "-" → OpensRead s m name (Ok id) → a.id ≡ Some id →
     a.ahead ≡ [] → TakesHeader m t a b (Err fault) → Closes t u id closed → Starts s u name (Err fault)
 starts_refused {s} {m} {t} {u} {name} {id} {a} {b} {fault} closed other opens opened none takes closes =
     let reads = open_at t b.id id (takes.stays.id ∙ opened) takes.stays.readable in

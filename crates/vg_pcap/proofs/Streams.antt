@@ -1,5 +1,6 @@
 -- What is still to come from a reader.
-use Rattle.std.proofs.Common.{◌≡◌, ◌<◌, ◌+◌, ◌*◌, ◌^◌, inl, inr, ℕ, max, Some, None, List, [], ◌∷◌, length, take, true, false, IsTrue, Ok, Err, refl, sym, ap, ◌∙◌, arith}
+use Rattle.std.proofs.Common.{◌≡◌, ◌<◌, ◌+◌, ◌*◌, ◌^◌, inl, inr, ℕ, max, Some, None, List, [], ◌∷◌, length, take, true, false, IsTrue, Ok, Err, refl}
+use Rattle.std.proofs.Common.{sym, ap, ◌∙◌, arith}
 use Rattle.std.proofs.lemmas.List.{length-take-le}
 use Rattle.vg_base.specs.Files.{Disk}
 use Rattle.vg_base.proofs.Disks.{told_before}
@@ -19,8 +20,10 @@ abbrev framed : ℕ → ℕ → List ℕ → Framed
 framed time original bytes = record { time = time; original = original; bytes = bytes }
 
 -- a record was read: its frame is the next
-pub next_frame : {s t : Disk} {old new : Reader} {stream : Stream} {r : Record} (still : StillComes s old stream) (behind : List ℕ) → HasRecord old.encoding still.bytes r behind →
-    IsBefore t new.id new.ahead behind → IsTrue t.tells_held → new.encoding ≡ old.encoding → new.latest ≡ max old.latest (time_of old.encoding r) → new.frame ≡ frame_of old.encoding old.latest r →
+pub next_frame : {s t : Disk} {old new : Reader} {stream : Stream} {r : Record} (still : StillComes s old stream) (behind : List ℕ)
+    → HasRecord old.encoding still.bytes r behind →
+    IsBefore t new.id new.ahead behind → IsTrue t.tells_held → new.encoding ≡ old.encoding → new.latest ≡ max old.latest (time_of old.encoding r)
+    → new.frame ≡ frame_of old.encoding old.latest r →
     IsNextOf t old new stream (Ok true)
 next_frame {old = old} {new} {stream} {r} still behind is before told encoding latest frame =
     let follow = AreRecords-first behind still.records stream.end is still.are in
@@ -32,7 +35,8 @@ next_frame {old = old} {new} {stream} {r} still behind is before told encoding l
     )
 
 -- there is none: the stream has ended
-pub next_none : {s t : Disk} {old new : Reader} {stream : Stream} (still : StillComes s old stream) → still.bytes ≡ [] → IsBefore t new.id new.ahead [] → IsTrue t.tells_held →
+pub next_none : {s t : Disk} {old new : Reader} {stream : Stream} (still : StillComes s old stream) → still.bytes ≡ []
+    → IsBefore t new.id new.ahead [] → IsTrue t.tells_held →
     IsNextOf t old new stream (Ok false)
 next_none {old = old} {new} {stream} still nothing before told =
     let none = AreRecords-none old.encoding still.bytes still.records stream.end nothing still.are in
@@ -40,7 +44,8 @@ next_none {old = old} {new} {stream} still nothing before told =
     (frames, none.1, record { told = told; bytes = []; before = before; records = []; are = rw none.1 (AreRecords-end new.encoding); frames = frames })
 
 -- it is refused
-pub next_refused : {s : Disk} {old : Reader} {stream : Stream} (t : Disk) (new : Reader) (still : StillComes s old stream) (damage : Damage) → IsDamaged old.encoding still.bytes damage →
+pub next_refused : {s : Disk} {old : Reader} {stream : Stream} (t : Disk) (new : Reader) (still : StillComes s old stream) (damage : Damage)
+    → IsDamaged old.encoding still.bytes damage →
     IsNextOf t old new stream (Err (fault_of damage (number_after old.count)))
 next_refused {old = old} {stream} t new still damage bad =
     let all = AreRecords-damaged old.encoding still.bytes damage still.records stream.end bad still.are in
@@ -61,10 +66,13 @@ time_early encoding seconds fraction early less =
     ] less
 
 -- a record was taken
-pub reads_record : {s t : Disk} {a b : Source} {encoding : Encoding} {frame : List ℕ} (latest count number now : ℕ) (last : Framed) (items : List ℕ) (h : coded_head.RecordHead) →
-    TakesRecord s t a b encoding frame number (Ok (Some h)) → number ≡ number_after count → now ≡ max latest (nanoseconds_of encoding (head_view h)) → items ≡ frame → latest < 2 ^ 32 * 1000000000 →
+pub reads_record : {s t : Disk} {a b : Source} {encoding : Encoding} {frame : List ℕ} (latest count number now : ℕ) (last : Framed) (items : List ℕ)
+    (h : coded_head.RecordHead) →
+    TakesRecord s t a b encoding frame number (Ok (Some h)) → number ≡ number_after count → now ≡ max latest (nanoseconds_of encoding (head_view h))
+    → items ≡ frame → latest < 2 ^ 32 * 1000000000 →
     length frame ≡ longest →
-    ReadsRecord s t (over a encoding latest count last) (over b encoding now number (record { time = now; original = h.original; bytes = take h.size items })) (Ok true)
+    ReadsRecord s t (over a encoding latest count last)
+    (over b encoding now number (record { time = now; original = h.original; bytes = take h.size items })) (Ok true)
 reads_record {s} {t} {a} {b} {encoding} {frame} latest count number now last items h takes counted time same early room =
     let good = takes.good in
     record {
@@ -79,7 +87,12 @@ reads_record {s} {t} {a} {b} {encoding} {frame} latest count number now last ite
           let first = takes.begins still.told still.bytes still.before in
           next_frame still first.0 first.1 first.2 (told_before takes.stays.keeps still.told) refl time (frame_is time same);
       frame = λ is. (
-        record { early = rw time (omega (arith, early, time_early encoding h.seconds h.fraction good.seconds good.fraction)); original = good.original; short = rw same (omega (arith, length-take-le h.size frame (omega (arith, good.size, room)), good.size)) },
+        record {
+          early = rw time (omega (arith, early, time_early encoding h.seconds h.fraction good.seconds good.fraction));
+          original =
+              good.original;
+          short = rw same (omega (arith, length-take-le h.size frame (omega (arith, good.size, room)), good.size));
+        },
         rw time (omega arith),
         refl,
         counted,
@@ -88,11 +101,13 @@ reads_record {s} {t} {a} {b} {encoding} {frame} latest count number now last ite
       fault = tt;
     }
   where
-    frame_is : {now time : ℕ} {items frame : List ℕ} → now ≡ time → items ≡ frame → framed now h.original (take h.size items) ≡ framed time h.original (take h.size frame)
+    frame_is : {now time : ℕ} {items frame : List ℕ} → now ≡ time → items ≡ frame → framed now h.original (take h.size items) ≡ framed time h.original
+        (take h.size frame)
     frame_is p q = cc
 
 -- there was none
-pub reads_none : {s t : Disk} {a b : Source} {encoding : Encoding} {frame : List ℕ} (latest count number : ℕ) (last next : Framed) → TakesRecord s t a b encoding frame number (Ok None) →
+pub reads_none : {s t : Disk} {a b : Source} {encoding : Encoding} {frame : List ℕ} (latest count number : ℕ) (last next : Framed)
+    → TakesRecord s t a b encoding frame number (Ok None) →
     ReadsRecord s t (over a encoding latest count last) (over b encoding latest count next) (Ok false)
 reads_none latest count number last next takes = record {
   cause = cause_ok false takes.cause.same;
@@ -112,7 +127,8 @@ reads_none latest count number last next takes = record {
 
 -- it is refused, or there was a fault at reading
 pub reads_refused : {s t : Disk} {a b : Source} {encoding : Encoding} {frame : List ℕ} (latest count number : ℕ) (last next : Framed) (fault : CaptureFault) →
-    TakesRecord s t a b encoding frame number (Err fault) → number ≡ number_after count → ReadsRecord s t (over a encoding latest count last) (over b encoding latest count next) (Err fault)
+    TakesRecord s t a b encoding frame number (Err fault) → number ≡ number_after count → ReadsRecord s t (over a encoding latest count last)
+    (over b encoding latest count next) (Err fault)
 reads_refused {s} {t} {a} {b} {encoding} {frame} latest count number last next fault takes counted = record {
   cause = cause_same fault takes.cause;
   keeps = takes.stays.keeps;

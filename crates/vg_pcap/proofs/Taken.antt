@@ -22,7 +22,8 @@ pub Gives-part : {t : Disk} {new : Source} {n : ℕ} {into bytes : List ℕ} →
 Gives-part {n = n} {into} size is = sym (take_all n into (omega arith)) ∙ is.next
 
 -- a head that was read stands before what follows it
-pub HasHead-behind : {encoding : Encoding} {h : RecordHead} (front bytes rest : List ℕ) → bytes ≡ front ++ rest → HasGoodHead encoding front h → HasHead encoding bytes h rest
+pub HasHead-behind : {encoding : Encoding} {h : RecordHead} (front bytes rest : List ℕ) → bytes ≡ front ++ rest → HasGoodHead encoding front h
+    → HasHead encoding bytes h rest
 HasHead-behind front bytes rest whole is = rw whole (HasHead-more rest is.head)
 
 -- the bytes end in a record's head
@@ -30,7 +31,8 @@ pub cut_head : (encoding : Encoding) (bytes : List ℕ) (n : ℕ) → n ≢ 0 �
 cut_head encoding bytes n some few all = inl (λ e. some (all ∙ ap (λ (xs : List ℕ). length xs) e), omega arith)
 
 -- the bytes end in a record's captured bytes
-pub cut_body : (encoding : Encoding) (h : RecordHead) (front bytes rest : List ℕ) (n : ℕ) → bytes ≡ front ++ rest → HasGoodHead encoding front h → n < h.size → n ≡ length rest →
+pub cut_body : (encoding : Encoding) (h : RecordHead) (front bytes rest : List ℕ) (n : ℕ) → bytes ≡ front ++ rest → HasGoodHead encoding front h
+    → n < h.size → n ≡ length rest →
     IsDamaged encoding bytes Cut
 cut_body encoding h front bytes rest n whole is few all = inr (h, rest, HasHead-behind front bytes rest whole is, is.fraction, is.size, omega arith)
 
@@ -38,7 +40,8 @@ abbrev head_with : ℕ → ℕ → ℕ → ℕ → RecordHead
 head_with a b c d = record { seconds = a; fraction = b; size = c; original = d }
 
 -- the numbers that the bytes begin with, and as many bytes behind them as they say, are a record
-pub HasRecord-of_head : {encoding : Encoding} {h : RecordHead} (bytes rest captured : List ℕ) → HasHead encoding bytes h rest → h.fraction < units_per_second encoding.resolution → h.size ≤ longest →
+pub HasRecord-of_head : {encoding : Encoding} {h : RecordHead} (bytes rest captured : List ℕ) → HasHead encoding bytes h rest
+    → h.fraction < units_per_second encoding.resolution → h.size ≤ longest →
     h.size ≤ length rest → captured ≡ take h.size rest →
     HasRecord encoding bytes (record { seconds = h.seconds; fraction = h.fraction; original = h.original; captured = captured }) (drop h.size rest)
 HasRecord-of_head {encoding} {h} bytes rest captured head less short enough same =
@@ -55,10 +58,12 @@ HasRecord-of_head {encoding} {h} bytes rest captured head less short enough same
     pieces p q = cc
 
 -- a whole record was taken
-pub HasRecord-taken : {encoding : Encoding} {h : RecordHead} (front bytes rest part more : List ℕ) → bytes ≡ front ++ rest → HasGoodHead encoding front h → length part ≡ h.size → part ≡ take h.size rest →
+pub HasRecord-taken : {encoding : Encoding} {h : RecordHead} (front bytes rest part more : List ℕ) → bytes ≡ front ++ rest
+    → HasGoodHead encoding front h → length part ≡ h.size → part ≡ take h.size rest →
     h.size ≤ length rest → HasRecord encoding bytes (record_of_head h (part ++ more)) (drop h.size rest)
 HasRecord-taken {encoding} {h} front bytes rest part more whole is size same enough =
-    HasRecord-of_head bytes rest (take h.size (part ++ more)) (HasHead-behind front bytes rest whole is) is.fraction is.size enough (take_at part more h.size size ∙ same)
+    HasRecord-of_head bytes rest (take h.size (part ++ more)) (HasHead-behind front bytes rest whole is) is.fraction is.size enough
+    (take_at part more h.size size ∙ same)
 
 -- ---- causes
 

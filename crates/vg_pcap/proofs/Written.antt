@@ -45,7 +45,8 @@ put_both time original frame here rest piece result split is first second =
     rw (← record_split time original frame here rest split, ← is) (WritesAll-then result first second)
 
 pub put_first : {s t : Disk} {id : ℕ} {e : Failed} (time original : ℕ) (frame here rest piece : List ℕ) → frame ≡ here ++ rest →
-    piece ≡ head_bytes written_encoding (written_head time original (length frame)) ++ here → WritesAll s t id piece (Err e) → WritesAll s t id (record_of (framed time original frame)) (Err e)
+    piece ≡ head_bytes written_encoding (written_head time original (length frame)) ++ here → WritesAll s t id piece (Err e)
+    → WritesAll s t id (record_of (framed time original frame)) (Err e)
 put_first time original frame here rest piece split is first =
     rw (← record_split time original frame here rest split, ← is) (WritesAll-stops rest first)
 
@@ -65,12 +66,14 @@ starts_writing {s} {m} {t} {name} {id} creates writes = record {
   };
   named = λ told. ap (λ (o : ℕ → _). o id) writes.keeps.ids.opened ∙ creates.named told;
   made = λ told. (writes.whole (rw creates.held.tells_made told) name (creates.named told)).grown [] (creates.empty told).empty;
-  others = λ told other apart. (writes.whole (rw creates.held.tells_made told) name (creates.named told)).others other apart ∙ (creates.empty told).others other apart;
+  others = λ told other apart. (writes.whole (rw creates.held.tells_made told) name (creates.named told)).others other apart
+      ∙ (creates.empty told).others other apart;
   closed = tt;
   begun = tt;
 }
 
-pub starts_failed : {s m t u : Disk} {name : List ℕ} {id : ℕ} {e f : Failed} (closed : Result (Unit {0}) Failed) → Creates s m name (Ok id) → WritesAll m t id header (Err e) → Closes t u id closed →
+pub starts_failed : {s m t u : Disk} {name : List ℕ} {id : ℕ} {e f : Failed} (closed : Result (Unit {0}) Failed) → Creates s m name (Ok id)
+    → WritesAll m t id header (Err e) → Closes t u id closed →
     StartsWriting s u name (Err f)
 starts_failed {s} {m} {t} {u} {name} {id} closed creates writes closes =
     let shut = closes.of_write (WriteKeeps-open Writes id writes.keeps creates.opens.now) in

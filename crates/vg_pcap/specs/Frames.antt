@@ -1,7 +1,8 @@
 -- The frames of a capture, and the capture that is written of frames.
 use Rattle.std.specs.Prelude.{ℕ, ◌≡◌, ◌<◌, ◌≤◌, ◌+◌, ◌*◌, ◌/◌, ◌%◌, ◌^◌, ◌++◌, max, List, [], ◌∷◌, length}
 use Rattle.std.specs.List.{flat_map}
-use Rattle.vg_pcap.specs.Captures.{Encoding, Little, Nanoseconds, number_bytes, nanoseconds_per_unit, Record, record_bytes, header_bytes, longest, CaptureEnd, HoldsRecords}
+use Rattle.vg_pcap.specs.Captures.{Encoding, Little, Nanoseconds, number_bytes, nanoseconds_per_unit, Record, record_bytes, header_bytes, longest}
+use Rattle.vg_pcap.specs.Captures.{CaptureEnd, HoldsRecords}
 
 -- a frame as contracts see it: when it came, in nanoseconds, how long it was before it was cut, and its bytes
 pub record Framed : Type 0 where

@@ -1,5 +1,6 @@
 -- What is seen of captures that are merged into one order of frames, and what the calls on them do.
-use Rattle.std.specs.Prelude.{ℕ, ◌+◌, ◌<◌, ◌≤◌, ◌≡◌, ◌≢◌, ◌⊎◌, List, [], ◌∷◌, ◌++◌, length, Bool, true, false, IsTrue, Some, Result, IfOk, IfErr, OnOk, OnErr, All, if◌then◌else◌, filter_map, slice_get}
+use Rattle.std.specs.Prelude.{ℕ, ◌+◌, ◌<◌, ◌≤◌, ◌≡◌, ◌≢◌, ◌⊎◌, List, [], ◌∷◌, ◌++◌, length, Bool, true, false, IsTrue, Some, Result, IfOk, IfErr}
+use Rattle.std.specs.Prelude.{OnOk, OnErr, All, if◌then◌else◌, filter_map, slice_get}
 use Rattle.vg_base.specs.Files.{Disk, Reads, Rose, Counts, ReadKeeps, SameIds}
 use Rattle.vg_base.specs.declared.faults.Failed.{Failed}
 use Rattle.vg_base.specs.Several.{DiffersBy, OpensThese}

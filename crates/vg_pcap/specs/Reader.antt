@@ -1,5 +1,6 @@
 -- What is seen of a reader of a capture, and what its calls do.
-use Rattle.std.specs.Prelude.{ℕ, ◌+◌, ◌-◌, ◌≤◌, ◌^◌, min, ◌≡◌, ◌≢◌, ◌⊎◌, List, [], ◌∷◌, ◌++◌, length, drop, codes, Bool, true, false, IsTrue, Option, Some, None, Result, Ok, Err, IfOk, IfErr, OnOk, OnErr, IsErrOf}
+use Rattle.std.specs.Prelude.{ℕ, ◌+◌, ◌-◌, ◌≤◌, ◌^◌, min, ◌≡◌, ◌≢◌, ◌⊎◌, List, [], ◌∷◌, ◌++◌, length, drop, codes, Bool, true, false, IsTrue, Option}
+use Rattle.std.specs.Prelude.{Some, None, Result, Ok, Err, IfOk, IfErr, OnOk, OnErr, IsErrOf}
 use Rattle.vg_base.specs.Files.{Disk, Reads, reading, IsOpen, Rose, Counts, ReadKeeps, SameIds, OpensOne, ClosesOne}
 use Rattle.vg_base.specs.declared.faults.Failed.{Failed}
 use Rattle.vg_pcap.specs.declared.faults.CaptureFault.{CaptureFault}

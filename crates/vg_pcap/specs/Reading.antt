@@ -13,7 +13,8 @@ use Rattle.vg_pcap.specs.declared.faults.CaptureFault.TheVariants as faults
 use Rattle.vg_pcap.specs.declared.faults.HeaderField.{HeaderField}
 use Rattle.vg_pcap.specs.declared.faults.Damage.{Damage}
 use Rattle.vg_pcap.specs.declared.faults.Damage.TheVariants.{Cut, Long, Fraction}
-use Rattle.vg_pcap.specs.Captures.{Order, Little, Big, Resolution, Microseconds, Nanoseconds, Encoding, HasHeader, IsBadHeader, RecordHead, HasHead, Record, IsGood, record_bytes, IsDamaged, units_per_second, nanoseconds_per_unit, longest}
+use Rattle.vg_pcap.specs.Captures.{Order, Little, Big, Resolution, Microseconds, Nanoseconds, Encoding, HasHeader, IsBadHeader, RecordHead, HasHead}
+use Rattle.vg_pcap.specs.Captures.{Record, IsGood, record_bytes, IsDamaged, units_per_second, nanoseconds_per_unit, longest}
 use Rattle.vg_pcap.specs.Incoming.{header_fault, fault_of}
 use Rattle.vg_pcap.specs.Reader.{IsBefore, HasReadCause}
 use Rattle.vg_pcap.specs.Buffered.{Source, Stays}
@@ -85,7 +86,8 @@ pub record IsGoodHead (encoding : Encoding) (h : coded_head.RecordHead) : Type 0
   pub original : h.original < 2 ^ 32
 
 -- the next record, of this number, was taken from the front, or there is none, or it is refused
-pub record TakesRecord (s t : Disk) (old new : Source) (encoding : Encoding) (frame : List ℕ) (number : ℕ) (result : Result (Option coded_head.RecordHead) CaptureFault) : Type 0 where
+pub record TakesRecord (s t : Disk) (old new : Source) (encoding : Encoding) (frame : List ℕ) (number : ℕ)
+    (result : Result (Option coded_head.RecordHead) CaptureFault) : Type 0 where
   pub cause : HasReadCause s t result
   pub stays : Stays s t old new
   pub good : IfOk result (λ found. IfSome found (IsGoodHead encoding))

@@ -1,5 +1,6 @@
 -- The objects at the start.
-use Rattle.std.proofs.Common.{◌≡◌, ℕ, zero, suc, ◌+◌, ◌-◌, ◌<◌, ◌≤◌, List, [], ◌∷◌, ◌++◌, length, drop, map, get_or, Option, Some, None, slice_get, refl, sym, ◌∙◌, ap, subst, arith, Bool, true, false, cond, inl, inr, append_assoc}
+use Rattle.std.proofs.Common.{◌≡◌, ℕ, zero, suc, ◌+◌, ◌-◌, ◌<◌, ◌≤◌, List, [], ◌∷◌, ◌++◌, length, drop, map, get_or, Option, Some, None, slice_get}
+use Rattle.std.proofs.Common.{refl, sym, ◌∙◌, ap, subst, arith, Bool, true, false, cond, inl, inr, append_assoc}
 use Rattle.std.specs.Prelude.{unwrap_or, nat_lt, All, replicate}
 use Rattle.std.specs.FinMap.{get}
 use Rattle.std.proofs.lemmas.Bool.{cases_lt}
@@ -26,7 +27,8 @@ use Rattle.vg_plain.proofs.ListPlaces.{some_is, none_some}
 use Rattle.vg_plain.proofs.Places.{cell_is, same_numbers}
 
 -- cells that were copied one by one
-pub copied_all : (count size i : ℕ) (made : List (List ℕ)) (table : CellTable) → AreWhole count size table → length made ≡ count → count ≤ i → ((j : ℕ) → j < i → slice_get made j ≡ get table j) → cell_table 0 made ≡ table
+pub copied_all : (count size i : ℕ) (made : List (List ℕ)) (table : CellTable) → AreWhole count size table → length made ≡ count → count ≤ i
+    → ((j : ℕ) → j < i → slice_get made j ≡ get table j) → cell_table 0 made ≡ table
 copied_all count size i made table whole counted end copied = same_numbers _ _ (λ q. cell_is made q ∙ elim (cases_lt q count) [
   | inl less ↦ copied q (omega arith)
   | inr past ↦ slice_get_past made q (omega arith) ∙ sym (go q (get table q) refl past)
@@ -37,8 +39,10 @@ copied_all count size i made table whole counted end copied = same_numbers _ _ (
     go q (Some bytes) is past = absurd (let below : q < count = whole.inside q bytes is in omega arith)
 
 -- an object at the start, by its place
-object_at : (shape : Declarations) (config : Configuration) (start place : ℕ) (declared : List declarations.Object) (one : declarations.Object) (object : Object) →
-    slice_get declared place ≡ Some one → slice_get (opening_objects shape config start declared) place ≡ Some object → object ≡ opening_object shape config (start + place) one.kind
+object_at : (shape : Declarations) (config : Configuration) (start place : ℕ) (declared : List declarations.Object) (one : declarations.Object)
+    (object : Object) →
+    slice_get declared place ≡ Some one → slice_get (opening_objects shape config start declared) place ≡ Some object
+    → object ≡ opening_object shape config (start + place) one.kind
 object_at shape config start place [] one object there found = absurd (none_some one there)
 object_at shape config start zero (first ∷ more) one object there found =
     let same : start ≡ start + 0 = omega arith in
@@ -50,7 +54,8 @@ object_at shape config start (suc place) (first ∷ more) one object there found
     object_at shape config (start + 1) place more one object there found
     ∙ ap (λ (n : ℕ). opening_object shape config n one.kind) same
 
-whole : (shape : Declarations) (config : Configuration) (number : ℕ) (kind : ObjectKind) → IsLawfulObject 0 true kind (opening_object shape config number kind) → IsObjectOf shape config.numbers kind (opening_object shape config number kind) →
+whole : (shape : Declarations) (config : Configuration) (number : ℕ) (kind : ObjectKind) → IsLawfulObject 0 true kind
+    (opening_object shape config number kind) → IsObjectOf shape config.numbers kind (opening_object shape config number kind) →
     Begins shape kind (opening_object shape config number kind)
 whole shape config number (kinds.Map key capacity) lawful shaped = refl
 whole shape config number kinds.Chain lawful shaped = tt
@@ -62,7 +67,8 @@ whole shape config number (kinds.Vector cell count) lawful shaped = record {
 }
 whole shape config number (kinds.Table low high) lawful shaped = refl
 
-pub begins : (spec : Specification) (config : Configuration) (place : ℕ) (one : declarations.Object) (object : Object) → StateOpensLawful → IsValid spec config →
+pub begins : (spec : Specification) (config : Configuration) (place : ℕ) (one : declarations.Object) (object : Object) → StateOpensLawful
+    → IsValid spec config →
     slice_get spec.shape.objects place ≡ Some one → slice_get (opening spec config).objects place ≡ Some object → Begins spec.shape one.kind object
 begins spec config place one object opens valid there found =
     let lawful : IsLawful spec config.numbers 0 (opening spec config) = opens spec config valid in
@@ -71,19 +77,23 @@ begins spec config place one object opens valid there found =
     (subst (λ (o : Object). IsLawfulObject 0 true one.kind o) is (lawful.each place one object there found))
     (subst (λ (o : Object). IsObjectOf spec.shape config.numbers one.kind o) is (lawful.shaped.each place one object there found)))
 
-pub as_many_open : (spec : Specification) (config : Configuration) → StateOpensLawful → IsValid spec config → length (opening spec config).objects ≡ length spec.shape.objects
+pub as_many_open : (spec : Specification) (config : Configuration) → StateOpensLawful → IsValid spec config
+    → length (opening spec config).objects ≡ length spec.shape.objects
 as_many_open spec config opens valid = (opens spec config valid).shaped.as_many
 
 dropped : (i : ℕ) (items : List Object) (item : Object) → i < length items → drop i items ≡ get_or items i item ∷ drop (i + 1) items
 dropped i [] item less = absurd (omega arith)
 dropped zero (x ∷ xs) item less = refl
-dropped (suc i) (x ∷ xs) item less = (let same : suc i + 1 ≡ suc (i + 1) = omega arith in dropped i xs item (omega arith) ∙ ap (λ (k : ℕ). get_or xs i item ∷ drop k (x ∷ xs)) (sym same))
+dropped (suc i) (x ∷ xs) item less = (let same : suc i + 1 ≡ suc (i + 1) = omega arith in dropped i xs item (omega arith)
+    ∙ ap (λ (k : ℕ). get_or xs i item ∷ drop k (x ∷ xs)) (sym same))
 
 -- one object more
-pub made_more : (kept : List PlainObject) (items : List Object) (i : ℕ) (made : PlainObject) (item : Object) → i < length items → item ≡ get_or items i item → object_of made ≡ item →
+pub made_more : (kept : List PlainObject) (items : List Object) (i : ℕ) (made : PlainObject) (item : Object) → i < length items
+    → item ≡ get_or items i item → object_of made ≡ item →
     map object_of kept ++ drop i items ≡ items → map object_of (kept ++ made ∷ []) ++ drop (i + 1) items ≡ items
 made_more kept items i made item less read is so_far =
-    ap (λ (os : List Object). os ++ drop (i + 1) items) (map-append object_of kept (made ∷ [])) ∙ append_assoc (map object_of kept) (object_of made ∷ []) (drop (i + 1) items)
+    ap (λ (os : List Object). os ++ drop (i + 1) items) (map-append object_of kept (made ∷ []))
+    ∙ append_assoc (map object_of kept) (object_of made ∷ []) (drop (i + 1) items)
     ∙ ap (λ (os : List Object). map object_of kept ++ os) (ap (λ (o : Object). o ∷ drop (i + 1) items) (is ∙ read) ∙ sym (dropped i items item less)) ∙ so_far
 
 -- no loan
@@ -109,7 +119,8 @@ hidden : (b : Bool) (x : Bool) → x ≡ false → cond b x false ≡ false
 hidden true x is = is
 hidden false x is = refl
 
-free_object : (kept : List PlainObject) (vector index : ℕ) (found : Option PlainObject) → ((object : PlainObject) → found ≡ Some object → NoneIsLent object) → lent_of_link (slice_get kept (vector - 2)) index ≡ false → lent_at kept vector index found ≡ false
+free_object : (kept : List PlainObject) (vector index : ℕ) (found : Option PlainObject) → ((object : PlainObject) → found ≡ Some object
+    → NoneIsLent object) → lent_of_link (slice_get kept (vector - 2)) index ≡ false → lent_at kept vector index found ≡ false
 free_object kept vector index None free link = refl
 free_object kept vector index (Some (Map other)) free link = refl
 free_object kept vector index (Some Chain) free link = refl
@@ -124,7 +135,8 @@ pub none_lent : (kept : List PlainObject) → All NoneIsLent kept → (vector in
 none_lent kept all vector index = free_object kept vector index (slice_get kept vector) (λ object there. at_all kept vector object all there)
     (free_link (slice_get kept (vector - 2)) index (λ object there. at_all kept (vector - 2) object all there))
 
-pub begins_at : (spec : Specification) (config : Configuration) (items : List Object) (place : ℕ) (default : declarations.Object) (object : Object) → StateOpensLawful → IsValid spec config → items ≡ (opening spec config).objects →
+pub begins_at : (spec : Specification) (config : Configuration) (items : List Object) (place : ℕ) (default : declarations.Object) (object : Object)
+    → StateOpensLawful → IsValid spec config → items ≡ (opening spec config).objects →
     place < length items → object ≡ get_or items place object → Begins spec.shape (get_or spec.shape.objects place default).kind object
 begins_at spec config items place default object opens valid items_are less read =
     let many = as_many_open spec config opens valid in

@@ -1,5 +1,6 @@
 -- What an expiry makes of a link's tables.
-use Rattle.std.proofs.Common.{◌≡◌, ℕ, zero, suc, ◌+◌, ◌<◌, List, [], ◌∷◌, length, map, Option, Some, None, slice_get, refl, sym, ◌∙◌, ap, arith, Bool, true, false, cond}
+use Rattle.std.proofs.Common.{◌≡◌, ℕ, zero, suc, ◌+◌, ◌<◌, List, [], ◌∷◌, length, map, Option, Some, None, slice_get, refl, sym, ◌∙◌, ap, arith, Bool}
+use Rattle.std.proofs.Common.{true, false, cond}
 use Rattle.std.specs.Prelude.{count_by, is_some, nat_lt, ◌&&◌, ◌||◌}
 use Rattle.std.specs.List.{list_any}
 use Rattle.std.specs.Option.{option_map}
@@ -23,7 +24,8 @@ use Rattle.vg_plain.proofs.LinkLaws.{used, used_step}
 use Rattle.vg_plain.proofs.Expiries.{Tied}
 
 -- counting
-early_list : (bound start : ℕ) (times : List (Option ℕ)) → count_by (λ entry. is_before bound (Some entry.1)) (time_list start times) ≡ count_by (is_early bound) times
+early_list : (bound start : ℕ) (times : List (Option ℕ)) → count_by (λ entry. is_before bound (Some entry.1)) (time_list start times) ≡ count_by
+    (is_early bound) times
 early_list bound start [] = refl
 early_list bound start (None ∷ times) =
     let rest = early_list bound (suc start) times in
@@ -31,18 +33,23 @@ early_list bound start (None ∷ times) =
     omega (arith, rest, step)
 early_list bound start (Some time ∷ times) =
     let rest = early_list bound (suc start) times in
-    let step : count_by (is_early bound) (Some time ∷ times) ≡ cond (nat_lt time bound) 1 0 + count_by (is_early bound) times = sum_by-cons (λ t. cond (is_early bound t) 1 0) (Some time) times in
+    let step : count_by (is_early bound) (Some time ∷ times) ≡ cond (nat_lt time bound) 1 0 + count_by (is_early bound) times =
+    sum_by-cons (λ t. cond (is_early bound t) 1 0) (Some time) times in
     let entry : ℕ × Option ℕ = (start, Some time) in
-    let more : count_by (λ e. is_before bound (Some e.1)) (entry ∷ time_list (suc start) times) ≡ cond (nat_lt time bound) 1 0 + count_by (λ e. is_before bound (Some e.1)) (time_list (suc start) times) =
+    let more : count_by (λ e. is_before bound (Some e.1)) (entry ∷ time_list (suc start) times) ≡ cond (nat_lt time bound) 1 0 + count_by
+    (λ e. is_before bound (Some e.1)) (time_list (suc start) times) =
     sum_by-cons (λ (e : ℕ × Option ℕ). cond (is_before bound (Some e.1)) 1 0) entry (time_list (suc start) times) in
     omega (arith, rest, step, more)
 
-pub early_entries : (bound : ℕ) (times : List (Option ℕ)) → count_by (is_early bound) times ≡ count_by (λ entry. is_before bound (Some entry.1)) (entries (time_table 0 times))
-early_entries bound times = sym (ap (λ es. count_by (λ (entry : ℕ × Option ℕ). is_before bound (Some entry.1)) es) (time_entries 0 times) ∙ early_list bound 0 times)
+pub early_entries : (bound : ℕ) (times : List (Option ℕ)) → count_by (is_early bound) times ≡ count_by (λ entry. is_before bound (Some entry.1))
+    (entries (time_table 0 times))
+early_entries bound times = sym (ap (λ es. count_by (λ (entry : ℕ × Option ℕ). is_before bound (Some entry.1)) es) (time_entries 0 times)
+    ∙ early_list bound 0 times)
 
 weigh : (bound : ℕ) (time : Option ℕ) → ◌≡◌ {A = ℕ} (cond (is_some (kept_time bound time)) 1 0 + cond (is_early bound time) 1 0) (cond (is_some time) 1 0)
 weigh bound None = refl
-weigh bound (Some time) = elim (nat_lt time bound) as (λ b. ◌≡◌ {A = ℕ} (cond (is_some (cond b None (Some time))) 1 0 + cond b 1 0) 1) [ true ↦ refl | false ↦ refl ]
+weigh bound (Some time) = elim (nat_lt time bound) as (λ b. ◌≡◌ {A = ℕ} (cond (is_some (cond b None (Some time))) 1 0 + cond b 1 0) 1)
+    [ true ↦ refl | false ↦ refl ]
 
 pub used_kept : (bound : ℕ) (times : List (Option ℕ)) → used (map (kept_time bound) times) + count_by (is_early bound) times ≡ used times
 used_kept bound [] = omega arith
@@ -50,7 +57,8 @@ used_kept bound (time ∷ times) =
     let rest = used_kept bound times in
     let was = used_step time times in
     let now = used_step (kept_time bound time) (map (kept_time bound) times) in
-    let early : count_by (is_early bound) (time ∷ times) ≡ cond (is_early bound time) 1 0 + count_by (is_early bound) times = sum_by-cons (λ t. cond (is_early bound t) 1 0) time times in
+    let early : count_by (is_early bound) (time ∷ times) ≡ cond (is_early bound time) 1 0 + count_by (is_early bound) times =
+    sum_by-cons (λ t. cond (is_early bound t) 1 0) time times in
     let one = weigh bound time in
     omega (arith, rest, was, now, early, one)
 
@@ -61,10 +69,13 @@ shown bound time = elim (nat_lt time bound) as (λ b. listed (Some (cond b None 
 is_time : (link : Link) (bound q time : ℕ) → nat_lt q link.capacity ≡ true → get link.times q ≡ Some (Some time) → expires true link bound q ≡ nat_lt time bound
 is_time link bound q time inside told = rw (inside, told) refl
 
-at_time : (link : Link) (bound q : ℕ) (times : List (Option ℕ)) (found : Option (Option ℕ)) → link.times ≡ time_table 0 times → link.capacity ≡ length times → slice_get times q ≡ found →
+at_time : (link : Link) (bound q : ℕ) (times : List (Option ℕ)) (found : Option (Option ℕ)) → link.times ≡ time_table 0 times
+    → link.capacity ≡ length times → slice_get times q ≡ found →
     listed (option_map (kept_time bound) found) ≡ cond (expires true link bound q) None (listed found)
-at_time link bound q times None same long there = elim (expires true link bound q) as (λ b. ◌≡◌ {A = Option (Option ℕ)} None (cond b None None)) [ true ↦ refl | false ↦ refl ]
-at_time link bound q times (Some None) same long there = elim (expires true link bound q) as (λ b. ◌≡◌ {A = Option (Option ℕ)} None (cond b None None)) [ true ↦ refl | false ↦ refl ]
+at_time link bound q times None same long there = elim (expires true link bound q) as (λ b. ◌≡◌ {A = Option (Option ℕ)} None (cond b None None))
+    [ true ↦ refl | false ↦ refl ]
+at_time link bound q times (Some None) same long there = elim (expires true link bound q) as
+    (λ b. ◌≡◌ {A = Option (Option ℕ)} None (cond b None None)) [ true ↦ refl | false ↦ refl ]
 at_time link bound q times (Some (Some time)) same long there =
     let inside : q < link.capacity = omega (arith, long, slice_get_within times q (Some time) there) in
     let told : get link.times q ≡ Some (Some time) = ap (λ t. get t q) same ∙ time_is times q ∙ ap listed there in
@@ -109,9 +120,16 @@ shift test start time times found = record {
   passes = (let same : start + suc found.index ≡ suc start + found.index = omega arith in ap (λ (k : ℕ). test (k, Some found.time)) same ∙ found.passes);
 }
 
-one_found : (test : (ℕ × Option ℕ) → Bool) (start time : ℕ) (times : List (Option ℕ)) → (list_any test (time_list (suc start) times) ≡ true → Found test (suc start) times) →
+one_found : (test : (ℕ × Option ℕ) → Bool) (start time : ℕ) (times : List (Option ℕ)) → (list_any test (time_list (suc start) times) ≡ true
+    → Found test (suc start) times) →
     (b : Bool) → test (start, Some time) ≡ b → (b || list_any test (time_list (suc start) times)) ≡ true → Found test start (Some time ∷ times)
-one_found test start time times rest true here any = record { index = zero; time = time; there = refl; passes = (let same : start + 0 ≡ start = omega arith in ap (λ (k : ℕ). test (k, Some time)) same ∙ here) }
+one_found test start time times rest true here any = record {
+  index = zero;
+  time = time;
+  there = refl;
+  passes =
+      (let same : start + 0 ≡ start = omega arith in ap (λ (k : ℕ). test (k, Some time)) same ∙ here);
+}
 one_found test start time times rest false here any = shift test start (Some time) times (rest any)
 
 any_found : (test : (ℕ × Option ℕ) → Bool) (start : ℕ) (times : List (Option ℕ)) → list_any test (time_list start times) ≡ true → Found test start times
@@ -119,17 +137,20 @@ any_found test start [] is = absurd (cc)
 any_found test start (None ∷ times) is = shift test start None times (any_found test (suc start) times is)
 any_found test start (Some time ∷ times) is = one_found test start time times (λ any. any_found test (suc start) times any) (test (start, Some time)) refl is
 
-any_there : (test : (ℕ × Option ℕ) → Bool) (start i time : ℕ) (times : List (Option ℕ)) → slice_get times i ≡ Some (Some time) → test (start + i, Some time) ≡ true → list_any test (time_list start times) ≡ true
+any_there : (test : (ℕ × Option ℕ) → Bool) (start i time : ℕ) (times : List (Option ℕ)) → slice_get times i ≡ Some (Some time)
+    → test (start + i, Some time) ≡ true → list_any test (time_list start times) ≡ true
 any_there test start i time [] there passes = absurd (none_some (Some time) there)
 any_there test start zero time (None ∷ times) there passes = absurd (none_some time (some_is None (Some time) there))
 any_there test start zero time (Some other ∷ times) there passes =
     let same : start ≡ start + 0 = omega arith in
-    either (test (start, Some other)) (list_any test (time_list (suc start) times)) (ap (λ (k : ℕ). test (k, Some other)) same ∙ ap (λ (t : Option ℕ). test (start + 0, t)) (some_is (Some other) (Some time) there) ∙ passes)
+    either (test (start, Some other)) (list_any test (time_list (suc start) times)) (ap (λ (k : ℕ). test (k, Some other)) same
+    ∙ ap (λ (t : Option ℕ). test (start + 0, t)) (some_is (Some other) (Some time) there) ∙ passes)
 any_there test start (suc i) time (None ∷ times) there passes =
     let same : suc start + i ≡ start + suc i = omega arith in any_there test (suc start) i time times there (ap (λ (k : ℕ). test (k, Some time)) same ∙ passes)
 any_there test start (suc i) time (Some other ∷ times) there passes =
     let same : suc start + i ≡ start + suc i = omega arith in
-    later (test (start, Some other)) (list_any test (time_list (suc start) times)) (any_there test (suc start) i time times there (ap (λ (k : ℕ). test (k, Some time)) same ∙ passes))
+    later (test (start, Some other)) (list_any test (time_list (suc start) times)) (any_there test (suc start) i time times there
+    (ap (λ (k : ℕ). test (k, Some time)) same ∙ passes))
 
 -- the test that picks a key
 abbrev picks : Link → ℕ → List ℕ → (ℕ × Option ℕ) → Bool
@@ -144,13 +165,15 @@ of_early bound None is = absurd (cc)
 of_early bound (Some None) is = absurd (cc)
 of_early bound (Some (Some time)) is = (time, refl, is)
 
-key_to : (link : Link) (bound : ℕ) (indices : List (Option ℕ)) (keys : List (List ℕ)) (times : List (Option ℕ)) (cells : List (List ℕ)) (key : List ℕ) → Tied indices keys times cells → link.cells ≡ cell_table 0 cells →
+key_to : (link : Link) (bound : ℕ) (indices : List (Option ℕ)) (keys : List (List ℕ)) (times : List (Option ℕ)) (cells : List (List ℕ)) (key : List ℕ)
+    → Tied indices keys times cells → link.cells ≡ cell_table 0 cells →
     Found (picks link bound key) 0 times → key_goes bound times cells key (joined (get (key_table indices keys) key)) ≡ true
 key_to link bound indices keys times cells key tied cells_are found =
     let zero_is : 0 + found.index ≡ found.index = omega arith in
     let pair = tied found.index found.time found.there in
     let passes = both (nat_lt found.time bound) (is_key_of (get link.cells (0 + found.index)) key) found.passes in
-    let cell_here : get link.cells (0 + found.index) ≡ Some pair.0 = ap (λ (k : ℕ). get link.cells k) zero_is ∙ ap (λ c. get c found.index) cells_are ∙ cell_is cells found.index ∙ pair.1 in
+    let cell_here : get link.cells (0 + found.index) ≡ Some pair.0 = ap (λ (k : ℕ). get link.cells k) zero_is ∙ ap (λ c. get c found.index) cells_are
+    ∙ cell_is cells found.index ∙ pair.1 in
     let key_is : pair.0 ≡ key = some_is pair.0 key (sym cell_here ∙ of_key (get link.cells (0 + found.index)) key passes.1) in
     let mapped : get (key_table indices keys) key ≡ Some (Some found.index) = ap (λ (k : List ℕ). get (key_table indices keys) k) (sym key_is) ∙ pair.2 in
     ap (λ f. key_goes bound times cells key (joined f)) mapped
@@ -165,13 +188,16 @@ key_from link bound times cells key (Some index) cells_are goes =
     let zero_is : 0 + index ≡ index = omega arith in
     let parts = both (is_early bound (joined (slice_get times index))) (is_key_of (slice_get cells index) key) goes in
     let early = of_early bound (slice_get times index) parts.0 in
-    let cell_here : get link.cells (0 + index) ≡ Some key = ap (λ (k : ℕ). get link.cells k) zero_is ∙ ap (λ c. get c index) cells_are ∙ cell_is cells index ∙ of_key (slice_get cells index) key parts.1 in
+    let cell_here : get link.cells (0 + index) ≡ Some key = ap (λ (k : ℕ). get link.cells k) zero_is ∙ ap (λ c. get c index) cells_are
+    ∙ cell_is cells index ∙ of_key (slice_get cells index) key parts.1 in
     any_there (picks link bound key) 0 index early.0 times early.1
     (ap (λ b. b && is_key_of (get link.cells (0 + index)) key) early.2 ∙ ap (λ c. is_key_of c key) cell_here ∙ bytes_same key)
 
-pub expired_keys_are : (link : Link) (bound : ℕ) (indices next : List (Option ℕ)) (keys : List (List ℕ)) (times : List (Option ℕ)) (cells : List (List ℕ)) → Tied indices keys times cells →
+pub expired_keys_are : (link : Link) (bound : ℕ) (indices next : List (Option ℕ)) (keys : List (List ℕ)) (times : List (Option ℕ))
+    (cells : List (List ℕ)) → Tied indices keys times cells →
     link.times ≡ time_table 0 times → link.cells ≡ cell_table 0 cells →
-    ((key : List ℕ) → get (key_table next keys) key ≡ cond (key_goes bound times cells key (joined (get (key_table indices keys) key))) None (get (key_table indices keys) key)) →
+    ((key : List ℕ) → get (key_table next keys) key ≡ cond (key_goes bound times cells key (joined (get (key_table indices keys) key))) None
+    (get (key_table indices keys) key)) →
     key_table next keys ≡ without true (key_expires link bound) (key_table indices keys)
 expired_keys_are link bound indices next keys times cells tied times_are cells_are now = same_keys _ _ (λ key. now key
     ∙ ap (λ b. cond b None (get (key_table indices keys) key)) (same_bool _ _
@@ -183,7 +209,8 @@ expired_keys_are link bound indices next keys times cells tied times_are cells_a
     listed_same key = ap (λ t. list_any (picks link bound key) (entries t)) times_are ∙ ap (λ es. list_any (picks link bound key) es) (time_entries 0 times)
 
 pub tied_lists : (indices : List (Option ℕ)) (keys : List (List ℕ)) (times : List (Option ℕ)) (cells : List (List ℕ)) →
-    ((index time : ℕ) → get (time_table 0 times) index ≡ Some (Some time) → (key : List ℕ) × (get (cell_table 0 cells) index ≡ Some key) × (get (key_table indices keys) key ≡ Some (Some index))) → Tied indices keys times cells
+    ((index time : ℕ) → get (time_table 0 times) index ≡ Some (Some time) → (key : List ℕ) × (get (cell_table 0 cells) index ≡ Some key)
+    × (get (key_table indices keys) key ≡ Some (Some index))) → Tied indices keys times cells
 tied_lists indices keys times cells keyed index time there =
     let pair = keyed index time (time_is times index ∙ ap listed there) in
     (pair.0, sym (cell_is cells index) ∙ pair.1, pair.2)

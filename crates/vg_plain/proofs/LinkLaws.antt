@@ -1,5 +1,6 @@
 -- What is counted of a link's lists.
-use Rattle.std.proofs.Common.{◌≡◌, ℕ, zero, suc, ◌+◌, ◌<◌, ◌≤◌, List, [], ◌∷◌, length, set, get_or, Option, Some, None, slice_get, refl, sym, ◌∙◌, ap, subst, arith, Bool, true, false, cond, inl, inr}
+use Rattle.std.proofs.Common.{◌≡◌, ℕ, zero, suc, ◌+◌, ◌<◌, ◌≤◌, List, [], ◌∷◌, length, set, get_or, Option, Some, None, slice_get, refl, sym, ◌∙◌, ap}
+use Rattle.std.proofs.Common.{subst, arith, Bool, true, false, cond, inl, inr}
 use Rattle.std.specs.Prelude.{count_by, is_some, IsSome, replicate}
 use Rattle.std.specs.Str.{bytes_eq}
 use Rattle.std.specs.Ordering.{nat_cmp}
@@ -20,9 +21,11 @@ used places = count_by (λ place. is_some place) places
 pub used_step : {X : Type 0} (place : Option X) (places : List (Option X)) → used (place ∷ places) ≡ cond (is_some place) 1 0 + used places
 used_step place places = sum_by-cons (λ one. cond (is_some one) 1 0) place places
 
-pub used_set : {X : Type 0} (places : List (Option X)) (i : ℕ) (was now : Option X) → slice_get places i ≡ Some was → used (set places i now) + cond (is_some was) 1 0 ≡ used places + cond (is_some now) 1 0
+pub used_set : {X : Type 0} (places : List (Option X)) (i : ℕ) (was now : Option X) → slice_get places i ≡ Some was
+    → used (set places i now) + cond (is_some was) 1 0 ≡ used places + cond (is_some now) 1 0
 used_set places i was now here =
-    let step : used (set places i now) + cond (is_some (get_or places i was)) 1 0 ≡ used places + cond (is_some now) 1 0 = sum_by-set (λ one. cond (is_some one) 1 0) places i now was (slice_get_within places i was here) in
+    let step : used (set places i now) + cond (is_some (get_or places i was)) 1 0 ≡ used places + cond (is_some now) 1 0 =
+    sum_by-set (λ one. cond (is_some one) 1 0) places i now was (slice_get_within places i was here) in
     ap (λ (p : Option _). used (set places i now) + cond (is_some p) 1 0) (sym (get_or_from_slice_get places i was was here)) ∙ step
 
 pub used_few : {X : Type 0} (places : List (Option X)) → used places ≤ length places
@@ -87,13 +90,15 @@ still true places = let step = used_step free_slot places in omega arith
 still false places = let step = used_step free_slot places in omega arith
 
 -- a key that is there has a slot, and to clear it frees one
-pub cleared_one : (indices : List (Option ℕ)) (keys : List (List ℕ)) (key : List ℕ) → IsSome (joined (get (key_table indices keys) key)) → suc (used (without_slots key indices keys)) ≤ used indices
+pub cleared_one : (indices : List (Option ℕ)) (keys : List (List ℕ)) (key : List ℕ) → IsSome (joined (get (key_table indices keys) key))
+    → suc (used (without_slots key indices keys)) ≤ used indices
 cleared_one [] keys key some = absurd (nothing (get-empty (slice_cmp nat_cmp) key) some)
 cleared_one (index ∷ indices) [] key some = absurd (nothing (get-empty (slice_cmp nat_cmp) key) some)
 cleared_one (None ∷ indices) (first ∷ keys) key some =
     let rest = cleared_one indices keys key some in
     let was = used_step free_slot indices in
-    let same : used (cond (bytes_eq key first) None None ∷ without_slots key indices keys) ≡ used (without_slots key indices keys) = still (bytes_eq key first) (without_slots key indices keys) in
+    let same : used (cond (bytes_eq key first) None None ∷ without_slots key indices keys) ≡ used (without_slots key indices keys) =
+    still (bytes_eq key first) (without_slots key indices keys) in
     omega arith
 cleared_one (Some index ∷ indices) (first ∷ keys) key some = elim (bytes_cases key first) [
   | inl same ↦ (let yes : bytes_eq key first ≡ true = ap (λ (k : List ℕ). bytes_eq key k) (sym same) ∙ bytes_same key in
@@ -103,7 +108,8 @@ cleared_one (Some index ∷ indices) (first ∷ keys) key some = elim (bytes_cas
   | inr ne ↦ (let now : used (cond (bytes_eq key first) None (Some index) ∷ without_slots key indices keys) ≡ 1 + used (without_slots key indices keys) =
       ap (λ b. used (cond b None (Some index) ∷ without_slots key indices keys)) ne ∙ used_step (Some index) (without_slots key indices keys) in
       let was = used_step (Some index) indices in
-      let rest = cleared_one indices keys key (subst (λ found. IsSome (joined found)) (put_at (key_table indices keys) first key (Some index) ∙ ap (λ b. cond b (Some (Some index)) (get (key_table indices keys) key)) ne) some) in omega arith)
+      let rest = cleared_one indices keys key (subst (λ found. IsSome (joined found)) (put_at (key_table indices keys) first key (Some index)
+      ∙ ap (λ b. cond b (Some (Some index)) (get (key_table indices keys) key)) ne) some) in omega arith)
 ]
 
 pub length_cleared : (indices : List (Option ℕ)) (keys : List (List ℕ)) (key : List ℕ) → length (without_slots key indices keys) ≡ length indices

@@ -1,10 +1,12 @@
 -- Lists as tables from numbers: times, and the bytes of cells.
-use Rattle.std.proofs.Common.{◌≡◌, ℕ, zero, suc, ◌+◌, ◌<◌, ◌≤◌, List, [], ◌∷◌, length, set, Option, Some, None, slice_get, refl, sym, ◌∙◌, ap, subst, arith, Bool, true, false, cond, inl, inr}
+use Rattle.std.proofs.Common.{◌≡◌, ℕ, zero, suc, ◌+◌, ◌<◌, ◌≤◌, List, [], ◌∷◌, length, set, Option, Some, None, slice_get, refl, sym, ◌∙◌, ap, subst}
+use Rattle.std.proofs.Common.{arith, Bool, true, false, cond, inl, inr}
 use Rattle.std.specs.Prelude.{◌==◌, nat_eq, nat_lt, replicate}
 use Rattle.std.specs.declared.cmp.Ordering.TheVariants.{Less}
 use Rattle.std.specs.Ordering.{nat_cmp}
 use Rattle.std.specs.Cmp.{nat_cmp_total, nat_cmp_is}
-use Rattle.std.specs.FinMap.{FinMap, get, insert, empty, entries, put, get-empty, get-insert, len-entries, len-empty, entries-insert, same_map, nat_cmp-IsAntisymmetric}
+use Rattle.std.specs.FinMap.{FinMap, get, insert, empty, entries, put, get-empty, get-insert, len-entries, len-empty, entries-insert, same_map}
+use Rattle.std.specs.FinMap.{nat_cmp-IsAntisymmetric}
 use Rattle.std.specs.FinMap.Entries.{by_order}
 use Rattle.std.proofs.lemmas.Bool.{cases_eq, cases_lt, eq-eqb, ne_eqb, lt-ltb, le-ltb}
 use Rattle.std.proofs.lemmas.List.{nil_from_length, length-replicate, get_or-replicate}
@@ -44,7 +46,8 @@ same_numbers one other same = same_map nat_cmp_total nat_cmp-IsAntisymmetric one
 
 cells_from : (start : ℕ) (cells : List (List ℕ)) (q : ℕ) → get (cell_table start cells) q ≡ numbered start cells q
 cells_from start [] q = get-empty nat_cmp q
-cells_from start (bytes ∷ cells) q = put_number (cell_table (suc start) cells) start q bytes ∙ ap (λ rest. cond (start == q) (Some bytes) rest) (cells_from (suc start) cells q)
+cells_from start (bytes ∷ cells) q = put_number (cell_table (suc start) cells) start q bytes
+    ∙ ap (λ rest. cond (start == q) (Some bytes) rest) (cells_from (suc start) cells q)
 
 pub cell_is : (cells : List (List ℕ)) (q : ℕ) → get (cell_table 0 cells) q ≡ slice_get cells q
 cell_is cells q = cells_from 0 cells q ∙ numbered_is 0 q q cells (omega arith)
@@ -65,7 +68,8 @@ times_from start (None ∷ times) q = elim (cases_eq start q) [
 ]
 times_from start (Some time ∷ times) q =
     put_number (time_table (suc start) times) start q (Some time) ∙ ap (λ rest. cond (start == q) (Some (Some time)) rest) (times_from (suc start) times q)
-    ∙ elim (start == q) as (λ b. cond b (Some (Some time)) (listed (numbered (suc start) times q)) ≡ listed (cond b (Some (Some time)) (numbered (suc start) times q))) [ true ↦ refl | false ↦ refl ]
+    ∙ elim (start == q) as (λ b. cond b (Some (Some time)) (listed (numbered (suc start) times q)) ≡ listed
+    (cond b (Some (Some time)) (numbered (suc start) times q))) [ true ↦ refl | false ↦ refl ]
 
 pub time_is : (times : List (Option ℕ)) (q : ℕ) → get (time_table 0 times) q ≡ listed (slice_get times q)
 time_is times q = times_from 0 times q ∙ ap listed (numbered_is 0 q q times (omega arith))
@@ -105,11 +109,13 @@ put_first : (k start : ℕ) (x : Option ℕ) (times : List (Option ℕ)) → k <
 put_first k start x [] less = refl
 put_first k start x (None ∷ times) less = put_first k (suc start) x times (omega arith)
 put_first k start x (Some time ∷ times) less =
-    ap (λ o. by_order o ((k, x) ∷ (start, Some time) ∷ time_list (suc start) times) ((start, x) ∷ time_list (suc start) times) ((start, Some time) ∷ put nat_cmp k x (time_list (suc start) times)))
+    ap (λ o. by_order o ((k, x) ∷ (start, Some time) ∷ time_list (suc start) times) ((start, x) ∷ time_list (suc start) times)
+    ((start, Some time) ∷ put nat_cmp k x (time_list (suc start) times)))
     (sym (nat_cmp_is k start Less less))
 
 pub time_entries : (start : ℕ) (times : List (Option ℕ)) → entries (time_table start times) ≡ time_list start times
-time_entries start [] = nil_from_length (entries (empty {X = Option ℕ} {R = nat_cmp})) (sym (len-entries (empty {X = Option ℕ} {R = nat_cmp})) ∙ len-empty nat_cmp (Option ℕ))
+time_entries start [] = nil_from_length (entries (empty {X = Option ℕ} {R = nat_cmp})) (sym (len-entries (empty {X = Option ℕ} {R = nat_cmp}))
+    ∙ len-empty nat_cmp (Option ℕ))
 time_entries start (None ∷ times) = time_entries (suc start) times
 time_entries start (Some time ∷ times) =
     entries-insert nat_cmp_total (time_table (suc start) times) start (Some time) ∙ ap (λ es. put nat_cmp start (Some time) es) (time_entries (suc start) times)
@@ -152,8 +158,10 @@ time_table_of times = time_table 0 times
 
 -- cells agree as a list where they do as a table
 pub record CellsAgreeAs : Type 0 where
-  pub to : (cells : List (List ℕ)) (other : CellTable) → ((index : ℕ) → BothTell (slice_get cells index) (get other index)) → (index : ℕ) → BothTell (get (cell_table 0 cells) index) (get other index)
-  pub from : (cells : List (List ℕ)) (other : CellTable) → ((index : ℕ) → BothTell (get (cell_table 0 cells) index) (get other index)) → (index : ℕ) → BothTell (slice_get cells index) (get other index)
+  pub to : (cells : List (List ℕ)) (other : CellTable) → ((index : ℕ) → BothTell (slice_get cells index) (get other index)) → (index : ℕ)
+      → BothTell (get (cell_table 0 cells) index) (get other index)
+  pub from : (cells : List (List ℕ)) (other : CellTable) → ((index : ℕ) → BothTell (get (cell_table 0 cells) index) (get other index)) → (index : ℕ)
+      → BothTell (slice_get cells index) (get other index)
 
 pub cells_agree_as : CellsAgreeAs
 cells_agree_as = record {

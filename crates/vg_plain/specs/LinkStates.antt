@@ -11,7 +11,8 @@ pub record LinkState : Type 0 where
   pub lent : List Bool
 
 abbrev pub link_state_code : Coded LinkState
-link_state_code = code_by (Link × List Bool) (coded× link_code (coded_list coded_bool)) (λ s. (s.link, s.lent)) (λ p. record { link = p.0; lent = p.1 }) (λ _. refl)
+link_state_code = code_by (Link × List Bool) (coded× link_code (coded_list coded_bool)) (λ s. (s.link, s.lent))
+    (λ p. record { link = p.0; lent = p.1 }) (λ _. refl)
 
 -- the link is this now, and as many cells are lent
 abbrev pub with_link : LinkState → Link → LinkState
@@ -23,7 +24,8 @@ with_lent s index is_lent = record s { lent = slice_set s.lent index is_lent }
 
 -- the cell of each allocated index is a key that is mapped to it
 abbrev pub IsKeyed : Link → Type 0
-IsKeyed link = (index time : ℕ) → get link.times index ≡ Some (Some time) → (key : List ℕ) × (get link.cells index ≡ Some key) × (get link.keys key ≡ Some (Some index))
+IsKeyed link = (index time : ℕ) → get link.times index ≡ Some (Some time) → (key : List ℕ) × (get link.cells index ≡ Some key)
+    × (get link.keys key ≡ Some (Some index))
 
 -- two tables of cells agree in what both tell
 abbrev pub CellsAgree : CellTable → CellTable → Type 0

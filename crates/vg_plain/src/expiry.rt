@@ -36,7 +36,8 @@ pub fn expire_places(
     ensures times { times.new.items ≡ map (kept_time before) times.old.items }
     ensures slots { vec_len indices.new ≡ vec_len indices.old }
     ensures keys { (key : List ℕ) → get (key_table indices.new.items keys.now.cells) key
-        ≡ (if key_goes before times.old.items cells.now.cells key (joined (get (key_table indices.old.items keys.now.cells) key)) then None else get (key_table indices.old.items keys.now.cells) key) }
+        ≡ (if key_goes before times.old.items cells.now.cells key (joined (get (key_table indices.old.items keys.now.cells) key)) then None
+        else get (key_table indices.old.items keys.now.cells) key) }
     ensures few { count_by (λ index. is_some index) indices.new.items + result ≤ count_by (λ index. is_some index) indices.old.items }
 {
     let mut freed = 0;

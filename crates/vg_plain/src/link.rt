@@ -1,5 +1,6 @@
 //! A link: its keys in slots, its times and its cells in places.
-ghost use Rattle.std.specs.Prelude.{◌≡◌, ◌≤◌, ◌<◌, ◌+◌, ◌≢◌, ◌↔◌, IsTrue, ◌∷◌, ◌++◌, [], ℕ, List, true, false, length, take, drop, replicate, slice_get, unwrap_or, is_some, Some, None, IfOk, IfSome, IfNone, IsSome};
+ghost use Rattle.std.specs.Prelude.{◌≡◌, ◌≤◌, ◌<◌, ◌+◌, ◌≢◌, ◌↔◌, IsTrue, ◌∷◌, ◌++◌, [], ℕ, List, true, false, length, take, drop, replicate};
+ghost use Rattle.std.specs.Prelude.{slice_get, unwrap_or, is_some, Some, None, IfOk, IfSome, IfNone, IsSome};
 ghost use Rattle.std.specs.FinMap.{get};
 ghost use Rattle.vg_abs.specs.Effects.{with_key, without_key, with_index, with_time, without_index, with_cell, expired};
 ghost use Rattle.vg_abs.specs.Agreement.{ChainsAgree, MapsAgree};

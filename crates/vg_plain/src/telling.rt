@@ -21,7 +21,8 @@ fn is_time_told(time: Option<u64>, listed: Option<Option<u64>>, full: bool) -> b
 
 /// Whether times agree with a table, which tells all where it is full.
 pub fn times_told(times: &[Option<u64>], table: &Numbered<Option<u64>>, full: bool) -> bool
-    ensures { IsTrue result ↔ ((index : ℕ) → index < length times.now → BothTell (Some (joined (slice_get times.now index))) (listed_or_none full (get table.now index))) }
+    ensures { IsTrue result ↔ ((index : ℕ) → index < length times.now → BothTell (Some (joined (slice_get times.now index)))
+        (listed_or_none full (get table.now index))) }
 {
     for i in 0..times.len() {
         if !is_time_told(times[i], table.get(i as u64).copied(), full) {
@@ -50,7 +51,8 @@ pub fn cells_told(cells: &Cells, count: u32, table: &Numbered<Bytes>) -> bool
 pub fn keys_told(indices: &[Option<u32>], keys: &Cells, table: &Keyed, full: bool) -> bool
     requires alike { length indices.now ≡ length keys.now.cells }
     requires few { length indices.now < 2 ^ 32 }
-    ensures { IsTrue result ↔ ((key : List ℕ) → BothTell (Some (joined (get (key_table indices.now keys.now.cells) key))) (listed_or_none full (get table.now key))) }
+    ensures { IsTrue result ↔ ((key : List ℕ) → BothTell (Some (joined (get (key_table indices.now keys.now.cells) key)))
+        (listed_or_none full (get table.now key))) }
 {
     if !are_listed(indices, keys, table) {
         return false;

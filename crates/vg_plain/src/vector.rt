@@ -1,5 +1,6 @@
 //! A vector of its own.
-ghost use Rattle.std.specs.Prelude.{◌≡◌, ◌≤◌, ◌<◌, ◌+◌, ◌^◌, ◌++◌, ◌↔◌, IsTrue, List, ℕ, true, false, length, take, drop, replicate, slice_get, unwrap_or, Some, IsSome, IfOk};
+ghost use Rattle.std.specs.Prelude.{◌≡◌, ◌≤◌, ◌<◌, ◌+◌, ◌^◌, ◌++◌, ◌↔◌, IsTrue, List, ℕ, true, false, length, take, drop, replicate, slice_get};
+ghost use Rattle.std.specs.Prelude.{unwrap_or, Some, IsSome, IfOk};
 ghost use Rattle.vg_vector.specs.Cells.{with_cell, with_loan};
 ghost use Rattle.vg_plain.specs.PlainTables.{cell_table};
 ghost use Rattle.vg_plain.specs.LinkStates.{CellsAgree};

@@ -31,7 +31,8 @@ use Rattle.vg_replay.specs.Writing.{HasCreatedAll, HasFailedAll}
 use Rattle.vg_replay.specs.Stepping.{stop_of, HasStopped}
 
 -- there is room for the outputs
-pub room_left : {s t : Disk} {names : List (List ℕ)} {inputs : List Input} (ins outs most : ℕ) → StartsMerge s t names (Ok inputs) → length names ≡ ins → s.open_count + ins + outs + 1 ≤ most → t.open_count + outs + 1 ≤ most
+pub room_left : {s t : Disk} {names : List (List ℕ)} {inputs : List Input} (ins outs most : ℕ) → StartsMerge s t names (Ok inputs)
+    → length names ≡ ins → s.open_count + ins + outs + 1 ≤ most → t.open_count + outs + 1 ≤ most
 room_left {inputs = inputs} ins outs most x long room = omega (arith, x.opens.0.count, x.ports, long, room, few_ids inputs)
 
 -- nothing has come so far
@@ -39,7 +40,8 @@ nothing_yet : {s t : Disk} {ins : List (List ℕ)} {inputs : List Input} → Sta
 nothing_yet x told = let come = x.comes told in (come.0, come.0, come.1, none_come come.0, (λ port damage at. tt), omega arith)
 
 -- every output was created, and holds what it should of no frames
-pub begun : {s t u : Disk} {n : ReplayFiles} {inputs : List Input} {ids : List ℕ} {log_id : ℕ} (totals : Totals) → AreReplayFiles n → length n.outs ≤ 63 → StartsMerge s t n.ins (Ok inputs)
+pub begun : {s t u : Disk} {n : ReplayFiles} {inputs : List Input} {ids : List ℕ} {log_id : ℕ} (totals : Totals) → AreReplayFiles n
+    → length n.outs ≤ 63 → StartsMerge s t n.ins (Ok inputs)
     → HasCreatedAll t u n.outs n.log ids log_id → IsRead s u n (record { inputs = inputs; outs = ids; log = log_id; totals = totals }) []
 begun {s} {t} {u} {n} {inputs} {ids} {log_id} totals names few x y = record {
   sound = record { names = names; inputs = x.ports; outs = y.ports; few = omega (arith, few, y.ports) };
@@ -66,29 +68,38 @@ begun {s} {t} {u} {n} {inputs} {ids} {log_id} totals names few x y = record {
 }
 
 -- what is to come is still to come
-still_to_come : {s t u : Disk} {n : ReplayFiles} {inputs : List Input} {ids : List ℕ} {log_id : ℕ} → StartsMerge s t n.ins (Ok inputs) → HasCreatedAll t u n.outs n.log ids log_id → IsTrue s.tells_held →
+still_to_come : {s t u : Disk} {n : ReplayFiles} {inputs : List Input} {ids : List ℕ} {log_id : ℕ} → StartsMerge s t n.ins (Ok inputs)
+    → HasCreatedAll t u n.outs n.log ids log_id → IsTrue s.tells_held →
     (streams : List Stream) × AllComeIn s n.ins streams × AreToCome u inputs streams
 still_to_come {inputs = inputs} x y told =
     let come = x.comes told in
     (come.0, come.1, AreToCome-stays (SameReading-differs inputs x.readable y.held y.opens) come.2)
 
 -- each first record was read
-pub filled : {s t u v : Disk} {n : ReplayFiles} {inputs new : List Input} {ids : List ℕ} {log_id : ℕ} (totals : Totals) → AreReplayFiles n → length n.outs ≤ 63 → StartsMerge s t n.ins (Ok inputs)
-    → HasCreatedAll t u n.outs n.log ids log_id → Fills u v inputs new (Ok tt) → totals ≡ totals_of [] → Going s v n (record { inputs = new; outs = ids; log = log_id; totals = totals }) []
+pub filled : {s t u v : Disk} {n : ReplayFiles} {inputs new : List Input} {ids : List ℕ} {log_id : ℕ} (totals : Totals) → AreReplayFiles n
+    → length n.outs ≤ 63 → StartsMerge s t n.ins (Ok inputs)
+    → HasCreatedAll t u n.outs n.log ids log_id → Fills u v inputs new (Ok tt) → totals ≡ totals_of []
+    → Going s v n (record { inputs = new; outs = ids; log = log_id; totals = totals }) []
 filled totals names few x y fills counts =
     read_goes (begun totals names few x y) fills.reads counts (λ told. let come = still_to_come x y told in (come.0, come.1, fills.comes come.0 come.2))
 
 -- a first record is refused
-pub fill_refused : {S : Type 0} {I : List Handled → Type 0} {A : List Handled → Arrival → S → Type 0} {s t u v : Disk} {n : ReplayFiles} {inputs new : List Input} {ids : List ℕ} {log_id : ℕ} {e : MergeFault} (totals : Totals) → I [] → AreReplayFiles n → length n.outs ≤ 63 → StartsMerge s t n.ins (Ok inputs)
-    → HasCreatedAll t u n.outs n.log ids log_id → Fills u v inputs new (Err e) → HasStopped s v n (record { inputs = new; outs = ids; log = log_id; totals = totals }) I A (stop_of e)
+pub fill_refused : {S : Type 0} {I : List Handled → Type 0} {A : List Handled → Arrival → S → Type 0} {s t u v : Disk} {n : ReplayFiles}
+    {inputs new : List Input} {ids : List ℕ} {log_id : ℕ} {e : MergeFault} (totals : Totals) → I [] → AreReplayFiles n → length n.outs ≤ 63
+    → StartsMerge s t n.ins (Ok inputs)
+    → HasCreatedAll t u n.outs n.log ids log_id → Fills u v inputs new (Err e) → HasStopped s v n
+    (record { inputs = new; outs = ids; log = log_id; totals = totals }) I A (stop_of e)
 fill_refused totals history names few x y fills =
-    read_stops totals history (begun totals names few x y) fills.reads fills.fault (λ told. let come = still_to_come x y told in (come.0, come.1, fills.refused come.0 come.2))
+    read_stops totals history (begun totals names few x y) fills.reads fills.fault (λ told. let come = still_to_come x y told in
+    (come.0, come.1, fills.refused come.0 come.2))
 
 part_back : (s t u v : Disk) (name whole : List ℕ) → t.made ≡ s.made → v.made ≡ u.made → IsPart t u name whole → IsPart s v name whole
 part_back s t u v name whole before after part = rw (← before, after) part
 
 -- the outputs couldn't be created
-pub uncreated : {S : Type 0} {I : List Handled → Type 0} {A : List Handled → Arrival → S → Type 0} {s t u v : Disk} {n : ReplayFiles} {inputs : List Input} (q : Result (Unit {0}) Failed) → I [] → AreReplayFiles n → StartsMerge s t n.ins (Ok inputs) → HasFailedAll t u n.outs n.log → ClosesInputs u v inputs q
+pub uncreated : {S : Type 0} {I : List Handled → Type 0} {A : List Handled → Arrival → S → Type 0} {s t u v : Disk} {n : ReplayFiles}
+    {inputs : List Input} (q : Result (Unit {0}) Failed) → I [] → AreReplayFiles n → StartsMerge s t n.ins (Ok inputs) → HasFailedAll t u n.outs n.log
+    → ClosesInputs u v inputs q
     → Replays s v n I A (Err stops.Write)
 uncreated {s = s} {t = t} {u = u} {v = v} {n = n} {inputs = inputs} q history names x y z =
     let made : (name : List ℕ) → t.made name ≡ s.made name = λ name. ap (λ (made : List ℕ → Option (List ℕ)). made name) x.keeps.made in
@@ -114,7 +125,8 @@ uncreated {s = s} {t = t} {u = u} {v = v} {n = n} {inputs = inputs} q history na
           wrote = λ told.
               let later : IsTrue t.tells_made = rw x.keeps.held.tells_made told in
               record {
-                outs = λ port name at. rw (capture_to-none port) (part_back s t u v name header x.keeps.made z.keeps.made (y.parts later names.apart port name at));
+                outs = λ port name at. rw (capture_to-none port) (part_back s t u v name header x.keeps.made z.keeps.made
+                    (y.parts later names.apart port name at));
                 log = inl (after n.log ∙ y.log_made later (log_is_none names) ∙ made n.log);
                 handled = [];
                 begun = [];
@@ -128,14 +140,20 @@ uncreated {s = s} {t = t} {u = u} {v = v} {n = n} {inputs = inputs} q history na
     }
 
 -- one that wasn't begun has handled nothing
-pub not_begun : {H S : Type 0} (Handles : H → Handled → H → Type 0) (Stops : H → Arrival → S → Type 0) (s t : Disk) (n : ReplayFiles) (handler : H) (stop : RunStop S) (result : Result Totals (RunStop S))
-    → IsErrAnd result (λ e. e ≡ stop) → Replays s t n (λ handled. handled ≡ []) (λ handled a reason. ⊥) (Err stop) → ReplaysThrough Handles Stops s t n handler result
+pub not_begun : {H S : Type 0} (Handles : H → Handled → H → Type 0) (Stops : H → Arrival → S → Type 0) (s t : Disk) (n : ReplayFiles) (handler : H)
+    (stop : RunStop S) (result : Result Totals (RunStop S))
+    → IsErrAnd result (λ e. e ≡ stop) → Replays s t n (λ handled. handled ≡ []) (λ handled a reason. ⊥) (Err stop)
+    → ReplaysThrough Handles Stops s t n handler result
 not_begun Handles Stops s t n handler stop (Ok totals) is x = absurd is
 not_begun Handles Stops s t n handler stop (Err e) is x =
-    rw is (Replays-map (λ handled e. subst (λ (l : List Handled). HandledFrom Handles handler l) (sym e) (handler, refl)) (λ handled a reason no. absurd no) s t n (Err stop) x)
+    rw is (Replays-map (λ handled e. subst (λ (l : List Handled). HandledFrom Handles handler l) (sym e) (handler, refl))
+    (λ handled a reason no. absurd no) s t n (Err stop) x)
 
 -- a replay that was begun went on
-pub went_on : {H S : Type 0} (Handles : H → Handled → H → Type 0) (Stops : H → Arrival → S → Type 0) (s t : Disk) (n : ReplayFiles) (r : ReplayOf H) {handler : H} (result : Result Totals (RunStop S)) → r.handler ≡ handler
+pub went_on : {H S : Type 0} (Handles : H → Handled → H → Type 0) (Stops : H → Arrival → S → Type 0) (s t : Disk) (n : ReplayFiles) (r : ReplayOf H)
+    {handler : H} (result : Result Totals (RunStop S)) → r.handler ≡ handler
     → GoesOn Handles Stops s t n r [] result → ReplaysThrough Handles Stops s t n handler result
-went_on Handles Stops s t n r (Ok totals) is x = rw (← is) (Replays-map (after_start Handles Stops r.handler) (stops_start Handles Stops r.handler) s t n (Ok totals) x)
-went_on Handles Stops s t n r (Err stop) is x = rw (← is) (Replays-map (after_start Handles Stops r.handler) (stops_start Handles Stops r.handler) s t n (Err stop) x.1)
+went_on Handles Stops s t n r (Ok totals) is x =
+    rw (← is) (Replays-map (after_start Handles Stops r.handler) (stops_start Handles Stops r.handler) s t n (Ok totals) x)
+went_on Handles Stops s t n r (Err stop) is x =
+    rw (← is) (Replays-map (after_start Handles Stops r.handler) (stops_start Handles Stops r.handler) s t n (Err stop) x.1)

@@ -3,7 +3,8 @@ use Rattle.std.proofs.lemmas.Bool.{cases_lt}
 use Rattle.std.proofs.lemmas.Bool.Decides.{eqb_tells}
 use Rattle.std.proofs.lemmas.Option.{slice_get_within}
 use Rattle.std.proofs.lemmas.List.Elements.{All-head, All-tail}
-use Rattle.std.proofs.Common.{◌≡◌, ◌≢◌, ◌∙◌, ℕ, List, [], ◌∷◌, ◌++◌, length, take, drop, slice_get, IsTrue, Option, Some, None, Result, Ok, Err, inl, inr, refl, sym, ap, append-nil, append_assoc, take-append-drop, length-append, arith}
+use Rattle.std.proofs.Common.{◌≡◌, ◌≢◌, ◌∙◌, ℕ, List, [], ◌∷◌, ◌++◌, length, take, drop, slice_get, IsTrue, Option, Some, None, Result, Ok, Err, inl}
+use Rattle.std.proofs.Common.{inr, refl, sym, ap, append-nil, append_assoc, take-append-drop, length-append, arith}
 use Rattle.vg_base.proofs.Disks.{SameHeld-refl, SameHeld-trans}
 use Rattle.vg_base.specs.declared.faults.Failed.{Failed}
 use Rattle.vg_base.specs.Files.{Disk, Writes, IsOpen, writing, Creates, Closes, OpensOne}
@@ -37,7 +38,8 @@ HasCreated-none s names = record {
   others = λ told name none. refl;
 }
 
-named_next : (t u : Disk) (names : List (List ℕ)) (ids : List ℕ) (this : List ℕ) (new : ℕ) → AreNamed t ids names → slice_get names (length ids) ≡ Some this → OpensOne t u Writes new
+named_next : (t u : Disk) (names : List (List ℕ)) (ids : List ℕ) (this : List ℕ) (new : ℕ) → AreNamed t ids names
+    → slice_get names (length ids) ≡ Some this → OpensOne t u Writes new
     → u.opened new ≡ writing this → AreNamed u (ids ++ new ∷ []) names
 named_next t u names ids this new named at_this opens is port id name at_id at_name = elim (eqb_tells port (length ids)) [
   | inl same ↦
@@ -51,7 +53,8 @@ named_next t u names ids this new named at_this opens is port id name at_id at_n
       opens.others id (other_id t id new name was opens.was) ∙ was
 ]
 
-pub HasCreated-next : {s t u : Disk} {names : List (List ℕ)} {ids : List ℕ} {new : ℕ} (this : List ℕ) → HasCreated s t names ids → slice_get names (length ids) ≡ Some this
+pub HasCreated-next : {s t u : Disk} {names : List (List ℕ)} {ids : List ℕ} {new : ℕ} (this : List ℕ) → HasCreated s t names ids
+    → slice_get names (length ids) ≡ Some this
     → StartsWriting t u this (Ok new) → HasCreated s u names (ids ++ new ∷ [])
 HasCreated-next {s} {t} {u} {names} {ids} {new} this x at_this y = record {
   few = let within = slice_get_within names (length ids) this at_this in omega (arith, within, length-append ids (new ∷ []));
@@ -72,7 +75,8 @@ HasCreated-next {s} {t} {u} {names} {ids} {new} this x at_this y = record {
       let other : port ≢ length ids = λ e. omega (arith, below, e, length-append ids (new ∷ [])) in
       y.others (rw x.held.tells_made told) name (differ_at names port (length ids) name this apart at at_this other)
       ∙ x.rest told apart port name (omega (arith, below, length-append ids (new ∷ []))) at;
-  others = λ told name none. y.others (rw x.held.tells_made told) name (All-at (λ other. name ≢ other) names (length ids) this none at_this) ∙ x.others told name none;
+  others = λ told name none. y.others (rw x.held.tells_made told) name (All-at (λ other. name ≢ other) names (length ids) this none at_this)
+      ∙ x.others told name none;
 }
 
 -- first bytes of a file that was begun
@@ -83,7 +87,8 @@ begun_part s t u name whole (inr some) was = inr (take some.0 whole, drop some.0
 whole_part : (s u : Disk) (name whole : List ℕ) → u.made name ≡ Some whole → IsPart s u name whole
 whole_part s u name whole is = inr (whole, [], is, sym (append-nil whole))
 
-pub HasCreated-fails : {s t u : Disk} {names : List (List ℕ)} {ids : List ℕ} (this : List ℕ) {e : Failed} → HasCreated s t names ids → slice_get names (length ids) ≡ Some this
+pub HasCreated-fails : {s t u : Disk} {names : List (List ℕ)} {ids : List ℕ} (this : List ℕ) {e : Failed} → HasCreated s t names ids
+    → slice_get names (length ids) ≡ Some this
     → StartsWriting t u this (Err e) → HasFailed s u names ids
 HasCreated-fails {s} {t} {u} {names} {ids} this x at_this y = record {
   rose = rw x.no_fault.write_faults at y.faults.failed;
@@ -108,7 +113,8 @@ HasCreated-fails {s} {t} {u} {names} {ids} this x at_this y = record {
               | inr above ↦ inl (kept ∙ x.rest told apart port name above at)
             ]
       ];
-  others = λ told name none. y.others (rw x.held.tells_made told) name (All-at (λ other. name ≢ other) names (length ids) this none at_this) ∙ x.others told name none;
+  others = λ told name none. y.others (rw x.held.tells_made told) name (All-at (λ other. name ≢ other) names (length ids) this none at_this)
+      ∙ x.others told name none;
 }
 
 -- ---- the log
@@ -118,7 +124,8 @@ named_stays t u names ids new named opens port id name at_id at_name =
     let was = named port id name at_id at_name in
     opens.others id (other_id t id new name was opens.was) ∙ was
 
-pub created_all : {s t u : Disk} {outs : List (List ℕ)} {log : List ℕ} {ids : List ℕ} {log_id : ℕ} → HasCreated s t outs ids → length ids ≡ length outs → Creates t u log (Ok log_id)
+pub created_all : {s t u : Disk} {outs : List (List ℕ)} {log : List ℕ} {ids : List ℕ} {log_id : ℕ} → HasCreated s t outs ids
+    → length ids ≡ length outs → Creates t u log (Ok log_id)
     → HasCreatedAll s u outs log ids log_id
 created_all {s} {t} {u} {outs} {log} {ids} {log_id} x all y = record {
   ports = all;
@@ -133,11 +140,13 @@ created_all {s} {t} {u} {outs} {log} {ids} {log_id} x all y = record {
       (y.empty (rw x.held.tells_made told)).others name (λ same. All-at (λ other. log ≢ other) outs port name none at (sym same))
       ∙ x.made told apart port name (omega (arith, within, all)) at;
   log_made = λ told. (y.empty (rw x.held.tells_made told)).empty;
-  others = λ told name none. (y.empty (rw x.held.tells_made told)).others name (All-head (λ other. name ≢ other) log outs none) ∙ x.others told name (All-tail (λ other. name ≢ other) log outs none);
+  others = λ told name none. (y.empty (rw x.held.tells_made told)).others name (All-head (λ other. name ≢ other) log outs none)
+      ∙ x.others told name (All-tail (λ other. name ≢ other) log outs none);
 }
 
 -- the log couldn't be created
-pub created_fails : {s t u : Disk} {outs : List (List ℕ)} {log : List ℕ} {ids : List ℕ} {e : Failed} → HasCreated s t outs ids → length ids ≡ length outs → Creates t u log (Err e) → HasFailed s u outs ids
+pub created_fails : {s t u : Disk} {outs : List (List ℕ)} {log : List ℕ} {ids : List ℕ} {e : Failed} → HasCreated s t outs ids
+    → length ids ≡ length outs → Creates t u log (Err e) → HasFailed s u outs ids
 created_fails {s} {t} {u} {outs} {log} {ids} x all y = record {
   rose = rw x.no_fault.write_faults at y.faults.failed;
   read_faults = y.read_faults ∙ x.no_fault.read_faults;
@@ -159,7 +168,8 @@ part_same s t u name whole same (inl kept) = inl (same ∙ kept)
 part_same s t u name whole same (inr part) = inr (part.0, part.1, same ∙ part.2, part.3)
 
 -- what was created before was closed again
-pub failed_all : {s t u : Disk} {outs : List (List ℕ)} {ids : List ℕ} (log : List ℕ) (q : Result (Unit {0}) Failed) → HasFailed s t outs ids → ClosesWritten t u ids q → HasFailedAll s u outs log
+pub failed_all : {s t u : Disk} {outs : List (List ℕ)} {ids : List ℕ} (log : List ℕ) (q : Result (Unit {0}) Failed) → HasFailed s t outs ids
+    → ClosesWritten t u ids q → HasFailedAll s u outs log
 failed_all {s} {t} {u} {outs} {ids} log q x y =
     let same : (name : List ℕ) → u.made name ≡ t.made name = λ name. ap (λ (made : List ℕ → Option (List ℕ)). made name) y.made in
     record {
@@ -175,29 +185,53 @@ failed_all {s} {t} {u} {outs} {ids} log q x y =
 -- ---- closing
 
 pub ClosesWritten-none : (s : Disk) → ClosesWritten s s [] (Ok tt)
-ClosesWritten-none s = record { faults = record { failed = tt; same = refl; rises = omega arith }; read_faults = refl; held = SameHeld-refl s; made = refl; closes = DiffersBy-none s }
+ClosesWritten-none s = record {
+  faults = record { failed = tt; same = refl; rises = omega arith };
+  read_faults = refl;
+  held = SameHeld-refl s;
+  made =
+      refl;
+  closes = DiffersBy-none s;
+}
 
-pub ClosesWritten-next : {s t u : Disk} {ids : List ℕ} {id : ℕ} (r : Result (Unit {0}) Failed) → ClosesWritten s t ids r → IsOpen Writes (t.opened id) → Closes t u id (Ok tt)
+pub ClosesWritten-next : {s t u : Disk} {ids : List ℕ} {id : ℕ} (r : Result (Unit {0}) Failed) → ClosesWritten s t ids r → IsOpen Writes (t.opened id)
+    → Closes t u id (Ok tt)
     → ClosesWritten s u (id ∷ ids) r
 ClosesWritten-next {s} {t} {u} {ids} {id} (Ok done) x open_for y = record {
-  faults = record { failed = tt; same = (y.of_write open_for).0.same ∙ x.faults.same; rises = let more = (y.of_write open_for).0.rises in omega (arith, x.faults.rises, more) };
+  faults = record {
+    failed = tt;
+    same = (y.of_write open_for).0.same ∙ x.faults.same;
+    rises = let more = (y.of_write open_for).0.rises in
+        omega (arith, x.faults.rises, more);
+  };
   read_faults = y.read_faults ∙ x.read_faults;
   held = SameHeld-trans x.held y.held;
   made = y.made ∙ x.made;
   closes = DiffersBy-append (id ∷ []) ids (closes_one y.closes) x.closes;
 }
 ClosesWritten-next {s} {t} {u} {ids} {id} (Err e) x open_for y = record {
-  faults = record { failed = let more = (y.of_write open_for).0.rises in let rose = x.faults.failed in omega (arith, rose, more); same = tt; rises = let more = (y.of_write open_for).0.rises in omega (arith, x.faults.rises, more) };
+  faults = record {
+    failed = let more = (y.of_write open_for).0.rises in let rose = x.faults.failed in omega (arith, rose, more);
+    same = tt;
+    rises =
+        let more = (y.of_write open_for).0.rises in omega (arith, x.faults.rises, more);
+  };
   read_faults = y.read_faults ∙ x.read_faults;
   held = SameHeld-trans x.held y.held;
   made = y.made ∙ x.made;
   closes = DiffersBy-append (id ∷ []) ids (closes_one y.closes) x.closes;
 }
 
-pub ClosesWritten-fails : {s t u : Disk} {ids : List ℕ} {id : ℕ} {e : Failed} (r : Result (Unit {0}) Failed) (f : Failed) → ClosesWritten s t ids r → IsOpen Writes (t.opened id) → Closes t u id (Err e)
+pub ClosesWritten-fails : {s t u : Disk} {ids : List ℕ} {id : ℕ} {e : Failed} (r : Result (Unit {0}) Failed) (f : Failed) → ClosesWritten s t ids r
+    → IsOpen Writes (t.opened id) → Closes t u id (Err e)
     → ClosesWritten s u (id ∷ ids) (Err f)
 ClosesWritten-fails {s} {t} {u} {ids} {id} r f x open_for y = record {
-  faults = record { failed = let rose = (y.of_write open_for).0.failed in omega (arith, rose, x.faults.rises); same = tt; rises = let more = (y.of_write open_for).0.rises in omega (arith, x.faults.rises, more) };
+  faults = record {
+    failed = let rose = (y.of_write open_for).0.failed in omega (arith, rose, x.faults.rises);
+    same = tt;
+    rises = let more =
+        (y.of_write open_for).0.rises in omega (arith, x.faults.rises, more);
+  };
   read_faults = y.read_faults ∙ x.read_faults;
   held = SameHeld-trans x.held y.held;
   made = y.made ∙ x.made;
@@ -205,26 +239,43 @@ ClosesWritten-fails {s} {t} {u} {ids} {id} r f x open_for y = record {
 }
 
 -- a file, and then others
-pub closes_then : {s t u : Disk} {ids : List ℕ} {id : ℕ} (r : Result (Unit {0}) Failed) → IsOpen Writes (s.opened id) → Closes s t id (Ok tt) → ClosesWritten t u ids r → ClosesWritten s u (ids ++ id ∷ []) r
+pub closes_then : {s t u : Disk} {ids : List ℕ} {id : ℕ} (r : Result (Unit {0}) Failed) → IsOpen Writes (s.opened id) → Closes s t id (Ok tt)
+    → ClosesWritten t u ids r → ClosesWritten s u (ids ++ id ∷ []) r
 closes_then {s} {t} {u} {ids} {id} (Ok done) open_for x y = record {
-  faults = record { failed = tt; same = y.faults.same ∙ (x.of_write open_for).0.same; rises = let more = (x.of_write open_for).0.rises in omega (arith, y.faults.rises, more) };
+  faults = record {
+    failed = tt;
+    same = y.faults.same ∙ (x.of_write open_for).0.same;
+    rises = let more = (x.of_write open_for).0.rises in
+        omega (arith, y.faults.rises, more);
+  };
   read_faults = y.read_faults ∙ x.read_faults;
   held = SameHeld-trans x.held y.held;
   made = y.made ∙ x.made;
   closes = DiffersBy-append ids (id ∷ []) y.closes (closes_one x.closes);
 }
 closes_then {s} {t} {u} {ids} {id} (Err e) open_for x y = record {
-  faults = record { failed = let more = (x.of_write open_for).0.rises in let rose = y.faults.failed in omega (arith, rose, more); same = tt; rises = let more = (x.of_write open_for).0.rises in omega (arith, y.faults.rises, more) };
+  faults = record {
+    failed = let more = (x.of_write open_for).0.rises in let rose = y.faults.failed in omega (arith, rose, more);
+    same = tt;
+    rises =
+        let more = (x.of_write open_for).0.rises in omega (arith, y.faults.rises, more);
+  };
   read_faults = y.read_faults ∙ x.read_faults;
   held = SameHeld-trans x.held y.held;
   made = y.made ∙ x.made;
   closes = DiffersBy-append ids (id ∷ []) y.closes (closes_one x.closes);
 }
 
-pub closes_fails : {s t u : Disk} {ids : List ℕ} {id : ℕ} {e : Failed} (r : Result (Unit {0}) Failed) (f : Failed) → IsOpen Writes (s.opened id) → Closes s t id (Err e) → ClosesWritten t u ids r
+pub closes_fails : {s t u : Disk} {ids : List ℕ} {id : ℕ} {e : Failed} (r : Result (Unit {0}) Failed) (f : Failed) → IsOpen Writes (s.opened id)
+    → Closes s t id (Err e) → ClosesWritten t u ids r
     → ClosesWritten s u (ids ++ id ∷ []) (Err f)
 closes_fails {s} {t} {u} {ids} {id} r f open_for x y = record {
-  faults = record { failed = let rose = (x.of_write open_for).0.failed in omega (arith, rose, y.faults.rises); same = tt; rises = let more = (x.of_write open_for).0.rises in omega (arith, y.faults.rises, more) };
+  faults = record {
+    failed = let rose = (x.of_write open_for).0.failed in omega (arith, rose, y.faults.rises);
+    same = tt;
+    rises = let more =
+        (x.of_write open_for).0.rises in omega (arith, y.faults.rises, more);
+  };
   read_faults = y.read_faults ∙ x.read_faults;
   held = SameHeld-trans x.held y.held;
   made = y.made ∙ x.made;

@@ -2,7 +2,8 @@
 use Rattle.std.proofs.lemmas.Bool.{false≢true, cases_Bool}
 use Rattle.std.proofs.lemmas.Bool.Decides.{eqb_tells}
 use Rattle.std.proofs.lemmas.Option.{slice_get_within}
-use Rattle.std.proofs.Common.{◌≡◌, ◌≢◌, ◌<◌, ◌+◌, ◌∙◌, ℕ, List, [], ◌++◌, length, take, drop, slice_get, nat_lt, false, IsTrue, IsErr, is_err, Some, Result, Ok, Err, inl, inr, refl, sym, append-nil, take-append-drop, lt-ltb, ltb-true, ltb-false, arith}
+use Rattle.std.proofs.Common.{◌≡◌, ◌≢◌, ◌<◌, ◌+◌, ◌∙◌, ℕ, List, [], ◌++◌, length, take, drop, slice_get, nat_lt, false, IsTrue, IsErr, is_err, Some}
+use Rattle.std.proofs.Common.{Result, Ok, Err, inl, inr, refl, sym, append-nil, take-append-drop, lt-ltb, ltb-true, ltb-false, arith}
 use Rattle.vg_base.proofs.Disks.{WriteKeeps-trans, WriteKeeps-refl}
 use Rattle.vg_base.specs.declared.faults.Failed.{Failed}
 use Rattle.vg_base.specs.Files.{Disk, Appends, WritesAll, WriteKeeps}
@@ -73,10 +74,12 @@ Puts-none s ids pieces = record {
 }
 
 -- the name of the port that is written next
-name_of : (ids : List ℕ) (names : List (List ℕ)) (port id : ℕ) → length ids ≡ length names → slice_get ids port ≡ Some id → (name : List ℕ) × (slice_get names port ≡ Some name)
+name_of : (ids : List ℕ) (names : List (List ℕ)) (port id : ℕ) → length ids ≡ length names → slice_get ids port ≡ Some id → (name : List ℕ)
+    × (slice_get names port ≡ Some name)
 name_of ids names port id long at = at_place names port [] (let within = slice_get_within ids port id at in omega (arith, within, long))
 
-grown_next : (s t u : Disk) (ids : List ℕ) (names : List (List ℕ)) (pieces : ℕ → List ℕ) (count : ℕ) (this : List ℕ) → AreTold s ids names → slice_get names count ≡ Some this →
+grown_next : (s t u : Disk) (ids : List ℕ) (names : List (List ℕ)) (pieces : ℕ → List ℕ) (count : ℕ) (this : List ℕ) → AreTold s ids names
+    → slice_get names count ≡ Some this →
     HaveGrown s t names pieces count → Appends t.made u.made this (pieces count) → HaveGrown s u names pieces (count + 1)
 grown_next s t u ids names pieces count this told at_this before appends port name bytes at is = elim (eqb_tells port count) [
   | inl same ↦
@@ -85,13 +88,15 @@ grown_next s t u ids names pieces count this told at_this before appends port na
       let was : t.made this ≡ Some bytes = rw (same.1, named, piece_below-here count pieces, append-nil) at (before port name bytes at is) in
       rw (same.1, named, piece_below-this count pieces) (appends.grown bytes was)
   | inr other ↦
-      rw (piece_below-next count pieces port other.1) (appends.others name (differ_at names port count name this told.apart at at_this other.1) ∙ before port name bytes at is)
+      rw (piece_below-next count pieces port other.1) (appends.others name (differ_at names port count name this told.apart at at_this other.1)
+      ∙ before port name bytes at is)
 ]
   where
     some_is : {x y : List ℕ} → Some x ≡ Some y → x ≡ y
     some_is e = cc
 
-begun_next : (s t u : Disk) (ids : List ℕ) (names : List (List ℕ)) (pieces : ℕ → List ℕ) (count : ℕ) (this : List ℕ) (n : ℕ) → AreTold s ids names → slice_get names count ≡ Some this →
+begun_next : (s t u : Disk) (ids : List ℕ) (names : List (List ℕ)) (pieces : ℕ → List ℕ) (count : ℕ) (this : List ℕ) (n : ℕ) → AreTold s ids names
+    → slice_get names count ≡ Some this →
     HaveGrown s t names pieces count → Appends t.made u.made this (take n (pieces count)) → HaveBegun s u names pieces
 begun_next s t u ids names pieces count this n told at_this before appends port name bytes at is = elim (eqb_tells port count) [
   | inl same ↦
@@ -100,14 +105,20 @@ begun_next s t u ids names pieces count this n told at_this before appends port 
       let was : t.made this ≡ Some bytes = rw (same.1, named, piece_below-here count pieces, append-nil) at (before port name bytes at is) in
       (take n (pieces count), drop n (pieces count), rw named (appends.grown bytes was), rw (same.1, take-append-drop) refl)
   | inr other ↦
-      let part = piece_below-part count pieces port in
-      (piece_below count pieces port, part.0, appends.others name (differ_at names port count name this told.apart at at_this other.1) ∙ before port name bytes at is, part.1)
+      let part = piece_below-part count pieces port in (
+        piece_below count pieces port,
+        part.0,
+        appends.others name (differ_at names port count name this told.apart at at_this other.1)
+            ∙ before port name bytes at is,
+        part.1,
+      )
 ]
   where
     some_is : {x y : List ℕ} → Some x ≡ Some y → x ≡ y
     some_is e = cc
 
-pub Puts-next : {s t u : Disk} {ids : List ℕ} {pieces : ℕ → List ℕ} {count id : ℕ} (r : Result (Unit {0}) Failed) → slice_get ids count ≡ Some id → Puts s t ids pieces count (Ok tt)
+pub Puts-next : {s t u : Disk} {ids : List ℕ} {pieces : ℕ → List ℕ} {count id : ℕ} (r : Result (Unit {0}) Failed) → slice_get ids count ≡ Some id
+    → Puts s t ids pieces count (Ok tt)
     → WritesAll t u id (pieces count) r → Puts s u ids pieces (count + 1) r
 Puts-next {s} {t} {u} {ids} {pieces} {count} {id} (Ok done) at x y = record {
   faults = record { failed = tt; same = y.faults.same ∙ x.faults.same; rises = omega (arith, x.faults.rises, y.faults.rises) };
@@ -120,7 +131,8 @@ Puts-next {s} {t} {u} {ids} {pieces} {count} {id} (Ok done) at x y = record {
   others = λ names told name none.
       let this = name_of ids names count id told.ports at in
       let later = AreTold-after x.keeps told in
-      (y.whole later.told this.0 (later.named count id this.0 at this.1)).others name (All-at (λ other. name ≢ other) names count this.0 none this.1) ∙ x.others names told name none;
+      (y.whole later.told this.0 (later.named count id this.0 at this.1)).others name (All-at (λ other. name ≢ other) names count this.0 none this.1)
+      ∙ x.others names told name none;
 }
 Puts-next {s} {t} {u} {ids} {pieces} {count} {id} (Err e) at x y = record {
   faults = record { failed = rw x.faults.same at y.faults.failed; same = tt; rises = omega (arith, x.faults.rises, y.faults.rises) };
@@ -139,7 +151,8 @@ Puts-next {s} {t} {u} {ids} {pieces} {count} {id} (Err e) at x y = record {
 }
 
 -- where a port's piece fails, it doesn't matter how many were to be written
-pub Puts-stops : {s t : Disk} {ids : List ℕ} {pieces : ℕ → List ℕ} {count : ℕ} (all : ℕ) {e : Failed} → Puts s t ids pieces count (Err e) → Puts s t ids pieces all (Err e)
+pub Puts-stops : {s t : Disk} {ids : List ℕ} {pieces : ℕ → List ℕ} {count : ℕ} (all : ℕ) {e : Failed} → Puts s t ids pieces count (Err e)
+    → Puts s t ids pieces all (Err e)
 Puts-stops all x = record { faults = x.faults; keeps = x.keeps; grown = λ names told. tt; begun = x.begun; others = x.others }
 
 -- what is no failure is done

@@ -14,11 +14,13 @@ use Rattle.vg_replay.specs.Replays.{ReplayFiles, Began, StopsAtRecord, StopsAtMo
 -- ---- histories
 
 module _ {H S : Type 0} (Handles : H → Handled → H → Type 0) (Stops : H → Arrival → S → Type 0) where
-  pub HandlesAll-append : (first : H) (xs : List Handled) (now : H) (ys : List Handled) (last : H) → HandlesAll Handles first xs now → HandlesAll Handles now ys last → HandlesAll Handles first (xs ++ ys) last
+  pub HandlesAll-append : (first : H) (xs : List Handled) (now : H) (ys : List Handled) (last : H) → HandlesAll Handles first xs now
+      → HandlesAll Handles now ys last → HandlesAll Handles first (xs ++ ys) last
   HandlesAll-append first [] now ys last x y = rw (← x) y
   HandlesAll-append first (h ∷ xs) now ys last x y = (x.0, x.1, HandlesAll-append x.0 xs now ys last x.2 y)
 
-  pub HandlesAll-push : (first : H) (past : List Handled) (now : H) (h : Handled) (next : H) → HandlesAll Handles first past now → Handles now h next → HandlesAll Handles first (past ++ h ∷ []) next
+  pub HandlesAll-push : (first : H) (past : List Handled) (now : H) (h : Handled) (next : H) → HandlesAll Handles first past now → Handles now h next
+      → HandlesAll Handles first (past ++ h ∷ []) next
   HandlesAll-push first past now h next x y = HandlesAll-append first past now (h ∷ []) next x (next, y, refl)
 
   -- no frame more, or one
@@ -32,7 +34,8 @@ module _ {H S : Type 0} (Handles : H → Handled → H → Type 0) (Stops : H �
   pub next_after : (past : List Handled) (now : H) (handled : List Handled) → HandledNext Handles past now handled → HandledAfter Handles past now handled
   next_after past now handled x = (x.0, x.2, x.3)
 
-  pub stops_after : (past : List Handled) (now : H) (handled : List Handled) (a : Arrival) (reason : S) → StopsNext Stops past now handled a reason → StopsAfter Handles Stops past now handled a reason
+  pub stops_after : (past : List Handled) (now : H) (handled : List Handled) (a : Arrival) (reason : S) → StopsNext Stops past now handled a reason
+      → StopsAfter Handles Stops past now handled a reason
   stops_after past now handled a reason x = ([], x.0 ∙ sym (append-nil past), (now, refl, x.1))
 
   -- nothing was handled since
@@ -40,11 +43,13 @@ module _ {H S : Type 0} (Handles : H → Handled → H → Type 0) (Stops : H �
   after_none past now = ([], sym (append-nil past), (now, refl))
 
   -- what was handled since a later state was handled since an earlier one
-  pub after_earlier : (before more : List Handled) (first now : H) → HandlesAll Handles first more now → (handled : List Handled) → HandledAfter Handles (before ++ more) now handled → HandledAfter Handles before first handled
+  pub after_earlier : (before more : List Handled) (first now : H) → HandlesAll Handles first more now → (handled : List Handled)
+      → HandledAfter Handles (before ++ more) now handled → HandledAfter Handles before first handled
   after_earlier before more first now all handled x =
       (more ++ x.0, x.1 ∙ append_assoc before more x.0, (x.2.0, HandlesAll-append first more now x.0 x.2.0 all x.2.1))
 
-  pub stops_earlier : (before more : List Handled) (first now : H) → HandlesAll Handles first more now → (handled : List Handled) (a : Arrival) (reason : S) → StopsAfter Handles Stops (before ++ more) now handled a reason
+  pub stops_earlier : (before more : List Handled) (first now : H) → HandlesAll Handles first more now
+      → (handled : List Handled) (a : Arrival) (reason : S) → StopsAfter Handles Stops (before ++ more) now handled a reason
       → StopsAfter Handles Stops before first handled a reason
   stops_earlier before more first now all handled a reason x =
       (more ++ x.0, x.1 ∙ append_assoc before more x.0, (x.2.0, HandlesAll-append first more now x.0 x.2.0 all x.2.1, x.2.2))
@@ -53,7 +58,8 @@ module _ {H S : Type 0} (Handles : H → Handled → H → Type 0) (Stops : H �
   pub after_start : (first : H) (handled : List Handled) → HandledAfter Handles [] first handled → HandledFrom Handles first handled
   after_start first handled x = rw x.1 x.2
 
-  pub stops_start : (first : H) (handled : List Handled) (a : Arrival) (reason : S) → StopsAfter Handles Stops [] first handled a reason → StopsFrom Handles Stops first handled a reason
+  pub stops_start : (first : H) (handled : List Handled) (a : Arrival) (reason : S) → StopsAfter Handles Stops [] first handled a reason
+      → StopsFrom Handles Stops first handled a reason
   stops_start first handled a reason x = rw x.1 x.2
 
 -- ---- replays
@@ -67,7 +73,15 @@ module _ {S : Type 0} {I J : List Handled → Type 0} {A B : List Handled → Ar
   record_map x = record { frames = x.frames; history = f x.frames x.history; ports = x.ports; up_to = x.up_to; wrote = x.wrote; read_faults = x.read_faults }
 
   most_map : {s t : Disk} {n : ReplayFiles} → StopsAtMost s t n I → StopsAtMost s t n J
-  most_map x = record { frames = x.frames; history = f x.frames x.history; ports = x.ports; too_many = x.too_many; wrote = x.wrote; read_faults = x.read_faults }
+  most_map x = record {
+    frames = x.frames;
+    history = f x.frames x.history;
+    ports = x.ports;
+    too_many = x.too_many;
+    wrote = x.wrote;
+    read_faults =
+        x.read_faults;
+  }
 
   frame_map : {s t : Disk} {n : ReplayFiles} {reason : S} → StopsAtFrame s t n I A reason → StopsAtFrame s t n J B reason
   frame_map {reason = reason} x = record {

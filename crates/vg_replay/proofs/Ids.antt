@@ -3,7 +3,8 @@ use Rattle.std.proofs.lemmas.Bool.Decides.{eqb_tells}
 use Rattle.std.proofs.lemmas.List.Elements.{All-nil, All-cons, All-append, All-push, All-head, All-contains}
 use Rattle.std.proofs.lemmas.List.Quantifiers.{all_pairs_push}
 use Rattle.std.proofs.Math.Path.{fun_ext}
-use Rattle.std.proofs.Common.{◌≡◌, ◌≢◌, ◌<◌, ◌⊎◌, ◌∙◌, ℕ, suc, List, [], ◌∷◌, ◌++◌, length, get_or, All, AllPairs, Contains, None, inl, inr, refl, sym, arith, length-append}
+use Rattle.std.proofs.Common.{◌≡◌, ◌≢◌, ◌<◌, ◌⊎◌, ◌∙◌, ℕ, suc, List, [], ◌∷◌, ◌++◌, length, get_or, All, AllPairs, Contains, None, inl, inr, refl}
+use Rattle.std.proofs.Common.{sym, arith, length-append}
 use Rattle.vg_base.specs.Files.{Disk, Mode, Writes, IsOpen, SameIds, OpensOne, ClosesOne}
 use Rattle.vg_base.specs.Several.{DiffersBy, AreOpen}
 use Rattle.std.proofs.lemmas.Option.{slice_get-get_or}
@@ -75,7 +76,8 @@ open_stays s t mode ids changed opened closed same k d within =
 
 pub AreWritable-push : {s t : Disk} {id : ℕ} (ids : List ℕ) → AreWritable s ids → OpensOne s t Writes id → AreWritable t (ids ++ id ∷ [])
 AreWritable-push {s} {t} {id} ids w o = record {
-  opened = All-push (λ j. IsOpen Writes (t.opened j)) ids id (open_stays s t Writes ids (id ∷ []) w.opened ((opens_one o).closed) (λ j none. o.others j (All-head (λ other. j ≢ other) id [] none))) o.now;
+  opened = All-push (λ j. IsOpen Writes (t.opened j)) ids id (open_stays s t Writes ids (id ∷ []) w.opened ((opens_one o).closed)
+      (λ j none. o.others j (All-head (λ other. j ≢ other) id [] none))) o.now;
   apart = all_pairs_push ◌≢◌ ids id w.apart (λ k d within same. let here = w.opened k d within in rw (same, o.was) at here);
 }
 
@@ -91,7 +93,8 @@ AreWritable-pop {s} {t} {id} ids w c = record {
   where
     differs_last : (ids : List ℕ) (id : ℕ) → AllPairs ◌≢◌ (ids ++ id ∷ []) → (k d : ℕ) → k < length ids → get_or ids k d ≢ id
     differs_last ids id apart k d within same =
-        differ_at (ids ++ id ∷ []) k (length ids) (get_or ids k d) id apart (at_left ids (id ∷ []) k within ∙ slice_get-get_or ids k d within) (at_end ids id) (λ e. let short = within in omega (arith, e, short)) same
+        differ_at (ids ++ id ∷ []) k (length ids) (get_or ids k d) id apart (at_left ids (id ∷ []) k within ∙ slice_get-get_or ids k d within)
+        (at_end ids id) (λ e. let short = within in omega (arith, e, short)) same
 
 pub AreWritable-same : {s t : Disk} (ids : List ℕ) → SameIds s t → AreWritable s ids → AreWritable t ids
 AreWritable-same ids same w = record { opened = rw same.opened w.opened; apart = w.apart }

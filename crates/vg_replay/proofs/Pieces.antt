@@ -3,7 +3,8 @@ use Rattle.std.proofs.lemmas.Grind.{flat_map-append}
 use Rattle.std.proofs.lemmas.List.{map-append, length-map}
 use Rattle.std.proofs.lemmas.List.Sums.{count_by-le-length, sum_by-append, sum_by-le}
 use Rattle.std.specs.List.{sum_by}
-use Rattle.std.proofs.Common.{◌≡◌, ◌<◌, ◌≤◌, ◌+◌, ◌^◌, ◌∙◌, ℕ, suc, List, [], ◌∷◌, ◌++◌, length, get_or, count_by, if◌then◌else◌, Bool, All, refl, sym, ap, append-nil, append_assoc, length-append, add-zero, zero-add, arith}
+use Rattle.std.proofs.Common.{◌≡◌, ◌<◌, ◌≤◌, ◌+◌, ◌^◌, ◌∙◌, ℕ, suc, List, [], ◌∷◌, ◌++◌, length, get_or, count_by, if◌then◌else◌, Bool, All, refl}
+use Rattle.std.proofs.Common.{sym, ap, append-nil, append_assoc, length-append, add-zero, zero-add, arith}
 use Rattle.vg_core.specs.declared.verdict.Verdict.{Verdict}
 use Rattle.vg_core.specs.declared.verdict.Verdict.TheVariants.{Drop, Send, Flood}
 use Rattle.vg_pcap.specs.Frames.{header}
@@ -55,7 +56,15 @@ sum_by-more : {X : Type 0} (f : X → ℕ) (xs : List X) (x : X) → sum_by f (x
 sum_by-more f xs x = sum_by-append f xs (x ∷ []) ∙ ap (λ n. sum_by f xs + n) (zero-add (f x))
 
 one_more : (t : Totals) (verdict : Verdict) (steps : ℕ) →
-    record { frames = t.frames + 1; sent = t.sent + (if is_send verdict then 1 else 0); dropped = t.dropped + (if is_drop verdict then 1 else 0); flooded = t.flooded + (if is_flood verdict then 1 else 0); steps = t.steps + steps } ≡ counted t verdict steps
+    record {
+      frames = t.frames + 1;
+      sent = t.sent + (if is_send verdict then 1 else 0);
+      dropped =
+          t.dropped + (if is_drop verdict then 1 else 0);
+      flooded = t.flooded + (if is_flood verdict then 1 else 0);
+      steps = t.steps + steps;
+    } ≡ counted
+    t verdict steps
 one_more t Drop steps = rw (add-zero t.sent, add-zero t.flooded) refl
 one_more t (Send port) steps = rw (add-zero t.dropped, add-zero t.flooded) refl
 one_more t Flood steps = rw (add-zero t.sent, add-zero t.dropped) refl
@@ -63,12 +72,19 @@ one_more t Flood steps = rw (add-zero t.sent, add-zero t.dropped) refl
 pub totals_of-more : (hs : List Handled) (h : Handled) → totals_of (hs ++ h ∷ []) ≡ counted (totals_of hs) h.verdict h.steps
 unfolding totals_of
 totals_of-more hs h =
-    rw (length-append hs (h ∷ []), count_by-more (λ k. is_send k.verdict) hs h, count_by-more (λ k. is_drop k.verdict) hs h, count_by-more (λ k. is_flood k.verdict) hs h, sum_by-more (λ k. k.steps) hs h) (one_more (totals_of hs) h.verdict h.steps)
+    rw (
+      length-append hs (h ∷ []),
+      count_by-more (λ k. is_send k.verdict) hs h,
+      count_by-more (λ k. is_drop k.verdict) hs h,
+      count_by-more (λ k. is_flood k.verdict) hs h,
+      sum_by-more (λ k. k.steps) hs h,
+    ) (one_more (totals_of hs) h.verdict h.steps)
 
 pub totals_of-none : (t : Totals) → t.frames ≡ 0 → t.sent ≡ 0 → t.dropped ≡ 0 → t.flooded ≡ 0 → t.steps ≡ 0 → t ≡ totals_of []
 unfolding totals_of
 totals_of-none t frames sent dropped flooded steps =
-    let is : record { frames = t.frames; sent = t.sent; dropped = t.dropped; flooded = t.flooded; steps = t.steps } ≡ totals_of [] = rw (frames, sent, dropped, flooded, steps) refl in
+    let is : record { frames = t.frames; sent = t.sent; dropped = t.dropped; flooded = t.flooded; steps = t.steps } ≡ totals_of [] =
+    rw (frames, sent, dropped, flooded, steps) refl in
     is
 
 pub totals_of-frames : (past : List Handled) → (totals_of past).frames ≡ length past

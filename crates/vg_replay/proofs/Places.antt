@@ -3,7 +3,8 @@ use Rattle.std.proofs.lemmas.Bool.{cases_lt}
 use Rattle.std.proofs.lemmas.List.{get_or_append_left}
 use Rattle.std.proofs.lemmas.List.Elements.{All-tail}
 use Rattle.std.proofs.lemmas.Option.{slice_get_within, get_or_from_slice_get, slice_get-get_or, slice_get_read, slice_get-map}
-use Rattle.std.proofs.Common.{◌≡◌, ◌≢◌, ◌<◌, ◌∙◌, ℕ, zero, suc, List, [], ◌∷◌, ◌++◌, length, get_or, set, map, option_map, slice_get, All, AllPairs, Some, inl, inr, refl, sym, ap, subst, arith, length-append}
+use Rattle.std.proofs.Common.{◌≡◌, ◌≢◌, ◌<◌, ◌∙◌, ℕ, zero, suc, List, [], ◌∷◌, ◌++◌, length, get_or, set, map, option_map, slice_get, All, AllPairs}
+use Rattle.std.proofs.Common.{Some, inl, inr, refl, sym, ap, subst, arith, length-append}
 
 module _ {A : Type 0} where
   -- what holds of each element holds of the one at a place
@@ -52,7 +53,8 @@ module _ {A : Type 0} where
 
   pub AllPairs-left : (R : A → A → Type 0) (xs ys : List A) → AllPairs R (xs ++ ys) → AllPairs R xs
   AllPairs-left R xs ys all i j d below within =
-      rw (get_or_append_left xs ys d i (omega (arith, below, within)), get_or_append_left xs ys d j within) at (all i j d below (omega (arith, within, length-append xs ys)))
+      rw (get_or_append_left xs ys d i (omega (arith, below, within)), get_or_append_left xs ys d j within) at
+      (all i j d below (omega (arith, within, length-append xs ys)))
 
 -- what is seen of an element
 pub seen_at : {A B : Type 0} (f : A → B) (xs : List A) (i : ℕ) (x : A) → i < length xs → x ≡ get_or xs i x → slice_get (map f xs) i ≡ Some (f x)

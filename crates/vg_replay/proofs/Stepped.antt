@@ -16,8 +16,10 @@ use Rattle.vg_replay.specs.Stepping.{handled_with, HandlesFrame, HasChanged, Has
 
 module _ {H S : Type 0} (Handles : H → Handled → H → Type 0) (Stops : H → Arrival → S → Type 0) where
   -- the handler stopped, or the frame couldn't be written
-  wrong : (s t u : Disk) (n : ReplayFiles) (old new : ReplayOf H) (past : List Handled) (mid : List Input) (a : Arrival) (stop : RunStop S) → Going s t n old.files past → old.files.totals.frames ≢ most_frames → IsChanged old.files.inputs mid a
-      → IsFirstLeft old.files.inputs a → HandlesFrame Handles Stops t u old new a (Err stop) → HasStopped s u n (record old.files { inputs = mid }) (HandledNext Handles past old.handler) (StopsNext Stops past old.handler) stop
+  wrong : (s t u : Disk) (n : ReplayFiles) (old new : ReplayOf H) (past : List Handled) (mid : List Input) (a : Arrival) (stop : RunStop S)
+      → Going s t n old.files past → old.files.totals.frames ≢ most_frames → IsChanged old.files.inputs mid a
+      → IsFirstLeft old.files.inputs a → HandlesFrame Handles Stops t u old new a (Err stop)
+      → HasStopped s u n (record old.files { inputs = mid }) (HandledNext Handles past old.handler) (StopsNext Stops past old.handler) stop
   wrong s t u n old new past mid a (stops.Capture port refusal) x not changed first y = absurd y
   wrong s t u n old new past mid a stops.Read x not changed first y = absurd y
   wrong s t u n old new past mid a stops.Write x not changed first y =
@@ -29,7 +31,10 @@ module _ {H S : Type 0} (Handles : H → Handled → H → Type 0) (Stops : H �
       handler_stops a reason (next_none Handles Stops past old.handler) (refl, y.0) unmoved not changed first
 
   -- the same is answered
-  pub went_wrong : (s t u : Disk) (n : ReplayFiles) (old new : ReplayOf H) (past : List Handled) (a : Arrival) (stop : RunStop S) (result : Result Bool (RunStop S)) → IsErrAnd result (λ e. e ≡ stop) → Going s t n old.files past
-      → old.files.totals.frames ≢ most_frames → HasChanged old.files new.files a → IsFirstLeft old.files.inputs a → HandlesFrame Handles Stops t u old new a (Err stop) → Steps Handles Stops s t u n old new past result
+  pub went_wrong : (s t u : Disk) (n : ReplayFiles) (old new : ReplayOf H) (past : List Handled) (a : Arrival) (stop : RunStop S)
+      (result : Result Bool (RunStop S)) → IsErrAnd result (λ e. e ≡ stop) → Going s t n old.files past
+      → old.files.totals.frames ≢ most_frames → HasChanged old.files new.files a → IsFirstLeft old.files.inputs a
+      → HandlesFrame Handles Stops t u old new a (Err stop) → Steps Handles Stops s t u n old new past result
   went_wrong s t u n old new past a stop (Ok done) is x not changed first y = absurd is
-  went_wrong s t u n old new past a stop (Err e) is x not changed first y = rw (is, changed.1) (wrong s t u n old new past new.files.inputs a stop x not changed.0 first y)
+  went_wrong s t u n old new past a stop (Err e) is x not changed first y = rw (is, changed.1)
+      (wrong s t u n old new past new.files.inputs a stop x not changed.0 first y)

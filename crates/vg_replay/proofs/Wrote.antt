@@ -1,7 +1,8 @@
 -- What the files hold once a frame was written.
 use Rattle.std.proofs.lemmas.Option.{slice_get_within}
 use Rattle.std.proofs.lemmas.List.Elements.{All-head, All-tail}
-use Rattle.std.proofs.Common.{◌≡◌, ◌≢◌, ◌<◌, ◌≤◌, ◌+◌, ◌∙◌, ℕ, List, [], ◌∷◌, ◌++◌, length, take, drop, slice_get, IsTrue, Some, Result, Ok, Err, inl, inr, refl, sym, append-nil, append_assoc, take-append-drop, arith}
+use Rattle.std.proofs.Common.{◌≡◌, ◌≢◌, ◌<◌, ◌≤◌, ◌+◌, ◌∙◌, ℕ, List, [], ◌∷◌, ◌++◌, length, take, drop, slice_get, IsTrue, Some, Result, Ok, Err, inl}
+use Rattle.std.proofs.Common.{inr, refl, sym, append-nil, append_assoc, take-append-drop, arith}
 use Rattle.vg_base.proofs.Disks.{WriteKeeps-trans}
 use Rattle.vg_base.specs.declared.faults.Failed.{Failed}
 use Rattle.vg_base.specs.Files.{Disk, Appends, Rose, WritesAll, WriteKeeps}
@@ -15,7 +16,8 @@ use Rattle.vg_replay.specs.Writing.{AreTold, Puts, pieces_of, WritesFrame}
 
 -- ---- faults, and what stays
 
-pub frame_keeps : {s t : Disk} {ids : List ℕ} {log number : ℕ} {h : Handled} (r : Result (Unit {0}) Failed) → WritesFrame s t ids log number h r → WriteKeeps s t
+pub frame_keeps : {s t : Disk} {ids : List ℕ} {log number : ℕ} {h : Handled} (r : Result (Unit {0}) Failed) → WritesFrame s t ids log number h r
+    → WriteKeeps s t
 frame_keeps r w = elim w.whole_or_not [
   | inl both ↦ WriteKeeps-trans both.1.keeps both.2.keeps
   | inr puts ↦ puts.1.keeps
@@ -27,7 +29,8 @@ frame_same w = elim w.whole_or_not [
   | inr puts ↦ absurd puts.0
 ]
 
-pub frame_rose : {s t : Disk} {ids : List ℕ} {log number : ℕ} {h : Handled} {e : Failed} → WritesFrame s t ids log number h (Err e) → Rose s.write_faults t.write_faults
+pub frame_rose : {s t : Disk} {ids : List ℕ} {log number : ℕ} {h : Handled} {e : Failed} → WritesFrame s t ids log number h (Err e)
+    → Rose s.write_faults t.write_faults
 frame_rose w = elim w.whole_or_not [
   | inl both ↦ let rose = both.2.faults.failed in omega (arith, both.1.faults.same, rose)
   | inr puts ↦ puts.1.faults.failed
@@ -51,27 +54,34 @@ not_log {n} names port name at same = All-at (λ other. n.log ≢ other) n.outs 
 
 -- ---- the captures, and then the log
 
-captures_more : {s t b : Disk} {n : ReplayFiles} {past : List Handled} {ids : List ℕ} (h : Handled) → AreTold t ids n.outs → WroteAll s t n past → Puts t b ids (pieces_of h) (length ids) (Ok tt) →
+captures_more : {s t b : Disk} {n : ReplayFiles} {past : List Handled} {ids : List ℕ} (h : Handled) → AreTold t ids n.outs → WroteAll s t n past
+    → Puts t b ids (pieces_of h) (length ids) (Ok tt) →
     (port : ℕ) (name : List ℕ) → slice_get n.outs port ≡ Some name → b.made name ≡ Some (capture_to port (past ++ h ∷ []))
 captures_more {s} {t} {b} {n} {past} {ids} h told wrote puts port name at =
     let within : port < length ids = let below = slice_get_within n.outs port name at in omega (arith, below, told.ports) in
     let grown = puts.grown n.outs told port name (capture_to port past) at (wrote.outs port name at) in
     rw (capture_to-more port past h) (rw (piece_below-within (length ids) (pieces_of h) port within) at grown)
 
-log_kept : {s t b : Disk} {n : ReplayFiles} {past : List Handled} {pieces : ℕ → List ℕ} {ids : List ℕ} {count : ℕ} (r : Result (Unit {0}) Failed) → AreReplayFiles n → AreTold t ids n.outs → WroteAll s t n past
+log_kept : {s t b : Disk} {n : ReplayFiles} {past : List Handled} {pieces : ℕ → List ℕ} {ids : List ℕ} {count : ℕ} (r : Result (Unit {0}) Failed)
+    → AreReplayFiles n → AreTold t ids n.outs → WroteAll s t n past
     → Puts t b ids pieces count r → b.made n.log ≡ Some (log_of past)
 log_kept {n = n} r names told wrote puts = puts.others n.outs told n.log (log_is_none names) ∙ wrote.log
 
-log_appends : {s t b u : Disk} {n : ReplayFiles} {r : Replaying} {pieces : ℕ → List ℕ} {count : ℕ} {line : List ℕ} → HasOpened s t n r → IsTrue s.tells_made → Puts t b r.outs pieces count (Ok tt) → WritesAll b u r.log line (Ok tt)
+log_appends : {s t b u : Disk} {n : ReplayFiles} {r : Replaying} {pieces : ℕ → List ℕ} {count : ℕ} {line : List ℕ} → HasOpened s t n r
+    → IsTrue s.tells_made → Puts t b r.outs pieces count (Ok tt) → WritesAll b u r.log line (Ok tt)
     → Appends b.made u.made n.log line
-log_appends {n = n} opened told puts writes = writes.whole (told_after puts.keeps (rw opened.held.tells_made told)) n.log (rw puts.keeps.ids.opened (opened.log_named told))
+log_appends {n = n} opened told puts writes = writes.whole (told_after puts.keeps (rw opened.held.tells_made told)) n.log
+    (rw puts.keeps.ids.opened (opened.log_named told))
 
-log_appends_part : {s t b u : Disk} {n : ReplayFiles} {r : Replaying} {pieces : ℕ → List ℕ} {count : ℕ} {line : List ℕ} {e : Failed} → HasOpened s t n r → IsTrue s.tells_made → Puts t b r.outs pieces count (Ok tt) → WritesAll b u r.log line (Err e)
+log_appends_part : {s t b u : Disk} {n : ReplayFiles} {r : Replaying} {pieces : ℕ → List ℕ} {count : ℕ} {line : List ℕ} {e : Failed}
+    → HasOpened s t n r → IsTrue s.tells_made → Puts t b r.outs pieces count (Ok tt) → WritesAll b u r.log line (Err e)
     → (k : ℕ) × (k ≤ length line) × Appends b.made u.made n.log (take k line)
-log_appends_part {n = n} opened told puts writes = writes.prefix (told_after puts.keeps (rw opened.held.tells_made told)) n.log (rw puts.keeps.ids.opened (opened.log_named told))
+log_appends_part {n = n} opened told puts writes = writes.prefix (told_after puts.keeps (rw opened.held.tells_made told)) n.log
+    (rw puts.keeps.ids.opened (opened.log_named told))
 
 -- a frame was written whole
-pub wrote_more : {s t u : Disk} {n : ReplayFiles} {r : Replaying} {past : List Handled} {number : ℕ} (h : Handled) → IsSound n r → HasOpened s t n r → IsTrue s.tells_made → WroteAll s t n past → number ≡ length past + 1
+pub wrote_more : {s t u : Disk} {n : ReplayFiles} {r : Replaying} {past : List Handled} {number : ℕ} (h : Handled) → IsSound n r → HasOpened s t n r
+    → IsTrue s.tells_made → WroteAll s t n past → number ≡ length past + 1
     → WritesFrame t u r.outs r.log number h (Ok tt) → WroteAll s u n (past ++ h ∷ [])
 wrote_more {n = n} {r = r} {past = past} h sound opened told wrote is w = elim w.whole_or_not [
   | inl both ↦
@@ -84,7 +94,8 @@ wrote_more {n = n} {r = r} {past = past} h sound opened told wrote is w = elim w
 ]
 
 -- a frame was written in part
-pub wrote_parts : {s t u : Disk} {n : ReplayFiles} {r : Replaying} {past : List Handled} {number : ℕ} {e : Failed} (h : Handled) → IsSound n r → HasOpened s t n r → IsTrue s.tells_made → WroteAll s t n past → number ≡ length past + 1
+pub wrote_parts : {s t u : Disk} {n : ReplayFiles} {r : Replaying} {past : List Handled} {number : ℕ} {e : Failed} (h : Handled) → IsSound n r
+    → HasOpened s t n r → IsTrue s.tells_made → WroteAll s t n past → number ≡ length past + 1
     → WritesFrame t u r.outs r.log number h (Err e) → WroteParts s u n (past ++ h ∷ [])
 wrote_parts {u = u} {n = n} {r = r} {past = past} {number = number} {e = e} h sound opened told wrote is w = elim w.whole_or_not [
   | inl both ↦
@@ -112,7 +123,8 @@ wrote_parts {u = u} {n = n} {r = r} {past = past} {number = number} {e = e} h so
       }
   | inr puts ↦
       let all = told_of sound opened told in
-      let begun : (port : ℕ) (name : List ℕ) → slice_get n.outs port ≡ Some name → (part : List ℕ) × (rest : List ℕ) × (u.made name ≡ Some (capture_to port past ++ part)) × (piece_to port h ≡ part ++ rest) =
+      let begun : (port : ℕ) (name : List ℕ) → slice_get n.outs port ≡ Some name → (part : List ℕ) × (rest : List ℕ)
+      × (u.made name ≡ Some (capture_to port past ++ part)) × (piece_to port h ≡ part ++ rest) =
       λ port name at. puts.1.begun n.outs all port name (capture_to port past) at (wrote.outs port name at) in
       record {
         outs = λ port name at.
@@ -132,7 +144,8 @@ wrote_parts {u = u} {n = n} {r = r} {past = past} {number = number} {e = e} h so
 ]
 
 -- no other file was changed
-pub others_more : {s t u : Disk} {n : ReplayFiles} {r : Replaying} {number : ℕ} {h : Handled} (q : Result (Unit {0}) Failed) → IsSound n r → HasOpened s t n r → IsTrue s.tells_made → KeepsOthers s t n
+pub others_more : {s t u : Disk} {n : ReplayFiles} {r : Replaying} {number : ℕ} {h : Handled} (q : Result (Unit {0}) Failed) → IsSound n r
+    → HasOpened s t n r → IsTrue s.tells_made → KeepsOthers s t n
     → WritesFrame t u r.outs r.log number h q → KeepsOthers s u n
 others_more {n = n} (Ok done) sound opened told others w name none = elim w.whole_or_not [
   | inl both ↦

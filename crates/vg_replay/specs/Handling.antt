@@ -30,7 +30,8 @@ module _ {H S : Type 0} (Handles : H → Handled → H → Type 0) (Stops : H �
   StartsReplay s t n handler (Ok r) = (r.handler ≡ handler) × Going s t n r.files []
   StartsReplay s t n handler (Err stop) = Replays s t n (λ handled. handled ≡ []) (λ handled a reason. ⊥) (Err stop)
 
-  -- A replay that began at s and handled these frames has handled the next one; or none was left, and it ended; or it stopped, at the next one or right after it. Its start alone
+  -- A replay that began at s and handled these frames has handled the next one; or none was left, and it ended; or it stopped, at the next one or
+  -- right after it. Its start alone
   -- takes memory and reads headers.
   abbrev pub HandlesNext : Disk → Disk → ReplayFiles → ReplayOf H → List Handled → Result (Next H) (RunStop S) → Type 0
   HandlesNext s t n r past (Ok (nexts.Again next)) =

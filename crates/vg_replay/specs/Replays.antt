@@ -1,5 +1,6 @@
 -- What a replay does: which frames it handles, what it leaves in the files, and why it stops.
-use Rattle.std.specs.Prelude.{ℕ, ◌+◌, ◌-◌, ◌<◌, ◌≤◌, ◌^◌, ◌≡◌, ◌≢◌, ◌⊎◌, List, [], ◌∷◌, ◌++◌, length, IsTrue, Some, Result, IfOk, IfErr, All, AllPairs, slice_get}
+use Rattle.std.specs.Prelude.{ℕ, ◌+◌, ◌-◌, ◌<◌, ◌≤◌, ◌^◌, ◌≡◌, ◌≢◌, ◌⊎◌, List, [], ◌∷◌, ◌++◌, length, IsTrue, Some, Result, IfOk, IfErr, All}
+use Rattle.std.specs.Prelude.{AllPairs, slice_get}
 use Rattle.vg_base.specs.Files.{Disk, Rose, SameHeld, SameIds}
 use Rattle.vg_pcap.specs.declared.faults.CaptureRefusal.TheVariants.{Header, Record}
 use Rattle.vg_pcap.specs.declared.faults.HeaderField.{HeaderField}

@@ -1,5 +1,6 @@
 -- The outputs of a replay, while they are created, written and closed. No public clause rests on this file.
-use Rattle.std.specs.Prelude.{ℕ, ◌<◌, ◌≤◌, ◌≡◌, ◌≢◌, ◌⊎◌, List, [], ◌∷◌, ◌++◌, length, nat_lt, if◌then◌else◌, IsTrue, Some, Result, Ok, Err, OnOk, OnErr, AllPairs, slice_get}
+use Rattle.std.specs.Prelude.{ℕ, ◌<◌, ◌≤◌, ◌≡◌, ◌≢◌, ◌⊎◌, List, [], ◌∷◌, ◌++◌, length, nat_lt, if◌then◌else◌, IsTrue, Some, Result, Ok, Err, OnOk}
+use Rattle.std.specs.Prelude.{OnErr, AllPairs, slice_get}
 use Rattle.vg_base.specs.declared.faults.Failed.{Failed}
 use Rattle.vg_base.specs.Files.{Disk, writing, Rose, Counts, WriteKeeps, WritesAll, SameHeld, SameIds}
 use Rattle.vg_base.specs.Several.{DiffersBy}

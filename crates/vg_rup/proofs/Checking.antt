@@ -1,5 +1,6 @@
 -- Steps in turn: what one that follows, or doesn't, says of the first that doesn't.
-use Rattle.std.proofs.Common.{◌≡◌, ℕ, zero, suc, ◌+◌, ◌<◌, ◌≤◌, List, [], ◌∷◌, ◌++◌, length, drop, get_or, Option, Some, None, Bool, true, false, refl, sym, ap, ◌∙◌, inl, inr, arith}
+use Rattle.std.proofs.Common.{◌≡◌, ℕ, zero, suc, ◌+◌, ◌<◌, ◌≤◌, List, [], ◌∷◌, ◌++◌, length, drop, get_or, Option, Some, None, Bool, true, false}
+use Rattle.std.proofs.Common.{refl, sym, ap, ◌∙◌, inl, inr, arith}
 use Rattle.std.specs.Prelude.{ℤ, pos, neg_ℤ, not, IsTrue, slice_get, is_none, ◌&&◌, ◌||◌, ◌==◌}
 use Rattle.std.specs.Option.{option_map}
 use Rattle.std.specs.Ordering.{int_eq}
@@ -23,7 +24,8 @@ use Rattle.vg_rup.proofs.Passing.{Reaches-more}
 
 -- ---- lists that don't name 0
 
-pub nonzero_pushed : (lists more : List (List ℤ)) (c : List ℤ) → more ≡ lists ++ c ∷ [] → occurs lists (pos 0) ≡ false → is_clause c ≡ true → occurs more (pos 0) ≡ false
+pub nonzero_pushed : (lists more : List (List ℤ)) (c : List ℤ) → more ≡ lists ++ c ∷ [] → occurs lists (pos 0) ≡ false → is_clause c ≡ true
+    → occurs more (pos 0) ≡ false
 nonzero_pushed lists more c e none clause =
     ap (λ cs. occurs cs (pos 0)) e
     ∙ list_any-append (λ d. holds d (pos 0)) lists (c ∷ [])
@@ -66,7 +68,8 @@ negations-consistent made c clause same k e =
     (test_at (λ l. not (holds c (neg_ℤ l))) (neg_ℤ k) c (sym (same k ∙ holds-negations c k) ∙ e) clause)
 
 -- what propagation from the negations answers is whether the clause follows
-pub propagates-follows : (clauses : List (List ℤ)) (c made new : List ℤ) (answer : Bool) → occurs clauses (pos 0) ≡ false → is_clause c ≡ true → SameLiterals made (negations c) →
+pub propagates-follows : (clauses : List (List ℤ)) (c made new : List ℤ) (answer : Bool) → occurs clauses (pos 0) ≡ false → is_clause c ≡ true
+    → SameLiterals made (negations c) →
     Propagates clauses made new answer → answer ≡ follows clauses c
 propagates-follows clauses c made new true nonzero clause same reaches =
     sym (reaches-follows clauses c nonzero clause (Reaches-more clauses made (negations c) (λ k e. sym (same k) ∙ e) reaches))
@@ -93,7 +96,8 @@ counted_on : (at : ℕ) (number : Option ℕ) → counted_from at (option_map (�
 counted_on at None = refl
 counted_on at (Some n) = let e : n + 1 + at ≡ n + (at + 1) = omega arith in ap Some e
 
-pub step_follows : (known more steps : List (List ℤ)) (at : ℕ) (c : List ℤ) (number : Option ℕ) → slice_get steps at ≡ Some c → follows known c ≡ true → more ≡ known ++ c ∷ [] →
+pub step_follows : (known more steps : List (List ℤ)) (at : ℕ) (c : List ℤ) (number : Option ℕ) → slice_get steps at ≡ Some c → follows known c ≡ true
+    → more ≡ known ++ c ∷ [] →
     number ≡ counted_from at (first_unfollowed known (drop at steps)) → number ≡ counted_from (at + 1) (first_unfollowed more (drop (at + 1) steps))
 step_follows known more steps at c number here yes_it more_is before =
     before
@@ -110,7 +114,8 @@ step_fails known steps at c number here no_it before =
     ∙ ap (counted_from at) (unfollowed-here known c (drop (at + 1) steps) no_it)
     ∙ (let e : 1 + at ≡ at + 1 = omega arith in ap Some e)
 
-pub steps_end : (known steps : List (List ℤ)) (at : ℕ) (number : Option ℕ) → length steps ≤ at → number ≡ counted_from at (first_unfollowed known (drop at steps)) → number ≡ None
+pub steps_end : (known steps : List (List ℤ)) (at : ℕ) (number : Option ℕ) → length steps ≤ at
+    → number ≡ counted_from at (first_unfollowed known (drop at steps)) → number ≡ None
 steps_end known steps at number h before =
     before ∙ ap (λ rest. counted_from at (first_unfollowed known rest)) (drop_all at steps h)
 

@@ -27,7 +27,8 @@ still_refuted : (lists : List (List ℤ)) (c : List ℤ) (refuted : Bool) → Is
 still_refuted lists c true reaches = reaches_pushed lists (c ∷ []) [] reaches
 still_refuted lists c false nothing = nothing
 
-pub known_plain : (lists more : List (List ℤ)) (c : List ℤ) (search rest : Option Propagator) (refuted : Bool) → more ≡ lists ++ c ∷ [] → rest ≡ None → is_clause c ≡ true →
+pub known_plain : (lists more : List (List ℤ)) (c : List ℤ) (search rest : Option Propagator) (refuted : Bool) → more ≡ lists ++ c ∷ [] → rest ≡ None
+    → is_clause c ≡ true →
     IsKnown lists search refuted → IsKnown more rest refuted
 known_plain lists more c search rest refuted pushed none clause h =
     record {
@@ -36,7 +37,8 @@ known_plain lists more c search rest refuted pushed none clause h =
       refuted_is = subst (λ xs. IsRefutedOf xs refuted) (sym pushed) (still_refuted lists c refuted h.refuted_is);
     }
 
-pub known_searched : (lists more : List (List ℤ)) (c : List ℤ) (search : Option Propagator) (new : Propagator) (refuted : Bool) → more ≡ lists ++ c ∷ [] → is_clause c ≡ true →
+pub known_searched : (lists more : List (List ℤ)) (c : List ℤ) (search : Option Propagator) (new : Propagator) (refuted : Bool) → more ≡ lists ++ c
+    ∷ [] → is_clause c ≡ true →
     new.clauses ≡ lists ++ c ∷ [] → IsAtRest new → IsKnown lists search refuted → IsKnown more (Some new) refuted
 known_searched lists more c search new refuted pushed clause clauses rest h =
     record {
@@ -45,7 +47,8 @@ known_searched lists more c search new refuted pushed clause clauses rest h =
       refuted_is = subst (λ xs. IsRefutedOf xs refuted) (sym pushed) (still_refuted lists c refuted h.refuted_is);
     }
 
-pub known_refuted : (lists more : List (List ℤ)) (c : List ℤ) (search rest : Option Propagator) (refuted : Bool) → more ≡ lists ++ c ∷ [] → rest ≡ None → is_clause c ≡ true →
+pub known_refuted : (lists more : List (List ℤ)) (c : List ℤ) (search rest : Option Propagator) (refuted : Bool) → more ≡ lists ++ c ∷ []
+    → rest ≡ None → is_clause c ≡ true →
     Reaches (lists ++ c ∷ []) [] → IsKnown lists search refuted → IsKnown more rest true
 known_refuted lists more c search rest refuted pushed none clause reaches h =
     record {
@@ -55,6 +58,7 @@ known_refuted lists more c search rest refuted pushed none clause reaches h =
     }
 
 -- the propagator that is there
-pub search_at : (lists : List (List ℤ)) (search taken : Option Propagator) (it : Propagator) (refuted : Bool) → taken ≡ search → taken ≡ Some it → IsKnown lists search refuted →
+pub search_at : (lists : List (List ℤ)) (search taken : Option Propagator) (it : Propagator) (refuted : Bool) → taken ≡ search → taken ≡ Some it
+    → IsKnown lists search refuted →
     (it.clauses ≡ lists) × IsAtRest it
 search_at lists search taken it refuted is some h = subst (IsSearchOf lists) (sym is ∙ some) h.search_is

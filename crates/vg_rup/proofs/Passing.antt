@@ -1,5 +1,6 @@
 -- Passes over clauses: what is made true grows, and the clauses without a true literal become fewer.
-use Rattle.std.proofs.Common.{◌≡◌, ℕ, zero, suc, ◌+◌, ◌<◌, ◌≤◌, List, [], ◌∷◌, ◌++◌, length, take, get_or, Some, Bool, true, false, refl, sym, ap, subst, ◌∙◌, inl, inr, arith}
+use Rattle.std.proofs.Common.{◌≡◌, ℕ, zero, suc, ◌+◌, ◌<◌, ◌≤◌, List, [], ◌∷◌, ◌++◌, length, take, get_or, Some, Bool, true, false, refl, sym, ap}
+use Rattle.std.proofs.Common.{subst, ◌∙◌, inl, inr, arith}
 use Rattle.std.specs.Prelude.{ℤ, pos, negsuc, neg_ℤ, cond, not, All, Contains, slice_get, MatchBool, if◌then◌else◌}
 use Rattle.std.specs.List.{list_any}
 use Rattle.std.specs.Ordering.{int_eq}
@@ -55,7 +56,8 @@ self_negated (pos zero) e = refl
 self_negated (pos (suc n)) e = absurd (cc)
 self_negated (negsuc n) e = absurd (cc)
 
-nonzero_at : (clauses : List (List ℤ)) (at : ℕ) (c : List ℤ) → occurs clauses (pos 0) ≡ false → at < length clauses → get_or clauses at c ≡ c → holds c (pos 0) ≡ false
+nonzero_at : (clauses : List (List ℤ)) (at : ℕ) (c : List ℤ) → occurs clauses (pos 0) ≡ false → at < length clauses → get_or clauses at c ≡ c
+    → holds c (pos 0) ≡ false
 nonzero_at [] at c none h e = absurd (omega arith)
 nonzero_at (d ∷ clauses) zero c none h e =
     sym (ap (λ x. holds x (pos 0)) e) ∙ (or_parts (holds d (pos 0)) (occurs clauses (pos 0)) none).0
@@ -70,7 +72,8 @@ apart_from_negation c l no_zero held =
       | inr other ↦ other
     ]
 
-consistent_added : (made made2 c : List ℤ) (l : ℤ) → holds c (pos 0) ≡ false → IsConsistent made → IsForced made c l → SameLiterals made2 (l ∷ made) → IsConsistent made2
+consistent_added : (made made2 c : List ℤ) (l : ℤ) → holds c (pos 0) ≡ false → IsConsistent made → IsForced made c l → SameLiterals made2 (l ∷ made)
+    → IsConsistent made2
 consistent_added made made2 c l no_zero consistent forced added k e =
     added (neg_ℤ k)
     ∙ elim (or_cases (int_eq k l) (holds made k) (sym (added k) ∙ e)) [
@@ -91,13 +94,15 @@ consistent_added made made2 c l no_zero consistent forced added k e =
     ]
 
 -- a literal that a clause forces is made true
-pub Grows-forced : (clauses : List (List ℤ)) (made made2 c : List ℤ) (at : ℕ) (l : ℤ) → occurs clauses (pos 0) ≡ false → IsConsistent made → slice_get clauses at ≡ Some c →
+pub Grows-forced : (clauses : List (List ℤ)) (made made2 c : List ℤ) (at : ℕ) (l : ℤ) → occurs clauses (pos 0) ≡ false → IsConsistent made
+    → slice_get clauses at ≡ Some c →
     IsForced made c l → SameLiterals made2 (l ∷ made) → Grows clauses made made2
 Grows-forced clauses made made2 c at l nonzero consistent here forced added =
     record {
       keeps = within_added made made2 l added;
       consistent =
-          consistent_added made made2 c l (nonzero_at clauses at c nonzero (slice_get_within clauses at c here) (get_or_from_slice_get clauses at c c here)) consistent forced added;
+          consistent_added made made2 c l (nonzero_at clauses at c nonzero (slice_get_within clauses at c here)
+          (get_or_from_slice_get clauses at c c here)) consistent forced added;
       reaches =
           λ r. unit c l (found clauses at c here) forced.others_false (Reaches-more clauses made2 (l ∷ made) (λ k e. sym (added k) ∙ e) r);
     }
@@ -144,14 +149,16 @@ bit_le false false h = omega arith
 abbrev bit_of : List ℤ → List ℤ → ℕ
 bit_of made c = cond (not (list_any (holds made) c)) 1 0
 
-pub open_clauses-le : (old new : List ℤ) (clauses : List (List ℤ)) → ((k : ℤ) → holds old k ≡ true → holds new k ≡ true) → open_clauses new clauses ≤ open_clauses old clauses
+pub open_clauses-le : (old new : List ℤ) (clauses : List (List ℤ)) → ((k : ℤ) → holds old k ≡ true → holds new k ≡ true)
+    → open_clauses new clauses ≤ open_clauses old clauses
 open_clauses-le old new [] keeps = omega arith
 open_clauses-le old new (c ∷ clauses) keeps =
     let here = bit_le (list_any (holds old) c) (list_any (holds new) c) (touched_more old new c keeps) in
     let rest = open_clauses-le old new clauses keeps in
     rw (sum_by-cons (bit_of new) c clauses, sum_by-cons (bit_of old) c clauses) (omega (arith, here, rest))
 
-less_at : (old new : List ℤ) (clauses : List (List ℤ)) (at : ℕ) (c : List ℤ) → ((k : ℤ) → holds old k ≡ true → holds new k ≡ true) → at < length clauses → get_or clauses at c ≡ c →
+less_at : (old new : List ℤ) (clauses : List (List ℤ)) (at : ℕ) (c : List ℤ) → ((k : ℤ) → holds old k ≡ true → holds new k ≡ true)
+    → at < length clauses → get_or clauses at c ≡ c →
     list_any (holds old) c ≡ false → list_any (holds new) c ≡ true → open_clauses new clauses < open_clauses old clauses
 less_at old new [] at c keeps h e before after = absurd (omega arith)
 less_at old new (d ∷ clauses) zero c keeps h e before after =
@@ -165,7 +172,8 @@ less_at old new (d ∷ clauses) (suc at) c keeps h e before after =
     rw (sum_by-cons (bit_of new) d clauses, sum_by-cons (bit_of old) d clauses) (omega (arith, here, rest))
 
 -- a clause that forces a literal has a true one then
-pub open_clauses-forced : (clauses : List (List ℤ)) (made made2 c : List ℤ) (at : ℕ) (l : ℤ) → IsConsistent made → slice_get clauses at ≡ Some c → IsForced made c l →
+pub open_clauses-forced : (clauses : List (List ℤ)) (made made2 c : List ℤ) (at : ℕ) (l : ℤ) → IsConsistent made → slice_get clauses at ≡ Some c
+    → IsForced made c l →
     SameLiterals made2 (l ∷ made) → open_clauses made2 clauses < open_clauses made clauses
 open_clauses-forced clauses made made2 c at l consistent here forced added =
     less_at made made2 clauses at c (within_added made made2 l added) (slice_get_within clauses at c here) (get_or_from_slice_get clauses at c c here)
@@ -186,7 +194,8 @@ pub one_clause_more : (clauses : List (List ℤ)) (at : ℕ) (c : List ℤ) → 
 one_clause_more clauses at c here =
     take_more clauses at c (slice_get_within clauses at c here) ∙ ap (λ d. take at clauses ++ d ∷ []) (get_or_from_slice_get clauses at c c here)
 
-settled_more : (clauses : List (List ℤ)) (initial : List ℤ) (at : ℕ) (made : List ℤ) (grew : Bool) (c : List ℤ) → slice_get clauses at ≡ Some c → Settled made c →
+settled_more : (clauses : List (List ℤ)) (initial : List ℤ) (at : ℕ) (made : List ℤ) (grew : Bool) (c : List ℤ) → slice_get clauses at ≡ Some c
+    → Settled made c →
     MatchBool grew (open_clauses made clauses < open_clauses initial clauses) (All (Settled made) (take at clauses)) →
     MatchBool grew (open_clauses made clauses < open_clauses initial clauses) (All (Settled made) (take (at + 1) clauses))
 settled_more clauses initial at made true c here settled passed = passed
@@ -194,15 +203,18 @@ settled_more clauses initial at made false c here settled passed =
     subst (All (Settled made)) (sym (one_clause_more clauses at c here))
     (All-push (Settled made) (take at clauses) c passed settled)
 
-pub pass_nothing : (clauses : List (List ℤ)) (initial : List ℤ) (at : ℕ) (made : List ℤ) (grew : Bool) (c made2 : List ℤ) (grew2 : Bool) → made2 ≡ made → grew2 ≡ grew →
+pub pass_nothing : (clauses : List (List ℤ)) (initial : List ℤ) (at : ℕ) (made : List ℤ) (grew : Bool) (c made2 : List ℤ) (grew2 : Bool)
+    → made2 ≡ made → grew2 ≡ grew →
     slice_get clauses at ≡ Some c → Settled made c → PassedOver clauses initial at made grew → PassedOver clauses initial (at + 1) made2 grew2
 pass_nothing clauses initial at made grew c made2 grew2 made_is grew_is here settled before =
     subst (λ m. PassedOver clauses initial (at + 1) m grew2) (sym made_is)
     (subst (PassedOver clauses initial (at + 1) made) (sym grew_is)
     (record { grows = before.grows; passed = settled_more clauses initial at made grew c here settled before.passed }))
 
-pub pass_forced : (clauses : List (List ℤ)) (initial : List ℤ) (at : ℕ) (made : List ℤ) (grew : Bool) (c : List ℤ) (l : ℤ) (added made2 : List ℤ) (grew2 : Bool) → made2 ≡ added →
-    grew2 ≡ true → occurs clauses (pos 0) ≡ false → slice_get clauses at ≡ Some c → IsForced made c l → SameLiterals added (l ∷ made) → PassedOver clauses initial at made grew →
+pub pass_forced : (clauses : List (List ℤ)) (initial : List ℤ) (at : ℕ) (made : List ℤ) (grew : Bool) (c : List ℤ) (l : ℤ) (added made2 : List ℤ)
+    (grew2 : Bool) → made2 ≡ added →
+    grew2 ≡ true → occurs clauses (pos 0) ≡ false → slice_get clauses at ≡ Some c → IsForced made c l → SameLiterals added (l ∷ made)
+    → PassedOver clauses initial at made grew →
     PassedOver clauses initial (at + 1) made2 grew2
 pass_forced clauses initial at made grew c l added made2 grew2 made_is grew_is nonzero here forced same before =
     subst (λ m. PassedOver clauses initial (at + 1) m grew2) (sym made_is)
@@ -211,14 +223,20 @@ pass_forced clauses initial at made grew c l added made2 grew2 made_is grew_is n
       grows =
           Grows-trans clauses initial made added before.grows (Grows-forced clauses made added c at l nonzero before.grows.consistent here forced same);
       passed =
-          omega (arith, open_clauses-forced clauses made added c at l before.grows.consistent here forced same, open_clauses-le initial made clauses before.grows.keeps);
+          omega (
+            arith,
+            open_clauses-forced clauses made added c at l before.grows.consistent here forced same,
+            open_clauses-le initial made clauses before.grows.keeps,
+          );
     }))
 
-pub pass_conflict : (clauses : List (List ℤ)) (initial : List ℤ) (at : ℕ) (made : List ℤ) (grew : Bool) (c : List ℤ) → slice_get clauses at ≡ Some c → AreFalse made c →
+pub pass_conflict : (clauses : List (List ℤ)) (initial : List ℤ) (at : ℕ) (made : List ℤ) (grew : Bool) (c : List ℤ) → slice_get clauses at ≡ Some c
+    → AreFalse made c →
     PassedOver clauses initial at made grew → Reaches clauses initial
 pass_conflict clauses initial at made grew c here falses before = before.grows.reaches (conflict c (found clauses at c here) falses)
 
-pub pass_ends : (clauses : List (List ℤ)) (initial : List ℤ) (at : ℕ) (made : List ℤ) (grew : Bool) → length clauses ≤ at → PassedOver clauses initial at made grew →
+pub pass_ends : (clauses : List (List ℤ)) (initial : List ℤ) (at : ℕ) (made : List ℤ) (grew : Bool) → length clauses ≤ at
+    → PassedOver clauses initial at made grew →
     Passes clauses initial made (if grew then passes.Grew else passes.Settled)
 pass_ends clauses initial at made true h all = (all.grows, all.passed)
 pass_ends clauses initial at made false h all = (all.grows, subst (All (Settled made)) (take_all at clauses h) all.passed)

@@ -1,5 +1,6 @@
 -- A clause read literal by literal: what the part that was read forces, and one literal more.
-use Rattle.std.proofs.Common.{◌≡◌, ℕ, zero, suc, ◌+◌, ◌<◌, List, [], ◌∷◌, ◌++◌, length, take, get_or, Option, Some, None, Bool, true, false, refl, sym, ap, ◌∙◌, inl, inr, ◌⊎◌}
+use Rattle.std.proofs.Common.{◌≡◌, ℕ, zero, suc, ◌+◌, ◌<◌, List, [], ◌∷◌, ◌++◌, length, take, get_or, Option, Some, None, Bool, true, false, refl}
+use Rattle.std.proofs.Common.{sym, ap, ◌∙◌, inl, inr, ◌⊎◌}
 use Rattle.std.specs.Prelude.{ℤ, neg_ℤ, ◌||◌, cond}
 use Rattle.std.specs.Ordering.{int_eq}
 use Rattle.std.proofs.lemmas.Bool.{cases_Bool, or_cases, or_left, or_right, false≢true}
@@ -51,7 +52,8 @@ pub holds-push : (p : List ℤ) (x k : ℤ) → holds (p ++ x ∷ []) k ≡ (hol
 holds-push p x k = list_any-append (int_eq k) p (x ∷ []) ∙ ap (λ b. holds p k || b) (or_false (int_eq k x))
 
 -- what is held with one more is held before or that one
-held_more : (c : List ℤ) (i : ℕ) (x k : ℤ) → i < length c → x ≡ get_or c i x → holds (take (i + 1) c) k ≡ true → (holds (take i c) k ≡ true) ⊎ (int_eq k x ≡ true)
+held_more : (c : List ℤ) (i : ℕ) (x k : ℤ) → i < length c → x ≡ get_or c i x → holds (take (i + 1) c) k ≡ true → (holds (take i c) k ≡ true)
+    ⊎ (int_eq k x ≡ true)
 held_more c i x k h e held =
     or_cases (holds (take i c) k) (int_eq k x) (sym (ap (λ p. holds p k) (one_more c i x h e) ∙ holds-push (take i c) x k) ∙ held)
 
@@ -81,7 +83,8 @@ pub nothing_read : (made : List ℤ) → AreFalse made []
 nothing_read made k e = absurd (false≢true e)
 
 -- a false literal forces nothing more
-pub reads_false : (made c : List ℤ) (i : ℕ) (x : ℤ) (unset : Option ℤ) → i < length c → x ≡ get_or c i x → OnlyOpen made (take i c) unset → holds made (neg_ℤ x) ≡ true →
+pub reads_false : (made c : List ℤ) (i : ℕ) (x : ℤ) (unset : Option ℤ) → i < length c → x ≡ get_or c i x → OnlyOpen made (take i c) unset
+    → holds made (neg_ℤ x) ≡ true →
     OnlyOpen made (take (i + 1) c) unset
 reads_false made c i x None h e only is_false =
     λ k held.
@@ -103,7 +106,8 @@ reads_false made c i x (Some l) h e only is_false =
     }
 
 -- the first that is neither true nor false
-pub reads_open : (made c : List ℤ) (i : ℕ) (x : ℤ) → i < length c → x ≡ get_or c i x → AreFalse made (take i c) → holds made x ≡ false → holds made (neg_ℤ x) ≡ false →
+pub reads_open : (made c : List ℤ) (i : ℕ) (x : ℤ) → i < length c → x ≡ get_or c i x → AreFalse made (take i c) → holds made x ≡ false
+    → holds made (neg_ℤ x) ≡ false →
     IsForced made (take (i + 1) c) x
 reads_open made c i x h e all not_true not_false =
     record {
@@ -134,7 +138,8 @@ reads_again made c i x l h e only same =
     }
 
 -- a second one that isn't false
-pub reads_two : (made c : List ℤ) (i : ℕ) (x l : ℤ) → i < length c → x ≡ get_or c i x → IsForced made (take i c) l → int_eq l x ≡ false → holds made (neg_ℤ x) ≡ false →
+pub reads_two : (made c : List ℤ) (i : ℕ) (x l : ℤ) → i < length c → x ≡ get_or c i x → IsForced made (take i c) l → int_eq l x ≡ false
+    → holds made (neg_ℤ x) ≡ false →
     Settled made c
 reads_two made c i x l h e only apart not_false =
     by_two l x (held_take c i l only.held) (held_at c i x h e) apart only.not_false not_false
@@ -148,7 +153,8 @@ negations-push : (p : List ℤ) (x : ℤ) → negations (p ++ x ∷ []) ≡ nega
 negations-push [] x = refl
 negations-push (y ∷ p) x = ap (λ ys. neg_ℤ y ∷ ys) (negations-push p x)
 
-pub reads_negation : (made made2 c : List ℤ) (i : ℕ) (x : ℤ) → i < length c → x ≡ get_or c i x → SameLiterals made (negations (take i c)) → SameLiterals made2 (neg_ℤ x ∷ made) →
+pub reads_negation : (made made2 c : List ℤ) (i : ℕ) (x : ℤ) → i < length c → x ≡ get_or c i x → SameLiterals made (negations (take i c))
+    → SameLiterals made2 (neg_ℤ x ∷ made) →
     SameLiterals made2 (negations (take (i + 1) c))
 reads_negation made made2 c i x h e before added k =
     added k

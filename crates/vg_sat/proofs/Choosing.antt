@@ -16,7 +16,8 @@ use Rattle.vg_sat.specs.Walks.{AreValues}
 abbrev pub AreAssignedTo : List ℤ → ℕ → Type 0
 AreAssignedTo trail n = (v : ℕ) → 0 < v → v ≤ n → (holds trail (pos v) ≡ true) ⊎ (holds trail (neg_ℤ (pos v)) ≡ true)
 
-pub assigned_more : (trail : List ℤ) (n : ℕ) → (holds trail (pos (n + 1)) ≡ true) ⊎ (holds trail (neg_ℤ (pos (n + 1))) ≡ true) → AreAssignedTo trail n → AreAssignedTo trail (n + 1)
+pub assigned_more : (trail : List ℤ) (n : ℕ) → (holds trail (pos (n + 1)) ≡ true) ⊎ (holds trail (neg_ℤ (pos (n + 1))) ≡ true) → AreAssignedTo trail n
+    → AreAssignedTo trail (n + 1)
 assigned_more trail n here before v some within =
     elim (same_or_other v (n + 1)) [
       | inl last ↦ subst (λ x. (holds trail (pos x) ≡ true) ⊎ (holds trail (neg_ℤ (pos x)) ≡ true)) (sym last) here
@@ -37,7 +38,8 @@ unfalse s (negsuc n) assigned over not_false =
     ]
 
 -- a true literal has the value true
-value_true : (s : Search) (values : List Bool) (l : ℤ) → IsConsistent s.trail → AreValues s values → IsOver s.variables l → holds s.trail l ≡ true → makes_literal_true values l ≡ true
+value_true : (s : Search) (values : List Bool) (l : ℤ) → IsConsistent s.trail → AreValues s values → IsOver s.variables l → holds s.trail l ≡ true
+    → makes_literal_true values l ≡ true
 value_true s values (pos zero) consistent are over t = absurd (omega (arith, over.0))
 value_true s values (pos (suc n)) consistent are over t =
     let one : n + 1 ≡ suc n = omega arith in
@@ -54,14 +56,16 @@ clause_true values (x ∷ c) l held t =
       | inr later ↦ or_right (makes_literal_true values x) (makes_true values c) (clause_true values c l later t)
     ]
 
-settled_true : (s : Search) (values : List Bool) (c : List ℤ) → IsConsistent s.trail → AreAssigned s → AreValues s values → All (IsOver s.variables) c → Settled s.trail c → makes_true values c ≡ true
+settled_true : (s : Search) (values : List Bool) (c : List ℤ) → IsConsistent s.trail → AreAssigned s → AreValues s values → All (IsOver s.variables) c
+    → Settled s.trail c → makes_true values c ≡ true
 settled_true s values c consistent assigned are over (by_true l held t) =
     clause_true values c l held (value_true s values l consistent are (held_over s.variables c l over held) t)
 settled_true s values c consistent assigned are over (by_two k l here there apart p q) =
     let k_over = held_over s.variables c k over here in
     clause_true values c k here (value_true s values k consistent are k_over (unfalse s k assigned k_over p))
 
-pub all_true : (s : Search) (values : List Bool) (cs : List (List ℤ)) → IsConsistent s.trail → AreAssigned s → AreValues s values → All (IsClauseOver s.variables) cs → All (Settled s.trail) cs →
+pub all_true : (s : Search) (values : List Bool) (cs : List (List ℤ)) → IsConsistent s.trail → AreAssigned s → AreValues s values
+    → All (IsClauseOver s.variables) cs → All (Settled s.trail) cs →
     makes_all_true values cs ≡ true
 all_true s values [] consistent assigned are over settled = refl
 all_true s values (c ∷ cs) consistent assigned are over settled =

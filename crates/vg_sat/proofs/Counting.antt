@@ -1,5 +1,6 @@
 -- How many different clauses there are over so many variables.
-use Rattle.std.proofs.Common.{◌≡◌, ℕ, zero, suc, ◌+◌, ◌*◌, ◌^◌, ◌<◌, ◌≤◌, List, [], ◌∷◌, ◌++◌, length, get_or, map, true, false, refl, sym, ap, ◌∙◌, inl, inr, ◌⊎◌, ◌≢◌, subst, arith, eqb, eqb-true}
+use Rattle.std.proofs.Common.{◌≡◌, ℕ, zero, suc, ◌+◌, ◌*◌, ◌^◌, ◌<◌, ◌≤◌, List, [], ◌∷◌, ◌++◌, length, get_or, map, true, false, refl, sym, ap, ◌∙◌}
+use Rattle.std.proofs.Common.{inl, inr, ◌⊎◌, ◌≢◌, subst, arith, eqb, eqb-true}
 use Rattle.std.specs.Prelude.{ℤ, pos, negsuc, neg_ℤ, Bool, is_some, All, AllPairs, Contains}
 use Rattle.std.specs.List.{list_any}
 use Rattle.std.proofs.Math.Nat.{pow-suc}
@@ -81,8 +82,11 @@ held_same n c d over e l held = by l (held_over n c l over.over held) held
         ∙ ap (λ b. trit b (holds c (negsuc v))) (clause_apart c (negsuc v) over.clause held) ∙ ap (λ b. trit false b) held)
 
 same_clause : (n : ℕ) (c d : List ℤ) → IsClauseOver n c → IsClauseOver n d → number n c ≡ number n d → IsSameClause c d
-same_clause n c d over_c over_d e l =
-    (λ at. held_contains d l (held_same n c d over_c e l (contains_held c l at)), λ at. held_contains c l (held_same n d c over_d (sym e) l (contains_held d l at)))
+same_clause n c d over_c over_d e l = (
+  λ at. held_contains d l (held_same n c d over_c e l (contains_held c l at)),
+  λ at. held_contains c l
+      (held_same n d c over_d (sym e) l (contains_held d l at)),
+)
 
 -- ---- different clauses
 
@@ -97,7 +101,8 @@ numbered_below n q (c ∷ cs) e =
 pub different_few : (n : ℕ) (cs : List (List ℤ)) → All (IsClauseOver n) cs → AllPairs (λ c d. ¬ IsSameClause c d) cs → length cs ≤ 3 ^ n
 different_few n cs over apart =
     subst (λ m. m ≤ 3 ^ n) (length-map cs (number n))
-    (length-le_from_distinct_below (map (number n) cs) (3 ^ n) (IsDistinct-from_AllPairs Decides-eqb (map (number n) cs) numbers_apart) (λ q e. numbered_below n q cs e))
+    (length-le_from_distinct_below (map (number n) cs) (3 ^ n) (IsDistinct-from_AllPairs Decides-eqb (map (number n) cs) numbers_apart)
+    (λ q e. numbered_below n q cs e))
   where
     numbers_apart : AllPairs (λ x y. x ≢ y) (map (number n) cs)
     numbers_apart i j d before below e =
@@ -134,7 +139,8 @@ never_empty set steps k d spent below alike =
     let empty = empty_after given steps (empty_held steps k d below (same_as_empty (get_or steps k d) alike)) in
     true≢false (sym spent.open_end ∙ none_propagated (length (given ++ steps)) (given ++ steps) empty)
 
-pairs_cons : (c : List ℤ) (cs : List (List ℤ)) → ((k : ℕ) (d : List ℤ) → k < length cs → ¬ IsSameClause c (get_or cs k d)) → AllPairs (λ a b. ¬ IsSameClause a b) cs →
+pairs_cons : (c : List ℤ) (cs : List (List ℤ)) → ((k : ℕ) (d : List ℤ) → k < length cs → ¬ IsSameClause c (get_or cs k d))
+    → AllPairs (λ a b. ¬ IsSameClause a b) cs →
     AllPairs (λ a b. ¬ IsSameClause a b) (c ∷ cs)
 pairs_cons c cs first rest zero zero d before below = absurd (omega arith)
 pairs_cons c cs first rest zero (suc j) d before below = first j d (omega arith)
@@ -146,7 +152,8 @@ pub spent_few : (set : ClauseSet) (steps : List (List ℤ)) → IsSpent set step
 spent_few set steps spent =
     omega (
       arith,
-      different_few set.variables ([] ∷ steps) (All-cons (IsClauseOver set.variables) [] steps (record { clause = refl; over = λ k d below. absurd (omega arith) }) spent.clauses)
+      different_few set.variables ([] ∷ steps) (All-cons (IsClauseOver set.variables) [] steps
+          (record { clause = refl; over = λ k d below. absurd (omega arith) }) spent.clauses)
           (pairs_cons [] steps (λ k d below. never_empty set steps k d spent below) spent.distinct),
     )
 

@@ -1,5 +1,6 @@
 -- Decisions one after another.
-use Rattle.std.proofs.Common.{◌≡◌, ℕ, zero, suc, ◌+◌, ◌<◌, List, [], ◌∷◌, ◌++◌, length, get_or, true, false, refl, sym, ap, ◌∙◌, inl, inr, ◌⊎◌, subst, arith, length-append}
+use Rattle.std.proofs.Common.{◌≡◌, ℕ, zero, suc, ◌+◌, ◌<◌, List, [], ◌∷◌, ◌++◌, length, get_or, true, false, refl, sym, ap, ◌∙◌, inl, inr, ◌⊎◌, subst}
+use Rattle.std.proofs.Common.{arith, length-append}
 use Rattle.std.specs.Prelude.{ℤ, pos, negsuc, neg_ℤ, Bool, not, All, Option, Some, None, is_some, MatchOption, Result, Ok, Err, IfOk}
 use Rattle.std.specs.List.{list_all}
 use Rattle.std.specs.Ordering.{int_eq}
@@ -63,7 +64,8 @@ same_variables s next new l step = step.stay.0 ∙ ap (λ x. x.variables) step.d
 pub same_clauses : (s next new : Search) (l : ℤ) → Decided s next new l → new.clauses ≡ s.clauses
 same_clauses s next new l step = step.stay.1 ∙ ap (λ x. x.clauses) step.decision
 
-pub walk_on : (s next new : Search) (clause : List ℤ) (l : ℤ) → IsOver s.variables l → Decided s next new l → new.head ≡ length new.trail → All (Settled new.trail) new.clauses →
+pub walk_on : (s next new : Search) (clause : List ℤ) (l : ℤ) → IsOver s.variables l → Decided s next new l → new.head ≡ length new.trail
+    → All (Settled new.trail) new.clauses →
     Walked s clause → Walked new (neg_ℤ l ∷ clause)
 walk_on s next new clause l over step propagated settled h =
     let within = grown_within s.clauses (s.trail ++ l ∷ []) new.trail (grown_from s next new l step) in
@@ -100,16 +102,19 @@ false_clause trail c consistent falses = all_apart c (λ k held. held)
         (apart x (within x (or_left (int_eq x x) (holds some x) (same_test x x refl))))
         (all_apart some (λ k e. within k (or_right (int_eq k x) (holds some k) e)))
 
-conflict_reaches : (s next new : Search) (clause : List ℤ) (l : ℤ) (end : Option ℕ) → is_some end ≡ true → Decided s next new l → IsEnd next new end → Walked s clause →
+conflict_reaches : (s next new : Search) (clause : List ℤ) (l : ℤ) (end : Option ℕ) → is_some end ≡ true → Decided s next new l → IsEnd next new end
+    → Walked s clause →
     Reaches s.clauses (negations (neg_ℤ l ∷ clause))
 conflict_reaches s next new clause l None some step ended h = absurd (false≢true some)
 conflict_reaches s next new clause l (Some at) some step ended h =
     subst (λ cs. Reaches cs (negations (neg_ℤ l ∷ clause))) (same_clauses s next new l step)
-    (chain_conflict new.clauses new.trail new.starts (negations (neg_ℤ l ∷ clause)) (get_or new.clauses at []) step.sound.chain (decided_from s next new l clause step h.decided)
+    (chain_conflict new.clauses new.trail new.starts (negations (neg_ℤ l ∷ clause)) (get_or new.clauses at []) step.sound.chain
+    (decided_from s next new l clause step h.decided)
     (contains_at new.clauses at ended.1) ended.2)
 
 -- a clause that became false gives one to learn
-walk_conflict : (s next new : Search) (clause : List ℤ) (l : ℤ) (end : Option ℕ) → All (IsClauseOver s.variables) s.clauses → IsUndecided s l → is_some end ≡ true → Decided s next new l →
+walk_conflict : (s next new : Search) (clause : List ℤ) (l : ℤ) (end : Option ℕ) → All (IsClauseOver s.variables) s.clauses → IsUndecided s l
+    → is_some end ≡ true → Decided s next new l →
     IsEnd next new end → Walked s clause → IsLearnable s.variables s.clauses (neg_ℤ l ∷ clause)
 walk_conflict s next new clause l end all undecided some step ended h =
     let within = grown_within s.clauses (s.trail ++ l ∷ []) new.trail (grown_from s next new l step) in
@@ -120,7 +125,8 @@ walk_conflict s next new clause l end all undecided some step ended h =
     record {
       over = record { clause = is_one; over = All-cons (IsOver s.variables) (neg_ℤ l) clause (over_negated s.variables l undecided.over) h.over };
       some = omega arith;
-      follows_it = reaches-follows s.clauses (neg_ℤ l ∷ clause) (over-nonzero s.variables s.clauses all) is_one (conflict_reaches s next new clause l end some step ended h);
+      follows_it = reaches-follows s.clauses (neg_ℤ l ∷ clause) (over-nonzero s.variables s.clauses all) is_one
+          (conflict_reaches s next new clause l end some step ended h);
       first =
           record {
             made = s.trail;
@@ -137,16 +143,19 @@ walk_conflict s next new clause l end all undecided some step ended h =
     }
 
 -- where a decision led: to a state with no false clause, or to a clause to learn
-pub walk_step : (s next new : Search) (clause : List ℤ) (l : ℤ) (end : Option ℕ) → All (IsClauseOver s.variables) s.clauses → IsUndecided s l → Decided s next new l → IsEnd next new end →
+pub walk_step : (s next new : Search) (clause : List ℤ) (l : ℤ) (end : Option ℕ) → All (IsClauseOver s.variables) s.clauses → IsUndecided s l
+    → Decided s next new l → IsEnd next new end →
     Walked s clause → MatchOption end (Walked new (neg_ℤ l ∷ clause)) (λ at. IsLearnable s.variables s.clauses (neg_ℤ l ∷ clause))
 walk_step s next new clause l None all undecided step ended h = walk_on s next new clause l undecided.over step ended.0 ended.1 h
 walk_step s next new clause l (Some at) all undecided step ended h = walk_conflict s next new clause l (Some at) all undecided refl step ended h
 
-pub walk_led : {E : Type 0} (result : Result (Option ℕ) E) (s next new : Search) (clause items : List ℤ) (l : ℤ) → All (IsClauseOver s.variables) s.clauses → IsUndecided s l →
+pub walk_led : {E : Type 0} (result : Result (Option ℕ) E) (s next new : Search) (clause items : List ℤ) (l : ℤ)
+    → All (IsClauseOver s.variables) s.clauses → IsUndecided s l →
     items ≡ neg_ℤ l ∷ clause → Decided s next new l → IfOk result (IsEnd next new) → Walked s clause →
     IfOk result (λ end. MatchOption end (Walked new items) (λ at. IsLearnable s.variables s.clauses items))
 walk_led (Ok end) s next new clause items l all undecided is step ended h =
-    subst (λ xs. MatchOption end (Walked new xs) (λ at. IsLearnable s.variables s.clauses xs)) (sym is) (walk_step s next new clause l end all undecided step ended h)
+    subst (λ xs. MatchOption end (Walked new xs) (λ at. IsLearnable s.variables s.clauses xs)) (sym is)
+    (walk_step s next new clause l end all undecided step ended h)
 walk_led (Err e) s next new clause items l all undecided is step ended h = tt
 
 pub led_on : (end : Option ℕ) (P : Type 0) (Q : ℕ → Type 0) → is_some end ≡ false → MatchOption end P Q → P
@@ -157,7 +166,8 @@ pub led_here : (end : Option ℕ) (P : Type 0) (Q : Type 0) → is_some end ≡ 
 led_here None P Q some h = absurd (false≢true some)
 led_here (Some at) P Q some h = h
 
-pub led_so : (end : Option ℕ) (P more : Type 0) (Q other : Type 0) → is_some end ≡ true → (Q → other) → MatchOption end P (λ at. Q) → MatchOption end more (λ at. other)
+pub led_so : (end : Option ℕ) (P more : Type 0) (Q other : Type 0) → is_some end ≡ true → (Q → other) → MatchOption end P (λ at. Q)
+    → MatchOption end more (λ at. other)
 led_so None P more Q other some so h = absurd (false≢true some)
 led_so (Some at) P more Q other some so h = so h
 
@@ -173,19 +183,24 @@ going_starts s items walked = record { variables = refl; clauses = refl; walked 
 pub going_at : (start s t : Search) (items more : List ℤ) → s ≡ t → items ≡ more → Going start t more → Going start s items
 going_at start s t items more is_t is_more h = subst (λ x. Going start x items) (sym is_t) (subst (Going start t) (sym is_more) h)
 
-pub going_on : (start s new : Search) (items more : List ℤ) (end : Option ℕ) (Q : ℕ → Type 0) → is_some end ≡ false → (new.variables ≡ s.variables) × (new.clauses ≡ s.clauses) →
+pub going_on : (start s new : Search) (items more : List ℤ) (end : Option ℕ) (Q : ℕ → Type 0) → is_some end ≡ false → (new.variables ≡ s.variables)
+    × (new.clauses ≡ s.clauses) →
     MatchOption end (Walked new more) Q → Going start s items → Going start new more
 going_on start s new items more end Q none alike led h =
     record { variables = alike.0 ∙ h.variables; clauses = alike.1 ∙ h.clauses; walked = led_on end (Walked new more) Q none led }
 
-pub going_learnable : (start s : Search) (items clause : List ℤ) → Going start s items → IsLearnable s.variables s.clauses clause → IsLearnable start.variables start.clauses clause
-going_learnable start s items clause h learnable = subst (λ n. IsLearnable n start.clauses clause) h.variables (subst (λ cs. IsLearnable s.variables cs clause) h.clauses learnable)
+pub going_learnable : (start s : Search) (items clause : List ℤ) → Going start s items → IsLearnable s.variables s.clauses clause
+    → IsLearnable start.variables start.clauses clause
+going_learnable start s items clause h learnable = subst (λ n. IsLearnable n start.clauses clause) h.variables
+    (subst (λ cs. IsLearnable s.variables cs clause) h.clauses learnable)
 
-pub learnable_there : (s new : Search) (clause : List ℤ) → (new.variables ≡ s.variables) × (new.clauses ≡ s.clauses) → IsLearnable s.variables s.clauses clause → IsLearnable new.variables new.clauses clause
+pub learnable_there : (s new : Search) (clause : List ℤ) → (new.variables ≡ s.variables) × (new.clauses ≡ s.clauses)
+    → IsLearnable s.variables s.clauses clause → IsLearnable new.variables new.clauses clause
 learnable_there s new clause alike learnable =
     subst (λ n. IsLearnable n new.clauses clause) (sym alike.0) (subst (λ cs. IsLearnable s.variables cs clause) (sym alike.1) learnable)
 
-pub going_ends : (start s new : Search) (items more : List ℤ) (end : Option ℕ) (P rest : Type 0) → is_some end ≡ true → MatchOption end P (λ at. IsLearnable s.variables s.clauses more) →
+pub going_ends : (start s new : Search) (items more : List ℤ) (end : Option ℕ) (P rest : Type 0) → is_some end ≡ true
+    → MatchOption end P (λ at. IsLearnable s.variables s.clauses more) →
     0 < length new.starts → Going start s items → MatchOption end rest (λ at. IsLearnable start.variables start.clauses more × (0 < length new.starts))
 going_ends start s new items more end P rest some led level h =
     led_so end P rest (IsLearnable s.variables s.clauses more) (IsLearnable start.variables start.clauses more × (0 < length new.starts)) some
@@ -208,7 +223,8 @@ walk_longer s next new l step =
 
 -- ---- variables that are true or false
 
-pub assigned_decided : (trail more : List ℤ) (l : ℤ) (n : ℕ) → l ≡ neg_ℤ (pos (n + 1)) → AreWithin trail more → holds more l ≡ true → AreAssignedTo trail n → AreAssignedTo more (n + 1)
+pub assigned_decided : (trail more : List ℤ) (l : ℤ) (n : ℕ) → l ≡ neg_ℤ (pos (n + 1)) → AreWithin trail more → holds more l ≡ true
+    → AreAssignedTo trail n → AreAssignedTo more (n + 1)
 assigned_decided trail more l n is within here before =
     assigned_more more n (inr (ap (holds more) (sym is) ∙ here))
     (λ v some inside.
@@ -217,7 +233,8 @@ assigned_decided trail more l n is within here before =
       | inr f ↦ inr (within (neg_ℤ (pos v)) f)
     ])
 
-pub assigned_found : (trail : List ℤ) (l : ℤ) (n : ℕ) → l ≡ neg_ℤ (pos (n + 1)) → (holds trail l ≡ true) ⊎ (holds trail (neg_ℤ l) ≡ true) → AreAssignedTo trail n → AreAssignedTo trail (n + 1)
+pub assigned_found : (trail : List ℤ) (l : ℤ) (n : ℕ) → l ≡ neg_ℤ (pos (n + 1)) → (holds trail l ≡ true) ⊎ (holds trail (neg_ℤ l) ≡ true)
+    → AreAssignedTo trail n → AreAssignedTo trail (n + 1)
 assigned_found trail l n is found before =
     assigned_more trail n
     (elim found [
@@ -227,7 +244,8 @@ assigned_found trail l n is found before =
     before
 
 -- all variables decided, and no clause false
-pub walk_model : (start s : Search) (clause : List ℤ) (values : List Bool) → s.variables ≡ start.variables → s.clauses ≡ start.clauses → All (IsClauseOver start.variables) start.clauses →
+pub walk_model : (start s : Search) (clause : List ℤ) (values : List Bool) → s.variables ≡ start.variables → s.clauses ≡ start.clauses
+    → All (IsClauseOver start.variables) start.clauses →
     AreAssigned s → AreValues s values → Walked s clause → IsModel values (record { variables = start.variables; clauses = start.clauses })
 walk_model start s clause values variables clauses all assigned are h =
     record {

@@ -21,7 +21,8 @@ pub record Loading (set : ClauseSet) (s : Search) (at : ℕ) : Type 0 where
 pub one_more : (cs : List (List ℤ)) (at : ℕ) (c : List ℤ) → slice_get cs at ≡ Some c → take (at + 1) cs ≡ take at cs ++ c ∷ []
 one_more cs at c here = take_more cs at c (slice_get_within cs at c here) ∙ ap (λ d. take at cs ++ d ∷ []) (get_or_from_slice_get cs at c c here)
 
-pub loading_on : (set : ClauseSet) (s new : Search) (at : ℕ) (c : List ℤ) → slice_get set.clauses at ≡ Some c → new.variables ≡ s.variables → new.clauses ≡ s.clauses ++ c ∷ [] → IsAtRest new →
+pub loading_on : (set : ClauseSet) (s new : Search) (at : ℕ) (c : List ℤ) → slice_get set.clauses at ≡ Some c → new.variables ≡ s.variables
+    → new.clauses ≡ s.clauses ++ c ∷ [] → IsAtRest new →
     IsSome (propagated new.clauses) → Loading set s at → Loading set new (at + 1)
 loading_on set s new at c here variables clauses rest undecided h =
     record {
@@ -35,7 +36,8 @@ reaches_more : (cs ds : List (List ℤ)) (made : List ℤ) → Reaches cs made �
 reaches_more cs ds made (conflict c at falses) = conflict c (found_before cs ds c at) falses
 reaches_more cs ds made (unit c l at falses rest) = unit c l (found_before cs ds c at) falses (reaches_more cs ds (l ∷ made) rest)
 
-pub loading_refuted : (set : ClauseSet) (s : Search) (at : ℕ) (c : List ℤ) → slice_get set.clauses at ≡ Some c → Reaches (s.clauses ++ c ∷ []) [] → Loading set s at → Reaches set.clauses []
+pub loading_refuted : (set : ClauseSet) (s : Search) (at : ℕ) (c : List ℤ) → slice_get set.clauses at ≡ Some c → Reaches (s.clauses ++ c ∷ []) []
+    → Loading set s at → Reaches set.clauses []
 loading_refuted set s at c here reaches h =
     let first : Reaches (take (at + 1) set.clauses) [] =
     subst (λ cs. Reaches cs []) (ap (λ cs. cs ++ c ∷ []) h.clauses ∙ sym (one_more set.clauses at c here)) reaches in

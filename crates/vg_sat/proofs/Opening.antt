@@ -51,13 +51,15 @@ open_left v cs c all over unfollowed =
       | inl none ↦ clash (follows cs c) (and_from (is_clause c) (is_none (propagated (falsified c ++ cs))) over.clause (ap is_none none)) unfollowed
       | inr some ↦
           let settles =
-          propagated-settles (length (falsified c ++ cs)) (falsified c ++ cs) some.0 (omega arith) (falsified_nonzero c cs (clause-nonzero c over.clause) (over-nonzero v cs all)) some.1 in
+          propagated-settles (length (falsified c ++ cs)) (falsified c ++ cs) some.0 (omega arith)
+          (falsified_nonzero c cs (clause-nonzero c over.clause) (over-nonzero v cs all)) some.1 in
           let parts = falsified_settled some.0 c cs settles.1 in
           record { made = some.0; consistent = settles.0; settled = parts.1; falses = parts.0 }
     ]
 
 -- with a clause that follows, each clause of more literals does
-pub follows_more : (v : ℕ) (cs : List (List ℤ)) (few many : List ℤ) → All (IsClauseOver v) cs → AreWithin few many → IsClauseOver v many → follows cs few ≡ true → follows cs many ≡ true
+pub follows_more : (v : ℕ) (cs : List (List ℤ)) (few many : List ℤ) → All (IsClauseOver v) cs → AreWithin few many → IsClauseOver v many
+    → follows cs few ≡ true → follows cs many ≡ true
 follows_more v cs few many all within over few_follows =
     elim (cases_Bool (follows cs many)) [
       | inl followed ↦ followed

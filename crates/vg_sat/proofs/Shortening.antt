@@ -1,5 +1,6 @@
 -- Clauses made shorter.
-use Rattle.std.proofs.Common.{◌≡◌, ℕ, ◌<◌, ◌≤◌, List, [], ◌∷◌, ◌++◌, length, get_or, take, drop, true, false, refl, sym, ap, ◌∙◌, inl, inr, subst, arith, append_assoc}
+use Rattle.std.proofs.Common.{◌≡◌, ℕ, ◌<◌, ◌≤◌, List, [], ◌∷◌, ◌++◌, length, get_or, take, drop, true, false, refl, sym, ap, ◌∙◌, inl, inr, subst}
+use Rattle.std.proofs.Common.{arith, append_assoc}
 use Rattle.std.specs.Prelude.{ℤ, pos, neg_ℤ, not, All}
 use Rattle.std.specs.List.{list_all}
 use Rattle.std.specs.Ordering.{int_eq}
@@ -59,13 +60,15 @@ leaves_fewer cs part c within h =
 turned : (some front back : List ℤ) → AreWithin ((some ++ back) ++ front) (some ++ (front ++ back))
 turned some front back =
     both_within (some ++ back) front (some ++ (front ++ back))
-    (both_within some back (some ++ (front ++ back)) (left_within some (front ++ back)) (λ k e. right_within some (front ++ back) k (right_within front back k e)))
+    (both_within some back (some ++ (front ++ back)) (left_within some (front ++ back)) (λ k e. right_within some (front ++ back) k
+    (right_within front back k e)))
     (λ k e. right_within some (front ++ back) k (left_within front back k e))
 
 turned_back : (some front back : List ℤ) → AreWithin (some ++ (front ++ back)) ((some ++ back) ++ front)
 turned_back some front back =
     both_within some (front ++ back) ((some ++ back) ++ front) (λ k e. left_within (some ++ back) front k (left_within some back k e))
-    (both_within front back ((some ++ back) ++ front) (right_within (some ++ back) front) (λ k e. left_within (some ++ back) front k (right_within some back k e)))
+    (both_within front back ((some ++ back) ++ front) (right_within (some ++ back) front) (λ k e. left_within (some ++ back) front k
+    (right_within some back k e)))
 
 swapped : (some back few : List ℤ) → AreWithin ((some ++ back) ++ few) ((some ++ few) ++ back)
 swapped some back few k e = ap (λ xs. holds xs k) (append_assoc some few back) ∙ turned some few back k e
@@ -73,7 +76,8 @@ swapped some back few k e = ap (λ xs. holds xs k) (append_assoc some few back) 
 fewer : (some few front back : List ℤ) → AreWithin few front → AreWithin ((some ++ few) ++ back) (some ++ (front ++ back))
 fewer some few front back within =
     both_within (some ++ few) back (some ++ (front ++ back))
-    (both_within some few (some ++ (front ++ back)) (left_within some (front ++ back)) (λ k e. right_within some (front ++ back) k (left_within front back k (within k e))))
+    (both_within some few (some ++ (front ++ back)) (left_within some (front ++ back)) (λ k e. right_within some (front ++ back) k
+    (left_within front back k (within k e))))
     (λ k e. right_within some (front ++ back) k (right_within front back k e))
 
 -- without one literal of two lists
@@ -124,7 +128,8 @@ one_reduced cs some (x ∷ []) short open_some follows_it =
           leaves_fewer cs (some ++ without k (x ∷ [])) some
           (both_within some (without k (x ∷ [])) some (λ l e. e)
           (λ l e.
-          clash (holds (without k (x ∷ [])) k) (ap (holds (without k (x ∷ []))) (only k x held ∙ sym (only l x (without-from k l (x ∷ []) e))) ∙ e) (without-gone k (x ∷ []))))
+          clash (holds (without k (x ∷ [])) k) (ap (holds (without k (x ∷ []))) (only k x held ∙ sym (only l x (without-from k l (x ∷ []) e))) ∙ e)
+          (without-gone k (x ∷ []))))
           open_some;
     }
   where
@@ -144,7 +149,8 @@ none_reduced cs some follows_it = record { follows_it = ap (follows cs) (append-
 pub front_over : (v : ℕ) (some front back : List ℤ) → IsClauseOver v (some ++ (front ++ back)) → IsClauseOver v ((some ++ back) ++ front)
 front_over v some front back over = part_over v ((some ++ back) ++ front) (some ++ (front ++ back)) (turned some front back) over
 
-pub front_follows : (v : ℕ) (cs : List (List ℤ)) (some front back : List ℤ) → All (IsClauseOver v) cs → IsClauseOver v (some ++ (front ++ back)) → follows cs (some ++ (front ++ back)) ≡ true →
+pub front_follows : (v : ℕ) (cs : List (List ℤ)) (some front back : List ℤ) → All (IsClauseOver v) cs → IsClauseOver v (some ++ (front ++ back))
+    → follows cs (some ++ (front ++ back)) ≡ true →
     follows cs ((some ++ back) ++ front) ≡ true
 front_follows v cs some front back all over follows_it =
     follows_more v cs (some ++ (front ++ back)) ((some ++ back) ++ front) all (turned_back some front back) (front_over v some front back over) follows_it
@@ -152,12 +158,14 @@ front_follows v cs some front back all over follows_it =
 pub back_over : (v : ℕ) (some front back few : List ℤ) → AreWithin few front → IsClauseOver v (some ++ (front ++ back)) → IsClauseOver v ((some ++ few) ++ back)
 back_over v some front back few within over = part_over v ((some ++ few) ++ back) (some ++ (front ++ back)) (fewer some few front back within) over
 
-pub back_follows : (v : ℕ) (cs : List (List ℤ)) (some front back few : List ℤ) → All (IsClauseOver v) cs → AreWithin few front → IsClauseOver v (some ++ (front ++ back)) →
+pub back_follows : (v : ℕ) (cs : List (List ℤ)) (some front back few : List ℤ) → All (IsClauseOver v) cs → AreWithin few front
+    → IsClauseOver v (some ++ (front ++ back)) →
     IsReduced cs (some ++ back) few → follows cs ((some ++ few) ++ back) ≡ true
 back_follows v cs some front back few all within over h =
     follows_more v cs ((some ++ back) ++ few) ((some ++ few) ++ back) all (swapped some back few) (back_over v some front back few within over) h.follows_it
 
-pub halves_reduced : (cs : List (List ℤ)) (some back few more : List ℤ) → AreWithin more back → IsReduced cs (some ++ back) few → IsReduced cs (some ++ few) more → IsReduced cs some (few ++ more)
+pub halves_reduced : (cs : List (List ℤ)) (some back few more : List ℤ) → AreWithin more back → IsReduced cs (some ++ back) few
+    → IsReduced cs (some ++ few) more → IsReduced cs some (few ++ more)
 halves_reduced cs some back few more within front_half back_half =
     record {
       follows_it = ap (follows cs) (sym (append_assoc some few more)) ∙ back_half.follows_it;
@@ -179,7 +187,8 @@ halves_reduced cs some back few more within front_half back_half =
 
     beside_back : (k : ℤ) → AreWithin (some ++ without k (few ++ more)) ((some ++ back) ++ without k few)
     beside_back k =
-        both_within some (without k (few ++ more)) ((some ++ back) ++ without k few) (λ l e. left_within (some ++ back) (without k few) l (left_within some back l e))
+        both_within some (without k (few ++ more)) ((some ++ back) ++ without k few) (λ l e. left_within (some ++ back) (without k few) l
+        (left_within some back l e))
         (λ l e.
         elim (cases_Bool (holds (without k few) l)) [
           | inl of_few ↦ right_within (some ++ back) (without k few) l of_few
@@ -188,7 +197,8 @@ halves_reduced cs some back few more within front_half back_half =
         ])
 
 -- the first literal of the clause stays
-pub first_kept : (v : ℕ) (cs : List (List ℤ)) (clause front others few kept : List ℤ) → clause ≡ front ++ others → length front ≡ 1 → kept ≡ front ++ few → AreWithin few others →
+pub first_kept : (v : ℕ) (cs : List (List ℤ)) (clause front others few kept : List ℤ) → clause ≡ front ++ others → length front ≡ 1 → kept ≡ front
+    ++ few → AreWithin few others →
     IsLearnable v cs clause → IsReduced cs front few → IsLearned v cs kept
 first_kept v cs clause [] others few kept parts one is within learnable h = absurd (omega (arith, one))
 first_kept v cs clause (x ∷ y ∷ front) others few kept parts one is within learnable h = absurd (omega (arith, one))
@@ -207,7 +217,8 @@ first_kept v cs clause (x ∷ []) others few kept parts one is within learnable 
                   settled = learnable.first.settled;
                   others =
                       λ k held other.
-                      learnable.first.others k (ap (λ xs. holds xs k) parts ∙ first_within k held) (subst (λ f. int_eq k f ≡ false) (sym (ap first_of parts)) other);
+                      learnable.first.others k (ap (λ xs. holds xs k) parts ∙ first_within k held)
+                      (subst (λ f. int_eq k f ≡ false) (sym (ap first_of parts)) other);
                   unmade = ap (holds learnable.first.made) (sym (ap first_of parts)) ∙ learnable.first.unmade;
                 };
           };

@@ -1,5 +1,6 @@
 -- Learned clauses, one by one.
-use Rattle.std.proofs.Common.{◌≡◌, ℕ, zero, suc, ◌+◌, ◌<◌, List, [], ◌∷◌, ◌++◌, length, get_or, true, false, refl, sym, ap, ◌∙◌, inl, inr, subst, arith, length-append, append_assoc}
+use Rattle.std.proofs.Common.{◌≡◌, ℕ, zero, suc, ◌+◌, ◌<◌, List, [], ◌∷◌, ◌++◌, length, get_or, true, false, refl, sym, ap, ◌∙◌, inl, inr, subst}
+use Rattle.std.proofs.Common.{arith, length-append, append_assoc}
 use Rattle.std.specs.Prelude.{ℤ, pos, neg_ℤ, Option, Some, None, IsSome, IfSome, is_some, All, Any, AllPairs, Contains}
 use Rattle.std.specs.Ordering.{int_eq}
 use Rattle.std.proofs.lemmas.Bool.{cases_Bool, or_cases, false≢true, true≢false}
@@ -47,7 +48,8 @@ leaves_some : (cs : List (List ℤ)) (c : List ℤ) → LeavesOpen cs c → IsSo
 leaves_some cs c h =
     ap is_some (settled-propagated (length (falsified c ++ cs)) h.made (falsified c ++ cs) h.consistent (settled-falsified h.made c cs h.falses h.settled)).1
 
-without_falses : (c : List ℤ) (l : ℤ) (made : List ℤ) → ((k : ℤ) → holds c k ≡ true → int_eq k l ≡ false → holds made (neg_ℤ k) ≡ true) → AreWithin (negations (without l c)) made
+without_falses : (c : List ℤ) (l : ℤ) (made : List ℤ) → ((k : ℤ) → holds c k ≡ true → int_eq k l ≡ false → holds made (neg_ℤ k) ≡ true)
+    → AreWithin (negations (without l c)) made
 without_falses c l made others k e =
     let held : holds (without l c) (neg_ℤ k) ≡ true = sym (holds-negations (without l c) k) ∙ e in
     ap (holds made) (sym (neg_ℤ-neg_ℤ k))
@@ -68,15 +70,18 @@ each_leaves v cs c k h held =
       | inr other ↦ h.needed k held other
     ]
 
-unmade_some : (result : Option (List ℤ)) (literals made : List ℤ) (l : ℤ) → result ≡ Some literals → ((k : ℤ) → holds literals k ≡ true → holds made k ≡ true) → holds made l ≡ false →
+unmade_some : (result : Option (List ℤ)) (literals made : List ℤ) (l : ℤ) → result ≡ Some literals
+    → ((k : ℤ) → holds literals k ≡ true → holds made k ≡ true) → holds made l ≡ false →
     IfSome result (λ ls. ¬ Contains ls l)
 unmade_some result literals made l e within unmade =
     subst (λ r. IfSome r (λ ls. ¬ Contains ls l)) (sym e) (λ at. true≢false (sym (within l (contains_held literals l at)) ∙ unmade))
 
-first_unmade : (cs : List (List ℤ)) (c : List ℤ) → LeavesFirst cs c → IfSome (propagated (falsified (without (first_of c) c) ++ cs)) (λ ls. ¬ Contains ls (first_of c))
+first_unmade : (cs : List (List ℤ)) (c : List ℤ) → LeavesFirst cs c → IfSome (propagated (falsified (without (first_of c) c) ++ cs))
+    (λ ls. ¬ Contains ls (first_of c))
 first_unmade cs c h =
     let all = falsified (without (first_of c) c) ++ cs in
-    let ends = settled-propagated (length all) h.made all h.consistent (settled-falsified h.made (without (first_of c) c) cs (without_falses c (first_of c) h.made h.others) h.settled) in
+    let ends = settled-propagated (length all) h.made all h.consistent (settled-falsified h.made (without (first_of c) c) cs
+    (without_falses c (first_of c) h.made h.others) h.settled) in
     unmade_some (propagated all) ends.0 h.made (first_of c) ends.1 ends.2 h.unmade
 
 pub learned_new : (v : ℕ) (cs : List (List ℤ)) (c : List ℤ) → IsLearned v cs c → IsNew cs c
@@ -115,7 +120,8 @@ learned_other v cs c d h at within =
 
 -- ---- clauses that follow in turn
 
-pub unfollowed_pushed : (given steps : List (List ℤ)) (c : List ℤ) → first_unfollowed given steps ≡ None → follows (given ++ steps) c ≡ true → first_unfollowed given (steps ++ c ∷ []) ≡ None
+pub unfollowed_pushed : (given steps : List (List ℤ)) (c : List ℤ) → first_unfollowed given steps ≡ None → follows (given ++ steps) c ≡ true
+    → first_unfollowed given (steps ++ c ∷ []) ≡ None
 unfollowed_pushed given [] c before here =
     unfollowed-later given c [] (ap (λ cs. follows cs c) (sym (append-nil given)) ∙ here)
 unfollowed_pushed given (d ∷ steps) c before here =
@@ -155,7 +161,8 @@ pub record Spending (set : ClauseSet) (s : Search) (learned : List (List ℤ)) (
   pub each_follows : first_unfollowed set.clauses learned ≡ None
   pub each_new : AreNewInTurn set.clauses learned
 
-pub spending_starts : (set : ClauseSet) (s : Search) (learned : List (List ℤ)) → learned ≡ [] → s.variables ≡ set.variables → s.clauses ≡ set.clauses → IsAtRest s →
+pub spending_starts : (set : ClauseSet) (s : Search) (learned : List (List ℤ)) → learned ≡ [] → s.variables ≡ set.variables → s.clauses ≡ set.clauses
+    → IsAtRest s →
     All (IsClauseOver set.variables) set.clauses → IsSome (propagated set.clauses) → Spending set s learned 0
 spending_starts set s learned none variables clauses rest over undecided =
     subst (λ (xs : List (List ℤ)). Spending set s xs 0) (sym none)
@@ -184,7 +191,8 @@ found_after cs ds d at =
     let sum : length (cs ++ ds) ≡ length cs + length ds = length-append cs ds in
     (length cs + at.0, omega (arith, at.1, sum), get_or-append-add cs ds at.0 d ∙ at.2)
 
-pub spending_on : (set : ClauseSet) (s new : Search) (learned : List (List ℤ)) (n : ℕ) (c : List ℤ) → IsLearned s.variables s.clauses c → new.variables ≡ s.variables →
+pub spending_on : (set : ClauseSet) (s new : Search) (learned : List (List ℤ)) (n : ℕ) (c : List ℤ) → IsLearned s.variables s.clauses c
+    → new.variables ≡ s.variables →
     new.clauses ≡ s.clauses ++ c ∷ [] → IsAtRest new → IsSome (propagated new.clauses) → Spending set s learned n → Spending set new (learned ++ c ∷ []) (n + 1)
 spending_on set s new learned n c is_learned variables clauses rest undecided h =
     let whole : new.clauses ≡ set.clauses ++ (learned ++ c ∷ []) = clauses ∙ ap (λ cs. cs ++ c ∷ []) h.clauses ∙ append_assoc set.clauses learned (c ∷ []) in
@@ -194,13 +202,15 @@ spending_on set s new learned n c is_learned variables clauses rest undecided h 
       variables = variables ∙ h.variables;
       clauses = whole;
       rest = rest;
-      over = subst (All (IsClauseOver set.variables)) (append_assoc set.clauses learned (c ∷ [])) (All-push (IsClauseOver set.variables) (set.clauses ++ learned) c h.over over_c);
+      over = subst (All (IsClauseOver set.variables)) (append_assoc set.clauses learned (c ∷ []))
+          (All-push (IsClauseOver set.variables) (set.clauses ++ learned) c h.over over_c);
       undecided = subst (λ cs. IsSome (propagated cs)) whole undecided;
       count = omega (arith, length-append learned (c ∷ []), h.count);
       learned_over = All-push (IsClauseOver set.variables) learned c h.learned_over over_c;
       distinct =
           all_pairs_push (λ a b. ¬ IsSameClause a b) learned c h.distinct
-          (λ k d inside alike. learned_other s.variables (set.clauses ++ learned) c (get_or learned k d) at_s (found_after set.clauses learned (get_or learned k d) (contains_at_get learned k d inside)) (λ l. (alike l).0));
+          (λ k d inside alike. learned_other s.variables (set.clauses ++ learned) c (get_or learned k d) at_s
+          (found_after set.clauses learned (get_or learned k d) (contains_at_get learned k d inside)) (λ l. (alike l).0));
       none_given =
           All-push (λ a. ¬ Any (IsSameClause a) set.clauses) learned c h.none_given
           (λ any.
@@ -231,7 +241,8 @@ refuted_at_once v cs steps is over reaches =
     subst (λ (xs : List (List ℤ)). IsRefutation cs xs) (sym is)
     (record { each_follows = ap is_some (unfollowed-later cs [] [] (empty_follows v cs over reaches)); ends = refl })
 
-pub spending_refuted : (set : ClauseSet) (s : Search) (learned : List (List ℤ)) (n : ℕ) (c : List ℤ) (steps : List (List ℤ)) → steps ≡ (learned ++ c ∷ []) ++ [] ∷ [] →
+pub spending_refuted : (set : ClauseSet) (s : Search) (learned : List (List ℤ)) (n : ℕ) (c : List ℤ) (steps : List (List ℤ))
+    → steps ≡ (learned ++ c ∷ []) ++ [] ∷ [] →
     IsLearned s.variables s.clauses c → Reaches (s.clauses ++ c ∷ []) [] → Spending set s learned n → IsRefutation set.clauses steps
 spending_refuted set s learned n c steps is is_learned reaches h =
     let at_s : IsLearned s.variables (set.clauses ++ learned) c = subst (λ cs. IsLearned s.variables cs c) h.clauses is_learned in
@@ -250,20 +261,27 @@ spending_refuted set s learned n c steps is is_learned reaches h =
 
 -- ---- as the loop meets them
 
-learned_at : (s mid : Search) (c : List ℤ) → (mid.variables ≡ s.variables) × (mid.clauses ≡ s.clauses) → IsLearned mid.variables mid.clauses c → IsLearned s.variables s.clauses c
+learned_at : (s mid : Search) (c : List ℤ) → (mid.variables ≡ s.variables) × (mid.clauses ≡ s.clauses) → IsLearned mid.variables mid.clauses c
+    → IsLearned s.variables s.clauses c
 learned_at s mid c alike h = subst (λ v. IsLearned v s.clauses c) alike.0 (subst (λ cs. IsLearned mid.variables cs c) alike.1 h)
 
-pub spending_step : (set : ClauseSet) (s mid short new : Search) (learned pushed : List (List ℤ)) (n : ℕ) (c d e : List ℤ) → d ≡ c → e ≡ c → IsLearned mid.variables mid.clauses c →
-    (mid.variables ≡ s.variables) × (mid.clauses ≡ s.clauses) → (short.variables ≡ mid.variables) × (short.clauses ≡ mid.clauses) → new.variables ≡ short.variables →
-    IsAtRest new × (new.clauses ≡ short.clauses ++ e ∷ []) → IsSome (propagated new.clauses) → pushed ≡ learned ++ d ∷ [] → Spending set s learned n → Spending set new pushed (n + 1)
+pub spending_step : (set : ClauseSet) (s mid short new : Search) (learned pushed : List (List ℤ)) (n : ℕ) (c d e : List ℤ) → d ≡ c → e ≡ c
+    → IsLearned mid.variables mid.clauses c →
+    (mid.variables ≡ s.variables) × (mid.clauses ≡ s.clauses) → (short.variables ≡ mid.variables) × (short.clauses ≡ mid.clauses)
+    → new.variables ≡ short.variables →
+    IsAtRest new × (new.clauses ≡ short.clauses ++ e ∷ []) → IsSome (propagated new.clauses) → pushed ≡ learned ++ d ∷ [] → Spending set s learned n
+    → Spending set new pushed (n + 1)
 spending_step set s mid short new learned pushed n c d e d_is e_is is_learned first second variables added undecided pushed_is h =
     let clauses : new.clauses ≡ s.clauses ++ c ∷ [] = added.1 ∙ ap (λ cs. cs ++ e ∷ []) (second.1 ∙ first.1) ∙ ap (λ x. s.clauses ++ x ∷ []) e_is in
     subst (λ xs. Spending set new xs (n + 1)) (sym (pushed_is ∙ ap (λ x. learned ++ x ∷ []) d_is))
     (spending_on set s new learned n c (learned_at s mid c first is_learned) (variables ∙ second.0 ∙ first.0) clauses added.0 undecided h)
 
-pub spending_ended : (set : ClauseSet) (s mid short : Search) (learned pushed steps : List (List ℤ)) (n : ℕ) (c d e : List ℤ) → d ≡ c → e ≡ c → IsLearned mid.variables mid.clauses c →
-    (mid.variables ≡ s.variables) × (mid.clauses ≡ s.clauses) → (short.variables ≡ mid.variables) × (short.clauses ≡ mid.clauses) → Reaches (short.clauses ++ e ∷ []) [] →
+pub spending_ended : (set : ClauseSet) (s mid short : Search) (learned pushed steps : List (List ℤ)) (n : ℕ) (c d e : List ℤ) → d ≡ c → e ≡ c
+    → IsLearned mid.variables mid.clauses c →
+    (mid.variables ≡ s.variables) × (mid.clauses ≡ s.clauses) → (short.variables ≡ mid.variables) × (short.clauses ≡ mid.clauses)
+    → Reaches (short.clauses ++ e ∷ []) [] →
     pushed ≡ learned ++ d ∷ [] → steps ≡ pushed ++ [] ∷ [] → Spending set s learned n → IsRefutation set.clauses steps
 spending_ended set s mid short learned pushed steps n c d e d_is e_is is_learned first second reaches pushed_is steps_is h =
-    spending_refuted set s learned n c steps (steps_is ∙ ap (λ xs. xs ++ [] ∷ []) (pushed_is ∙ ap (λ x. learned ++ x ∷ []) d_is)) (learned_at s mid c first is_learned)
+    spending_refuted set s learned n c steps (steps_is ∙ ap (λ xs. xs ++ [] ∷ []) (pushed_is ∙ ap (λ x. learned ++ x ∷ []) d_is))
+    (learned_at s mid c first is_learned)
     (subst (λ cs. Reaches (cs ++ c ∷ []) []) (second.1 ∙ first.1) (subst (λ x. Reaches (short.clauses ++ x ∷ []) []) e_is reaches)) h

@@ -53,4 +53,5 @@ AreNeededBeside s others list few =
 -- the same with no others
 abbrev pub AreNeeded : Search → List ℤ → List ℤ → Type 0
 AreNeeded s list few =
-    (assumed : List ℤ) → Assumes s assumed → IsClauseOver s.variables (assumed ++ list) → follows s.clauses (assumed ++ list) ≡ true → IsReduced s.clauses assumed few
+    (assumed : List ℤ) → Assumes s assumed → IsClauseOver s.variables (assumed ++ list) → follows s.clauses (assumed ++ list) ≡ true
+    → IsReduced s.clauses assumed few

@@ -1,4 +1,5 @@
-// Which variable is decided next, and how: that of the highest activity (Moskewicz, Madigan, Zhao, Zhang and Malik: Chaff, 2001), with the value that it had last.
+// Which variable is decided next, and how: that of the highest activity (Moskewicz, Madigan, Zhao, Zhang and Malik: Chaff, 2001), with the value that
+// it had last.
 
 ghost use Rattle.std.specs.Prelude.{◌<◌, IfSome, length};
 ghost use Rattle.vg_sat.specs.Choices.{IsUndecided};

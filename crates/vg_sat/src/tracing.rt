@@ -1,4 +1,5 @@
-// Conflicts traced back to the first literal of the last level that alone, with literals of the levels before, leads to them (Marques-Silva and Sakallah: GRASP, 1996).
+// Conflicts traced back to the first literal of the last level that alone, with literals of the levels before, leads to them (Marques-Silva and
+// Sakallah: GRASP, 1996).
 
 ghost use Rattle.std.specs.Prelude.{◌<◌, length};
 

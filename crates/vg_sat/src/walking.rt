@@ -55,7 +55,8 @@ fn decide_each(
 ) -> Result<Option<usize>, AllocError>
     requires { Walked search.old clause.old.items }
     ensures same { IsOk result → (search.new.variables ≡ search.old.variables) × (search.new.clauses ≡ search.old.clauses) }
-    ensures led { IfOk result (λ end. MatchOption end (Walked search.new clause.new.items × AreAssigned search.new) (λ at. IsLearnable search.old.variables search.old.clauses clause.new.items × (0 < length search.new.starts))) }
+    ensures led { IfOk result (λ end. MatchOption end (Walked search.new clause.new.items × AreAssigned search.new)
+        (λ at. IsLearnable search.old.variables search.old.clauses clause.new.items × (0 < length search.new.starts))) }
 {
     let conflict = decide_in_order(search, order, clause)?;
     if conflict.is_some() {
@@ -72,7 +73,8 @@ fn decide_in_order(
 ) -> Result<Option<usize>, AllocError>
     requires { Walked search.old clause.old.items }
     ensures same { IsOk result → (search.new.variables ≡ search.old.variables) × (search.new.clauses ≡ search.old.clauses) }
-    ensures led { IfOk result (λ end. MatchOption end (Walked search.new clause.new.items) (λ at. IsLearnable search.old.variables search.old.clauses clause.new.items × (0 < length search.new.starts))) }
+    ensures led { IfOk result (λ end. MatchOption end (Walked search.new clause.new.items)
+        (λ at. IsLearnable search.old.variables search.old.clauses clause.new.items × (0 < length search.new.starts))) }
 {
     for _turn in 0..search.variables() {
         let Some(decision) = order.next(search) else {
@@ -90,7 +92,8 @@ fn decide_in_order(
 fn decide_rest(search: &mut Propagator, clause: &mut Vec<Lit>) -> Result<Option<usize>, AllocError>
     requires { Walked search.old clause.old.items }
     ensures same { IsOk result → (search.new.variables ≡ search.old.variables) × (search.new.clauses ≡ search.old.clauses) }
-    ensures led { IfOk result (λ end. MatchOption end (Walked search.new clause.new.items × AreAssigned search.new) (λ at. IsLearnable search.old.variables search.old.clauses clause.new.items × (0 < length search.new.starts))) }
+    ensures led { IfOk result (λ end. MatchOption end (Walked search.new clause.new.items × AreAssigned search.new)
+        (λ at. IsLearnable search.old.variables search.old.clauses clause.new.items × (0 < length search.new.starts))) }
 {
     for before in 0..search.variables() {
         let decision = Lit::of_variable(before + 1).negated();
@@ -140,7 +143,8 @@ fn decide(
     requires undecided { IsUndecided search.old decision }
     requires walked { Walked search.old clause.old.items }
     ensures same { IsOk result → (search.new.variables ≡ search.old.variables) × (search.new.clauses ≡ search.old.clauses) }
-    ensures led { IfOk result (λ end. MatchOption end (Walked search.new clause.new.items) (λ at. IsLearnable search.old.variables search.old.clauses clause.new.items)) }
+    ensures led { IfOk result (λ end. MatchOption end (Walked search.new clause.new.items)
+        (λ at. IsLearnable search.old.variables search.old.clauses clause.new.items)) }
     ensures level { IsOk result → 0 < length search.new.starts }
     ensures kept { IsOk result → AreWithin search.old.trail search.new.trail }
     ensures decided { IsOk result → holds search.new.trail decision ≡ true }

@@ -14,7 +14,8 @@ use Rattle.vg_simp.specs.Knowing.{IsApart, IsOther, IsTold}
 use Rattle.vg_simp.specs.declared.range.Range.{Range}
 use Rattle.vg_simp.proofs.Telling.{literal, op_value}
 
-pub lower_within : (terms : List Term) (facts : List TermId) (low high : TermId) (by : ℕ) (x y r : Range) → IsApart terms facts low by high → IsWithin terms facts low x → IsWithin terms facts high y → r.low ≡ x.low → r.high ≡ y.high - by → IsWithin terms facts low r
+pub lower_within : (terms : List Term) (facts : List TermId) (low high : TermId) (by : ℕ) (x y r : Range) → IsApart terms facts low by high
+    → IsWithin terms facts low x → IsWithin terms facts high y → r.low ≡ x.low → r.high ≡ y.high - by → IsWithin terms facts low r
 lower_within terms facts low high by x y r apart first second e f = record {
   value = λ ws assigns all.
       let a = first.value ws assigns all in
@@ -23,7 +24,8 @@ lower_within terms facts low high by x y r apart first second e f = record {
       record { least = omega (arith, e, a.least); most = omega (arith, f, gap, b.most) };
 }
 
-pub upper_within : (terms : List Term) (facts : List TermId) (low high : TermId) (by : ℕ) (x y r : Range) → IsApart terms facts low by high → IsWithin terms facts low x → IsWithin terms facts high y → r.low ≡ x.low + by → r.high ≡ y.high → IsWithin terms facts high r
+pub upper_within : (terms : List Term) (facts : List TermId) (low high : TermId) (by : ℕ) (x y r : Range) → IsApart terms facts low by high
+    → IsWithin terms facts low x → IsWithin terms facts high y → r.low ≡ x.low + by → r.high ≡ y.high → IsWithin terms facts high r
 upper_within terms facts low high by x y r apart first second e f = record {
   value = λ ws assigns all.
       let a = first.value ws assigns all in
@@ -32,7 +34,8 @@ upper_within terms facts low high by x y r apart first second e f = record {
       record { least = omega (arith, e, gap, a.least); most = omega (arith, f, b.most) };
 }
 
-pub above_within : (terms : List Term) (facts : List TermId) (a b : TermId) (x y r : Range) → IsOther terms facts a b → IsWithin terms facts a x → IsWithin terms facts b y → y.high ≤ y.low → x.low ≡ y.low → r.low ≡ x.low + 1 → r.high ≡ x.high → IsWithin terms facts a r
+pub above_within : (terms : List Term) (facts : List TermId) (a b : TermId) (x y r : Range) → IsOther terms facts a b → IsWithin terms facts a x
+    → IsWithin terms facts b y → y.high ≤ y.low → x.low ≡ y.low → r.low ≡ x.low + 1 → r.high ≡ x.high → IsWithin terms facts a r
 above_within terms facts a b x y r other first second point is e f = record {
   value = λ ws assigns all.
       let m = first.value ws assigns all in
@@ -46,7 +49,8 @@ above_within terms facts a b x y r other first second point is e f = record {
       };
 }
 
-pub below_within : (terms : List Term) (facts : List TermId) (a b : TermId) (x y r : Range) → IsOther terms facts a b → IsWithin terms facts a x → IsWithin terms facts b y → y.high ≤ y.low → x.high ≡ y.low → r.low ≡ x.low → r.high ≡ x.high - 1 → IsWithin terms facts a r
+pub below_within : (terms : List Term) (facts : List TermId) (a b : TermId) (x y r : Range) → IsOther terms facts a b → IsWithin terms facts a x
+    → IsWithin terms facts b y → y.high ≤ y.low → x.high ≡ y.low → r.low ≡ x.low → r.high ≡ x.high - 1 → IsWithin terms facts a r
 below_within terms facts a b x y r other first second point is e f = record {
   value = λ ws assigns all.
       let m = first.value ws assigns all in
@@ -85,13 +89,22 @@ other_value m n e is =
 
 module _ {terms : List Term} (made : AreTerms terms) (facts : List TermId) (id a b : TermId) (w : ℕ) where
   pub less_apart : slice_get terms id.0 ≡ Some (nodes.Op ops.Ult (kinds.Two a b), w) → IsTold terms facts (literal id true) → IsApart terms facts a 1 b
-  less_apart here told = record { each = λ ws assigns all. less_value (value_of terms ws a) (value_of terms ws b) (sym (op_value made id ops.Ult (kinds.Two a b) w here ws) ∙ told.value ws assigns all) }
+  less_apart here told = record {
+    each = λ ws assigns all. less_value (value_of terms ws a) (value_of terms ws b)
+        (sym (op_value made id ops.Ult (kinds.Two a b) w here ws) ∙ told.value ws assigns all);
+  }
 
   pub most_apart : slice_get terms id.0 ≡ Some (nodes.Op ops.Ult (kinds.Two a b), w) → IsTold terms facts (literal id false) → IsApart terms facts b 0 a
-  most_apart here told = record { each = λ ws assigns all. most_value (value_of terms ws a) (value_of terms ws b) (sym (op_value made id ops.Ult (kinds.Two a b) w here ws) ∙ told.value ws assigns all) }
+  most_apart here told = record {
+    each = λ ws assigns all. most_value (value_of terms ws a) (value_of terms ws b)
+        (sym (op_value made id ops.Ult (kinds.Two a b) w here ws) ∙ told.value ws assigns all);
+  }
 
   pub apart_other : slice_get terms id.0 ≡ Some (nodes.Op ops.Eq (kinds.Two a b), w) → IsTold terms facts (literal id false) → IsOther terms facts a b
-  apart_other here told = record { each = λ ws assigns all. other_value (value_of terms ws a) (value_of terms ws b) (sym (op_value made id ops.Eq (kinds.Two a b) w here ws) ∙ told.value ws assigns all) }
+  apart_other here told = record {
+    each = λ ws assigns all. other_value (value_of terms ws a) (value_of terms ws b)
+        (sym (op_value made id ops.Eq (kinds.Two a b) w here ws) ∙ told.value ws assigns all);
+  }
 
 pub other_back : (terms : List Term) (facts : List TermId) (a b : TermId) → IsOther terms facts a b → IsOther terms facts b a
 other_back terms facts a b other = record { each = λ ws assigns all e. other.each ws assigns all (sym e) }

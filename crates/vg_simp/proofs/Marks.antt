@@ -1,5 +1,6 @@
 -- Marks that go down.
-use Rattle.std.proofs.Common.{◌≡◌, ℕ, suc, ◌+◌, ◌<◌, ◌≤◌, List, [], ◌∷◌, length, set, get_or, replicate, Bool, true, false, cond, ◌⊎◌, refl, sym, ap, subst, ◌∙◌, inl, inr, arith, All, Contains, Some, None, slice_get, Option}
+use Rattle.std.proofs.Common.{◌≡◌, ℕ, suc, ◌+◌, ◌<◌, ◌≤◌, List, [], ◌∷◌, length, set, get_or, replicate, Bool, true, false, cond, ◌⊎◌, refl, sym, ap}
+use Rattle.std.proofs.Common.{subst, ◌∙◌, inl, inr, arith, All, Contains, Some, None, slice_get, Option}
 use Rattle.std.proofs.lemmas.Bool.{cases_Bool, cases_lt, false≢true}
 use Rattle.std.proofs.lemmas.Bool.Decides.{eqb_tells}
 use Rattle.std.proofs.lemmas.List.{length-set, get_or-set_other, get_or_past, length-replicate}
@@ -24,8 +25,11 @@ parts_before made id (Some (nodes.Op op parts, w)) e = (is_made made id.0 op par
 pub parts_below : {terms : List Term} → AreTerms terms → (id : TermId) → All (λ (part : TermId). part.0 < id.0) (parts_at terms id)
 parts_below {terms} made id = parts_before made id (slice_get terms id.0) refl
 
-pub parts_within : {terms : List Term} → AreTerms terms → (id : TermId) (n : ℕ) (parts : List TermId) → id.0 < n → parts ≡ parts_at terms id → All (λ (part : TermId). part.0 < n) parts
-parts_within {terms} made id n parts h is = subst (All (Below n)) (sym is) (All-weaker (Below id.0) (Below n) (λ part below. omega (arith, below, h)) (parts_at terms id) (parts_below made id))
+pub parts_within : {terms : List Term} → AreTerms terms → (id : TermId) (n : ℕ) (parts : List TermId) → id.0 < n → parts ≡ parts_at terms id
+    → All (λ (part : TermId). part.0 < n) parts
+parts_within {terms} made id n parts h is =
+    subst (All (Below n)) (sym is) (All-weaker (Below id.0) (Below n) (λ part below. omega (arith, below, h)) (parts_at terms id)
+    (parts_below made id))
 
 -- ---- what more marks leave
 
@@ -46,10 +50,12 @@ set_kept marks at id h m =
 set_within : (marks : List Bool) (at : ℕ) (ids : List TermId) → All (Below (length marks)) ids → All (Below (length (set marks at true))) ids
 set_within marks at ids all = subst (λ n. All (Below n) ids) (sym (length-set marks at true)) all
 
-marked_kept : (marks : List Bool) (ids : List TermId) (id : TermId) → All (Below (length marks)) ids → is_marked marks id ≡ true → is_marked (marked marks ids) id ≡ true
+marked_kept : (marks : List Bool) (ids : List TermId) (id : TermId) → All (Below (length marks)) ids → is_marked marks id ≡ true
+    → is_marked (marked marks ids) id ≡ true
 marked_kept marks [] id all m = m
 marked_kept marks (x ∷ ids) id all m =
-    marked_kept (set marks x.0 true) ids id (set_within marks x.0 ids (All-tail (Below (length marks)) x ids all)) (set_kept marks x.0 id (All-head (Below (length marks)) x ids all) m)
+    marked_kept (set marks x.0 true) ids id (set_within marks x.0 ids (All-tail (Below (length marks)) x ids all))
+    (set_kept marks x.0 id (All-head (Below (length marks)) x ids all) m)
 
 marked_made : (marks : List Bool) (ids : List TermId) → All (Below (length marks)) ids → All (λ id. is_marked (marked marks ids) id ≡ true) ids
 marked_made marks [] all = All-nil (λ id. is_marked marks id ≡ true)
@@ -82,20 +88,25 @@ le_from m n h = elim (cases_lt m n) [ inl less ↦ absurd (h less) | inr more �
 
 -- ---- going down
 
-pub marks_start : (terms : List Term) (goal : TermId) (marks : List Bool) → marks ≡ set (replicate (goal.0 + 1) false) goal.0 true → AreMarks terms goal (goal.0 + 1) marks
+pub marks_start : (terms : List Term) (goal : TermId) (marks : List Bool) → marks ≡ set (replicate (goal.0 + 1) false) goal.0 true
+    → AreMarks terms goal (goal.0 + 1) marks
 marks_start terms goal marks is =
     let none : List Bool = replicate (goal.0 + 1) false in
     let long : length none ≡ goal.0 + 1 = length-replicate (goal.0 + 1) false in
     subst (AreMarks terms goal (goal.0 + 1)) (sym is) (record {
       long = length-set none goal.0 true ∙ long;
       start = get_or-set_at none goal.0 goal.0 true false refl (omega (arith, long));
-      closed = λ id past m. absurd (false≢true (sym (get_or_past (set none goal.0 true) id.0 false (omega (arith, long, length-set none goal.0 true, le_from id.0 (goal.0 + 1) past))) ∙ m));
+      closed = λ id past m. absurd (false≢true
+          (sym (get_or_past (set none goal.0 true) id.0 false (omega (arith, long, length-set none goal.0 true, le_from id.0 (goal.0 + 1) past)))
+          ∙ m));
     })
 
-pub marks_more : {terms : List Term} → AreTerms terms → (goal id : TermId) (high : ℕ) (old new : List Bool) → high ≡ id.0 + 1 → id.0 < goal.0 + 1 → AreMarks terms goal high old →
+pub marks_more : {terms : List Term} → AreTerms terms → (goal id : TermId) (high : ℕ) (old new : List Bool) → high ≡ id.0 + 1 → id.0 < goal.0 + 1
+    → AreMarks terms goal high old →
     new ≡ cond (is_marked old id) (marked old (parts_at terms id)) old → AreMarks terms goal id.0 new
 marks_more {terms} made goal id high old new e h marks is =
-    let within : All (Below (length old)) (parts_at terms id) = All-weaker (Below id.0) (Below (length old)) (λ part below. omega (arith, below, h, marks.long)) (parts_at terms id) (parts_below made id) in
+    let within : All (Below (length old)) (parts_at terms id) = All-weaker (Below id.0) (Below (length old))
+    (λ part below. omega (arith, below, h, marks.long)) (parts_at terms id) (parts_below made id) in
     elim (cases_Bool (is_marked old id)) [
       | inl is_one ↦
           let new_is : new ≡ marked old (parts_at terms id) = is ∙ ap (λ b. cond b (marked old (parts_at terms id)) old) is_one in
@@ -105,9 +116,11 @@ marks_more {terms} made goal id high old new e h marks is =
             closed = λ x past m.
                 elim (marked_from old (parts_at terms id) x m) [
                   | inl before ↦ elim (eqb_tells x.0 id.0) [
-                    | inl here ↦ subst (λ y. All (λ part. is_marked (marked old (parts_at terms id)) part ≡ true) (parts_at terms y)) (same_id id x (sym here.1)) (marked_made old (parts_at terms id) within)
+                    | inl here ↦ subst (λ y. All (λ part. is_marked (marked old (parts_at terms id)) part ≡ true) (parts_at terms y))
+                        (same_id id x (sym here.1)) (marked_made old (parts_at terms id) within)
                     | inr other ↦
-                        All-weaker (λ part. is_marked old part ≡ true) (λ part. is_marked (marked old (parts_at terms id)) part ≡ true) (λ part m. marked_kept old (parts_at terms id) part within m)
+                        All-weaker (λ part. is_marked old part ≡ true) (λ part. is_marked (marked old (parts_at terms id)) part ≡ true)
+                        (λ part m. marked_kept old (parts_at terms id) part within m)
                         (parts_at terms x) (marks.closed x (λ lower. past (omega (arith, lower, e, other.1))) before)
                   ]
                   | inr there ↦ absurd (past (All-contains (Below id.0) (parts_at terms id) x (parts_below made id) there))

@@ -13,7 +13,13 @@ pub whole_each : (width : ℕ) (r : Range) → r.low ≡ 0 → r.high ≡ words.
 whole_each width r low high = record { each = λ n below. record { least = omega (arith, low); most = omega (arith, high, below) } }
 
 pub meet_each : (x y r : Range) → r.low ≡ max x.low y.low → r.high ≡ min x.high y.high → IsMeet x y r
-meet_each x y r low high = record { each = λ n first second. record { least = omega (arith, low, first.least, second.least); most = omega (arith, high, first.most, second.most) } }
+meet_each x y r low high = record {
+  each = λ n first second. record {
+    least = omega (arith, low, first.least, second.least);
+    most =
+        omega (arith, high, first.most, second.most);
+  };
+}
 
 pub meet_first : (x y : Range) → IsMeet x y x
 meet_first x y = record { each = λ n first second. first }
@@ -37,19 +43,26 @@ wrapped_once p s le below =
 add_wrapped : (w m n : ℕ) → 2 ^ w ≤ m + n → m < 2 ^ w → n < 2 ^ w → words.add w m n ≡ m + n - 2 ^ w
 add_wrapped w m n le first second = wrapped_once (2 ^ w) (m + n) le (omega (arith, first, second))
 
-pub sum_plain : (w mask : ℕ) (x y r : Range) → mask ≡ words.all_ones w → x.high ≤ mask → y.high ≤ mask - x.high → r.low ≡ x.low + y.low → r.high ≡ x.high + y.high → Covers (words.add w) x y r
+pub sum_plain : (w mask : ℕ) (x y r : Range) → mask ≡ words.all_ones w → x.high ≤ mask → y.high ≤ mask - x.high → r.low ≡ x.low + y.low
+    → r.high ≡ x.high + y.high → Covers (words.add w) x y r
 sum_plain w mask x y r is first second low high = record {
   each = λ m n a b.
       let e : words.add w m n ≡ m + n = add_plain w m n (omega (arith, is, first, second, a.most, b.most, pow_pos w)) in
       record { least = omega (arith, e, low, a.least, b.least); most = omega (arith, e, high, a.most, b.most) };
 }
 
-pub sum_wrapped : (w mask : ℕ) (x y r : Range) → mask ≡ words.all_ones w → x.high ≤ mask → y.high ≤ mask → mask - x.low < y.low → r.low ≡ y.low - (mask - x.low) - 1 → r.high ≡ y.high - (mask - x.high) - 1 → Covers (words.add w) x y r
+pub sum_wrapped : (w mask : ℕ) (x y r : Range) → mask ≡ words.all_ones w → x.high ≤ mask → y.high ≤ mask → mask - x.low < y.low
+    → r.low ≡ y.low - (mask - x.low) - 1 → r.high ≡ y.high - (mask - x.high) - 1 → Covers (words.add w) x y r
 sum_wrapped w mask x y r is first second past low high = record {
   each = λ m n a b.
       let e : words.add w m n ≡ m + n - 2 ^ w =
-      add_wrapped w m n (omega (arith, is, first, second, past, a.least, b.least, a.most, b.most, pow_pos w)) (omega (arith, is, first, a.most, pow_pos w)) (omega (arith, is, second, b.most, pow_pos w)) in
-      record { least = omega (arith, e, is, low, past, first, second, a.least, b.least, a.most, b.most, x.ordered, y.ordered, pow_pos w); most = omega (arith, e, is, high, past, first, second, a.least, b.least, a.most, b.most, x.ordered, y.ordered, pow_pos w) };
+      add_wrapped w m n (omega (arith, is, first, second, past, a.least, b.least, a.most, b.most, pow_pos w))
+      (omega (arith, is, first, a.most, pow_pos w)) (omega (arith, is, second, b.most, pow_pos w)) in
+      record {
+        least = omega (arith, e, is, low, past, first, second, a.least, b.least, a.most, b.most, x.ordered, y.ordered, pow_pos w);
+        most =
+            omega (arith, e, is, high, past, first, second, a.least, b.least, a.most, b.most, x.ordered, y.ordered, pow_pos w);
+      };
 }
 
 sub_plain : (w m n : ℕ) → n ≤ m → m < 2 ^ w → words.sub w m n ≡ m - n
@@ -58,7 +71,8 @@ sub_plain w m n le below =
     ∙ wrapped_once (2 ^ w) (m + (2 ^ w - n)) (omega (arith, le, below)) (omega (arith, le, below))
     ∙ (let e : m + (2 ^ w - n) - 2 ^ w ≡ m - n = omega (arith, le, below) in e)
 
-pub difference_plain : (w mask : ℕ) (x y r : Range) → mask ≡ words.all_ones w → x.high ≤ mask → y.high ≤ x.low → r.low ≡ x.low - y.high → r.high ≡ x.high - y.low → Covers (words.sub w) x y r
+pub difference_plain : (w mask : ℕ) (x y r : Range) → mask ≡ words.all_ones w → x.high ≤ mask → y.high ≤ x.low → r.low ≡ x.low - y.high
+    → r.high ≡ x.high - y.low → Covers (words.sub w) x y r
 difference_plain w mask x y r is first second low high = record {
   each = λ m n a b.
       let e : words.sub w m n ≡ m - n = sub_plain w m n (omega (arith, second, a.least, b.most)) (omega (arith, is, first, a.most, pow_pos w)) in
@@ -67,7 +81,8 @@ difference_plain w mask x y r is first second low high = record {
 
 -- ---- products, masks and remainders
 
-pub product_plain : (w mask : ℕ) (x y r : Range) → mask ≡ words.all_ones w → r.low ≡ x.low * y.low → r.high ≡ x.high * y.high → r.high ≤ mask → Covers (words.mul w) x y r
+pub product_plain : (w mask : ℕ) (x y r : Range) → mask ≡ words.all_ones w → r.low ≡ x.low * y.low → r.high ≡ x.high * y.high → r.high ≤ mask
+    → Covers (words.mul w) x y r
 product_plain w mask x y r is low high most = record {
   each = λ m n a b.
       let top : m * n ≤ x.high * y.high = mul-le-mul a.most b.most in

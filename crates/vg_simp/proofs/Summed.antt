@@ -33,7 +33,8 @@ sum base word = record { base = base; word = word }
 
 -- ---- numbers
 
-pub widened_plain : (range : Range) (narrow wide : Word) (room mask : ℕ) → narrow.width ≤ wide.width → mask ≡ words.all_ones narrow.width → room ≡ mask - narrow.value → range.high ≤ room → wide.value ≡ narrow.value → IsWidened range narrow wide
+pub widened_plain : (range : Range) (narrow wide : Word) (room mask : ℕ) → narrow.width ≤ wide.width → mask ≡ words.all_ones narrow.width
+    → room ≡ mask - narrow.value → range.high ≤ room → wide.value ≡ narrow.value → IsWidened range narrow wide
 widened_plain range narrow wide room mask wider ones is high same = record {
   each = λ n below inside.
       let p : 2 ^ narrow.width ≤ 2 ^ wide.width = pow_mono wider in
@@ -41,16 +42,20 @@ widened_plain range narrow wide room mask wider ones is high same = record {
       add_plain narrow.width n narrow.value small ∙ ap (λ v. n + v) (sym same) ∙ sym (add_plain wide.width n wide.value (omega (arith, small, same, p)));
 }
 
-pub widened_wrapped : (range : Range) (narrow wide : Word) (room mask ones : ℕ) → narrow.width ≤ wide.width → mask ≡ words.all_ones narrow.width → room ≡ mask - narrow.value → room < range.low → ones ≡ words.all_ones wide.width → wide.value ≡ ones - room → IsWidened range narrow wide
+pub widened_wrapped : (range : Range) (narrow wide : Word) (room mask ones : ℕ) → narrow.width ≤ wide.width → mask ≡ words.all_ones narrow.width
+    → room ≡ mask - narrow.value → room < range.low → ones ≡ words.all_ones wide.width → wide.value ≡ ones - room → IsWidened range narrow wide
 widened_wrapped range narrow wide room mask ones wider mask_is is low ones_is value = record {
   each = λ n below inside.
       let p : 2 ^ narrow.width ≤ 2 ^ wide.width = pow_mono wider in
       let some = pow_pos wide.width in
       let left : words.add narrow.width n narrow.value ≡ n + narrow.value - 2 ^ narrow.width =
-      wrapped_once (2 ^ narrow.width) (n + narrow.value) (omega (arith, inside.least, low, is, mask_is, narrow.in_range)) (omega (arith, below, narrow.in_range)) in
+      wrapped_once (2 ^ narrow.width) (n + narrow.value) (omega (arith, inside.least, low, is, mask_is, narrow.in_range))
+      (omega (arith, below, narrow.in_range)) in
       let right : words.add wide.width n wide.value ≡ n + wide.value - 2 ^ wide.width =
-      wrapped_once (2 ^ wide.width) (n + wide.value) (omega (arith, inside.least, low, is, mask_is, ones_is, value, narrow.in_range, p, some)) (omega (arith, below, is, mask_is, ones_is, value, narrow.in_range, p, some)) in
-      left ∙ (let e : n + narrow.value - 2 ^ narrow.width ≡ n + wide.value - 2 ^ wide.width = omega (arith, inside.least, low, is, mask_is, ones_is, value, narrow.in_range, below, p, some) in e) ∙ sym right;
+      wrapped_once (2 ^ wide.width) (n + wide.value) (omega (arith, inside.least, low, is, mask_is, ones_is, value, narrow.in_range, p, some))
+      (omega (arith, below, is, mask_is, ones_is, value, narrow.in_range, p, some)) in
+      left ∙ (let e : n + narrow.value - 2 ^ narrow.width ≡ n + wide.value - 2 ^ wide.width =
+      omega (arith, inside.least, low, is, mask_is, ones_is, value, narrow.in_range, below, p, some) in e) ∙ sym right;
 }
 
 -- adding what was reduced
@@ -94,7 +99,8 @@ module _ {terms : List Term} (made : AreTerms terms) (id a b : TermId) (w : ℕ)
         stands = left_stands made id ops.Add (kinds.Two a b) w here a b refl;
         width = wide;
         word_width = wb ∙ wide;
-        value = λ ws assigns. op_value made id ops.Add (kinds.Two a b) w here ws ∙ (λ j. words.add (sym wb j) (value_of terms ws a) (word_value terms b word is ws j));
+        value = λ ws assigns. op_value made id ops.Add (kinds.Two a b) w here ws
+            ∙ (λ j. words.add (sym wb j) (value_of terms ws a) (word_value terms b word is ws j));
       }
 
   pub sum_left : slice_get terms id.0 ≡ Some (nodes.Op ops.Add (kinds.Two a b), w) → IsWord terms a word → IsSum terms id (sum b word)
@@ -107,10 +113,12 @@ module _ {terms : List Term} (made : AreTerms terms) (id a b : TermId) (w : ℕ)
         width = sym m.fits ∙ wide;
         word_width = wa ∙ wide;
         value = λ ws assigns.
-            op_value made id ops.Add (kinds.Two a b) w here ws ∙ (λ j. words.add (sym wa j) (word_value terms a word is ws j) (value_of terms ws b)) ∙ add_swapped word.width word.value (value_of terms ws b);
+            op_value made id ops.Add (kinds.Two a b) w here ws ∙ (λ j. words.add (sym wa j) (word_value terms a word is ws j) (value_of terms ws b))
+            ∙ add_swapped word.width word.value (value_of terms ws b);
       }
 
-  pub sum_less : slice_get terms id.0 ≡ Some (nodes.Op ops.Sub (kinds.Two a b), w) → IsWord terms b word → (turned : Word) → turned.width ≡ word.width → turned.value ≡ words.sub word.width 0 word.value → IsSum terms id (sum a turned)
+  pub sum_less : slice_get terms id.0 ≡ Some (nodes.Op ops.Sub (kinds.Two a b), w) → IsWord terms b word → (turned : Word) → turned.width ≡ word.width
+      → turned.value ≡ words.sub word.width 0 word.value → IsSum terms id (sum a turned)
   sum_less here is turned same value =
       let m = is_made made id.0 ops.Sub (kinds.Two a b) w here in
       let wide : width_at terms a ≡ width_at terms id = sym (ap width_in here ∙ m.width) in
@@ -129,7 +137,8 @@ module _ {terms : List Term} (made : AreTerms terms) (id a b : TermId) (w : ℕ)
 pub sum_itself : (terms : List Term) (s : Sum) → Stands terms s.base → width_at terms s.base ≡ s.word.width → IsSumAs terms s s
 sum_itself terms s stands width = record { stands = stands; width = width; word_width = refl; value = λ ws assigns. refl }
 
-pub sum_flattened : (terms : List Term) (s inner : Sum) (word : Word) → width_at terms s.base ≡ s.word.width → IsSum terms s.base inner → word.width ≡ inner.word.width → word.value ≡ words.add inner.word.width inner.word.value s.word.value → IsSumAs terms s (sum inner.base word)
+pub sum_flattened : (terms : List Term) (s inner : Sum) (word : Word) → width_at terms s.base ≡ s.word.width → IsSum terms s.base inner
+    → word.width ≡ inner.word.width → word.value ≡ words.add inner.word.width inner.word.value s.word.value → IsSumAs terms s (sum inner.base word)
 sum_flattened terms s inner word width is same value =
     let k : inner.word.width ≡ s.word.width = is.word_width ∙ width in
     record {
@@ -142,7 +151,8 @@ sum_flattened terms s inner word width is same value =
           ∙ (λ j. words.add (sym same j) (value_of terms ws inner.base) (sym value j));
     }
 
-pub sum_wide : (terms : List Term) (facts : List TermId) (id : TermId) (s other : Sum) → IsSum terms id s → IsSumAs terms s other → IsWideSum terms facts id other
+pub sum_wide : (terms : List Term) (facts : List TermId) (id : TermId) (s other : Sum) → IsSum terms id s → IsSumAs terms s other
+    → IsWideSum terms facts id other
 sum_wide terms facts id s other is flat = record {
   stands = flat.stands;
   width = omega (arith, flat.width);
@@ -150,7 +160,9 @@ sum_wide terms facts id s other is flat = record {
   value = λ ws assigns all. is.value ws assigns ∙ flat.value ws assigns;
 }
 
-pub zext_wide : {terms : List Term} → AreTerms terms → (facts : List TermId) (id part : TermId) (wide w : ℕ) (s : Sum) (range : Range) (word : Word) → slice_get terms id.0 ≡ Some (nodes.Op (ops.Zext wide) (kinds.One part), w) → Stands terms part → IsSum terms part s → IsWithin terms facts s.base range →
+pub zext_wide : {terms : List Term} → AreTerms terms → (facts : List TermId) (id part : TermId) (wide w : ℕ) (s : Sum) (range : Range) (word : Word)
+    → slice_get terms id.0 ≡ Some (nodes.Op (ops.Zext wide) (kinds.One part), w) → Stands terms part → IsSum terms part s
+    → IsWithin terms facts s.base range →
     word.width ≡ width_at terms id → IsWidened range s.word word → IsWideSum terms facts id (sum s.base word)
 zext_wide {terms} made facts id part wide w s range word here there is within same widened =
     let m = is_made made id.0 (ops.Zext wide) (kinds.One part) w here in
@@ -163,17 +175,20 @@ zext_wide {terms} made facts id part wide w s range word here there is within sa
       value = λ ws assigns all.
           op_value made id (ops.Zext wide) (kinds.One part) w here ws
           ∙ is.value ws assigns
-          ∙ widened.each (value_of terms ws s.base) (subst (λ n. value_of terms ws s.base < 2 ^ n) (sym k) (term_range made ws assigns s.base is.stands).below) (within.value ws assigns all);
+          ∙ widened.each (value_of terms ws s.base) (subst (λ n. value_of terms ws s.base < 2 ^ n) (sym k)
+          (term_range made ws assigns s.base is.stands).below) (within.value ws assigns all);
     }
 
-pub zext_wider : {terms : List Term} → AreTerms terms → (id part : TermId) (wide w : ℕ) (s : Sum) → slice_get terms id.0 ≡ Some (nodes.Op (ops.Zext wide) (kinds.One part), w) → IsSum terms part s → s.word.width ≤ width_at terms id
+pub zext_wider : {terms : List Term} → AreTerms terms → (id part : TermId) (wide w : ℕ) (s : Sum)
+    → slice_get terms id.0 ≡ Some (nodes.Op (ops.Zext wide) (kinds.One part), w) → IsSum terms part s → s.word.width ≤ width_at terms id
 zext_wider {terms} made id part wide w s here is =
     let m = is_made made id.0 (ops.Zext wide) (kinds.One part) w here in
     omega (arith, is.word_width, m.fits.0, ap width_in here, m.width)
 
 -- ---- a sum is built
 
-pub built_sum : (old mid last new : List Term) (s : Sum) (wide constant id : TermId) → AreTerms old → Stands old s.base → Grown old mid → StandsFor mid wide (ops.Zext s.word.width) (s.base ∷ []) → Grown mid last → StandsFor last constant (ops.Const s.word) [] → Grown last new →
+pub built_sum : (old mid last new : List Term) (s : Sum) (wide constant id : TermId) → AreTerms old → Stands old s.base → Grown old mid
+    → StandsFor mid wide (ops.Zext s.word.width) (s.base ∷ []) → Grown mid last → StandsFor last constant (ops.Const s.word) [] → Grown last new →
     StandsFor new id ops.Add (wide ∷ constant ∷ []) → IsSumOf new id s
 built_sum old mid last new s wide constant id made stands first is_wide second is_constant third is_sum =
     let mid_new = grown_on mid last new second third in
@@ -186,20 +201,29 @@ built_sum old mid last new s wide constant id made stands first is_wide second i
           let at_mid = assigns_later mid new mid_new.grows ws assigns in
           let at_last = assigns_later last new third.grows ws assigns in
           let x : value_of new ws wide ≡ value_of new ws s.base =
-          value_later mid new first.made mid_new.grows ws wide is_wide.stands ∙ is_wide.value ws at_mid ∙ value_later old mid made first.grows ws s.base stands ∙ sym (value_later old new made old_new.grows ws s.base stands) in
-          let c : value_of new ws constant ≡ s.word.value = value_later last new second.made third.grows ws constant is_constant.stands ∙ is_constant.value ws at_last in
+          value_later mid new first.made mid_new.grows ws wide is_wide.stands ∙ is_wide.value ws at_mid
+          ∙ value_later old mid made first.grows ws s.base stands ∙ sym (value_later old new made old_new.grows ws s.base stands) in
+          let c : value_of new ws constant ≡ s.word.value = value_later last new second.made third.grows ws constant is_constant.stands
+          ∙ is_constant.value ws at_last in
           is_sum.value ws assigns ∙ (λ j. words.add (k j) (x j) (c j));
     }
 
-pub builds_sum : (old mid last new : List Term) (s : Sum) (wide constant : TermId) (result : Result TermId TermStop) → AreTerms old → Stands old s.base → Grown old mid → StandsFor mid wide (ops.Zext s.word.width) (s.base ∷ []) → Grown mid last → StandsFor last constant (ops.Const s.word) [] →
+pub builds_sum : (old mid last new : List Term) (s : Sum) (wide constant : TermId) (result : Result TermId TermStop) → AreTerms old
+    → Stands old s.base → Grown old mid → StandsFor mid wide (ops.Zext s.word.width) (s.base ∷ []) → Grown mid last
+    → StandsFor last constant (ops.Const s.word) [] →
     AreTerms new → Folds last new ops.Add (wide ∷ constant ∷ []) result → BuildsSum old new s result
 builds_sum old mid last new s wide constant (Ok id) made stands first is_wide second is_constant after folds =
     let third : Grown last new = record { made = after; grows = folds.grows } in
-    record { grown = grown_on old mid new first (grown_on mid last new second third); is_sum = built_sum old mid last new s wide constant id made stands first is_wide second is_constant third folds.means }
+    record {
+      grown = grown_on old mid new first (grown_on mid last new second third);
+      is_sum =
+          built_sum old mid last new s wide constant id made stands first is_wide second is_constant third folds.means;
+    }
 builds_sum old mid last new s wide constant (Err stop) made stands first is_wide second is_constant after folds =
     record { grown = grown_on old mid new first (grown_on mid last new second (record { made = after; grows = folds.grows })); is_sum = tt }
 
-pub wide_sum_simplifies : (old new : List Term) (facts : List TermId) (id : TermId) (s : Sum) (result : Result TermId TermStop) → AreTerms old → All (Stands old) facts → Stands old id → IsWideSum old facts id s → BuildsSum old new s result → Simplifies old new facts id result
+pub wide_sum_simplifies : (old new : List Term) (facts : List TermId) (id : TermId) (s : Sum) (result : Result TermId TermStop) → AreTerms old
+    → All (Stands old) facts → Stands old id → IsWideSum old facts id s → BuildsSum old new s result → Simplifies old new facts id result
 wide_sum_simplifies old new facts id s (Ok other) made stand stands wide builds = record {
   grown = builds.grown;
   same = record {

@@ -31,10 +31,13 @@ one_below : (n : ℕ) → n < 2 ^ 1 → n ≤ 1
 one_below n h = let two : 2 ^ 1 ≡ 2 = refl in omega (arith, h, two)
 
 -- the value of an operation that stands
-pub op_value : {terms : List Term} → AreTerms terms → (id : TermId) (op : Op) (parts : Parts) (w : ℕ) → slice_get terms id.0 ≡ Some (nodes.Op op parts, w) → (words : List Word) → value_of terms words id ≡ answer op (map (bits_at terms words) (listed parts))
+pub op_value : {terms : List Term} → AreTerms terms → (id : TermId) (op : Op) (parts : Parts) (w : ℕ)
+    → slice_get terms id.0 ≡ Some (nodes.Op op parts, w) → (words : List Word) → value_of terms words id ≡ answer op
+    (map (bits_at terms words) (listed parts))
 op_value {terms} made id op parts w here words = value_follows made words id ∙ ap (entry_value words (bits_at terms words)) here
 
-pub part_stands : {terms : List Term} → AreTerms terms → (id : TermId) (op : Op) (parts : Parts) (w : ℕ) → slice_get terms id.0 ≡ Some (nodes.Op op parts, w) → All (Stands terms) (listed parts)
+pub part_stands : {terms : List Term} → AreTerms terms → (id : TermId) (op : Op) (parts : Parts) (w : ℕ)
+    → slice_get terms id.0 ≡ Some (nodes.Op op parts, w) → All (Stands terms) (listed parts)
 part_stands {terms} made id op parts w here k d below =
     let within = slice_get_within terms id.0 (nodes.Op op parts, w) here in
     let before = (is_made made id.0 op parts w here).before k d below in
@@ -63,7 +66,8 @@ module _ {terms : List Term} (made : AreTerms terms) (facts : List TermId) (id a
       stands = first_stands ops.And here;
       width = and_width;
       value = λ words assigns all.
-          let below = one_below (value_of terms words a) (subst (λ n. value_of terms words a < 2 ^ n) and_width (term_range made words assigns a (first_stands ops.And here)).below) in
+          let below = one_below (value_of terms words a) (subst (λ n. value_of terms words a < 2 ^ n) and_width
+          (term_range made words assigns a (first_stands ops.And here)).below) in
           omega (arith, below, and_value words assigns all, and_le_l (value_of terms words a) (value_of terms words b));
     }
 
@@ -72,7 +76,8 @@ module _ {terms : List Term} (made : AreTerms terms) (facts : List TermId) (id a
       stands = second_stands ops.And here;
       width = and_other;
       value = λ words assigns all.
-          let below = one_below (value_of terms words b) (subst (λ n. value_of terms words b < 2 ^ n) and_other (term_range made words assigns b (second_stands ops.And here)).below) in
+          let below = one_below (value_of terms words b) (subst (λ n. value_of terms words b < 2 ^ n) and_other
+          (term_range made words assigns b (second_stands ops.And here)).below) in
           omega (arith, below, and_value words assigns all, and_le_r (value_of terms words a) (value_of terms words b));
     }
 
@@ -108,7 +113,8 @@ module _ {terms : List Term} (made : AreTerms terms) (facts : List TermId) (id a
         ]
 
     values_equal : (words : List Word) → Assigns words terms → AreTrue terms words facts → value_of terms words a ≡ value_of terms words b
-    values_equal words assigns all = equal_value (value_of terms words a) (value_of terms words b) (sym (op_value made id ops.Eq (kinds.Two a b) w here words) ∙ told.value words assigns all)
+    values_equal words assigns all = equal_value (value_of terms words a) (value_of terms words b)
+        (sym (op_value made id ops.Eq (kinds.Two a b) w here words) ∙ told.value words assigns all)
 
     pub equal_first : Stands terms a
     equal_first = first_stands ops.Eq here
@@ -124,11 +130,16 @@ module _ {terms : List Term} (made : AreTerms terms) (facts : List TermId) (id a
     }
 
 -- of a bit turned
-not_bit : (v : ℕ) (holds other : Bool) → v ≤ 1 → formulas.not 1 v ≡ formulas.bit holds → (holds ≡ true → other ≡ false) → (holds ≡ false → other ≡ true) → v ≡ formulas.bit other
-not_bit v true other below e t f = let ones : formulas.all_ones 1 ≡ 1 = refl in let zero : v ≡ 0 = omega (arith, below, e, ones) in zero ∙ sym (ap formulas.bit (t refl))
-not_bit v false other below e t f = let ones : formulas.all_ones 1 ≡ 1 = refl in let one : v ≡ 1 = omega (arith, below, e, ones) in one ∙ sym (ap formulas.bit (f refl))
+not_bit : (v : ℕ) (holds other : Bool) → v ≤ 1 → formulas.not 1 v ≡ formulas.bit holds → (holds ≡ true → other ≡ false)
+    → (holds ≡ false → other ≡ true) → v ≡ formulas.bit other
+not_bit v true other below e t f = let ones : formulas.all_ones 1 ≡ 1 = refl in let zero : v ≡ 0 = omega (arith, below, e, ones) in zero
+    ∙ sym (ap formulas.bit (t refl))
+not_bit v false other below e t f = let ones : formulas.all_ones 1 ≡ 1 = refl in let one : v ≡ 1 = omega (arith, below, e, ones) in one
+    ∙ sym (ap formulas.bit (f refl))
 
-pub not_told : {terms : List Term} → AreTerms terms → (facts : List TermId) (id a : TermId) (w : ℕ) (holds other : Bool) → slice_get terms id.0 ≡ Some (nodes.Op ops.Not (kinds.One a), w) → IsTold terms facts (literal id holds) → (holds ≡ true → other ≡ false) → (holds ≡ false → other ≡ true) →
+pub not_told : {terms : List Term} → AreTerms terms → (facts : List TermId) (id a : TermId) (w : ℕ) (holds other : Bool)
+    → slice_get terms id.0 ≡ Some (nodes.Op ops.Not (kinds.One a), w) → IsTold terms facts (literal id holds) → (holds ≡ true → other ≡ false)
+    → (holds ≡ false → other ≡ true) →
     IsTold terms facts (literal a other)
 not_told {terms} made facts id a w holds other here told t f =
     let stands : Stands terms a = All-head (Stands terms) a [] (part_stands made id ops.Not (kinds.One a) w here) in
@@ -139,12 +150,14 @@ not_told {terms} made facts id a w holds other here told t f =
       value = λ words assigns all.
           let below = one_below (value_of terms words a) (subst (λ n. value_of terms words a < 2 ^ n) wide (term_range made words assigns a stands).below) in
           not_bit (value_of terms words a) holds other below
-          (ap (λ n. formulas.not n (value_of terms words a)) (sym wide) ∙ sym (op_value made id ops.Not (kinds.One a) w here words) ∙ told.value words assigns all) t f;
+          (ap (λ n. formulas.not n (value_of terms words a)) (sym wide) ∙ sym (op_value made id ops.Not (kinds.One a) w here words)
+          ∙ told.value words assigns all) t f;
     }
 
 -- ---- a truth as a constant
 
-pub told_constant : (terms : List Term) (facts : List TermId) (id other : TermId) (holds : Bool) (word : Word) → IsTold terms facts (literal id holds) → word.width ≡ 1 → word.value ≡ formulas.bit holds → StandsFor terms other (ops.Const word) [] → IsSame terms facts id other
+pub told_constant : (terms : List Term) (facts : List TermId) (id other : TermId) (holds : Bool) (word : Word) → IsTold terms facts (literal id holds)
+    → word.width ≡ 1 → word.value ≡ formulas.bit holds → StandsFor terms other (ops.Const word) [] → IsSame terms facts id other
 told_constant terms facts id other holds word told wide is for = record {
   stands = for.stands;
   width = for.width ∙ wide ∙ sym told.width;
@@ -153,15 +166,18 @@ told_constant terms facts id other holds word told wide is for = record {
 
 -- ---- as the code reads them
 
-pub here_is : (terms : List Term) (id : TermId) (op other : Op) (parts shape : Parts) (w : ℕ) → slice_get terms id.0 ≡ Some (nodes.Op op parts, w) → op ≡ other → parts ≡ shape → slice_get terms id.0 ≡ Some (nodes.Op other shape, w)
+pub here_is : (terms : List Term) (id : TermId) (op other : Op) (parts shape : Parts) (w : ℕ) → slice_get terms id.0 ≡ Some (nodes.Op op parts, w)
+    → op ≡ other → parts ≡ shape → slice_get terms id.0 ≡ Some (nodes.Op other shape, w)
 here_is terms id op other parts shape w here e f = here ∙ (λ j. Some (nodes.Op (e j) (f j), w))
 
-pub told_so : (terms : List Term) (facts : List TermId) (l : Literal) (holds : Bool) → l.holds ≡ holds → IsTold terms facts l → IsTold terms facts (literal l.term holds)
+pub told_so : (terms : List Term) (facts : List TermId) (l : Literal) (holds : Bool) → l.holds ≡ holds → IsTold terms facts l
+    → IsTold terms facts (literal l.term holds)
 told_so terms facts l holds is told = subst (λ (h : Bool). IsTold terms facts (literal l.term h)) is told
 
 -- ---- the parts stand
 
-module _ {terms : List Term} (made : AreTerms terms) (id : TermId) (op : Op) (parts : Parts) (w : ℕ) (here : slice_get terms id.0 ≡ Some (nodes.Op op parts, w)) where
+module _ {terms : List Term} (made : AreTerms terms) (id : TermId) (op : Op) (parts : Parts) (w : ℕ)
+    (here : slice_get terms id.0 ≡ Some (nodes.Op op parts, w)) where
   listed_stand : (shape : Parts) → parts ≡ shape → All (Stands terms) (listed shape)
   listed_stand shape is = subst (λ (p : Parts). All (Stands terms) (listed p)) is (part_stands made id op parts w here)
 
@@ -178,4 +194,5 @@ module _ {terms : List Term} (made : AreTerms terms) (id : TermId) (op : Op) (pa
   then_stands c a b is = All-head (Stands terms) a (b ∷ []) (All-tail (Stands terms) c (a ∷ b ∷ []) (listed_stand (kinds.Three c a b) is))
 
   pub else_stands : (c a b : TermId) → parts ≡ kinds.Three c a b → Stands terms b
-  else_stands c a b is = All-head (Stands terms) b [] (All-tail (Stands terms) a (b ∷ []) (All-tail (Stands terms) c (a ∷ b ∷ []) (listed_stand (kinds.Three c a b) is)))
+  else_stands c a b is = All-head (Stands terms) b []
+      (All-tail (Stands terms) a (b ∷ []) (All-tail (Stands terms) c (a ∷ b ∷ []) (listed_stand (kinds.Three c a b) is)))

@@ -10,7 +10,8 @@ use Rattle.vg_term.specs.declared.node.Node.TheVariants as nodes
 
 -- no variable stands under the term
 pub data IsClosed (terms : List Term) : TermId → Type 0 where
-  operation : (id : TermId) (op : Op) (parts : Parts) → (w : ℕ) → slice_get terms id.0 ≡ Some (nodes.Op op parts, w) → ((part : TermId) → Contains (listed parts) part → IsClosed terms part) → IsClosed terms id
+  operation : (id : TermId) (op : Op) (parts : Parts) → (w : ℕ) → slice_get terms id.0 ≡ Some (nodes.Op op parts, w)
+      → ((part : TermId) → Contains (listed parts) part → IsClosed terms part) → IsClosed terms id
 
 -- the other term is the constant of the value that this one has under every assignment
 pub record IsConstantOf (terms : List Term) (id other : TermId) : Type 0 where

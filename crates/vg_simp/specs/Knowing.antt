@@ -43,7 +43,8 @@ pub record IsTold (terms : List Term) (facts : List TermId) (literal : Literal) 
 pub record IsGap (terms : List Term) (facts : List TermId) (gap : Gap) : Type 0 where
   pub low : Stands terms gap.low
   pub high : Stands terms gap.high
-  pub each : (words : List Word) → Assigns words terms → AreTrue terms words facts → value_of terms words gap.low + gap.up ≤ value_of terms words gap.high + gap.down
+  pub each : (words : List Word) → Assigns words terms → AreTrue terms words facts → value_of terms words gap.low + gap.up ≤ value_of terms words
+      gap.high + gap.down
 
 -- all that is kept follows from the facts
 pub record IsKnown (terms : List Term) (knowledge : Knowledge) : Type 0 where

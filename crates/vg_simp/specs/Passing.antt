@@ -34,7 +34,8 @@ IsOperation terms id = (op : Op) × (parts : Parts) × (w : ℕ) × (slice_get t
 
 -- where the entries for an operation's parts are the constants of what these are, the answer is the constant of what the operation is
 pub record KeepsConstant (old new : List Term) (others : List TermId) (id : TermId) (result : Result TermId TermStop) : Type 0 where
-  pub constant : IsOperation old id → All (λ part. IsConstantOf old part (entry_at others part)) (parts_at old id) → IfOk result (λ other. IsConstantOf new id other)
+  pub constant : IsOperation old id → All (λ part. IsConstantOf old part (entry_at others part)) (parts_at old id)
+      → IfOk result (λ other. IsConstantOf new id other)
 
 -- the entries for marked terms without variables are the constants of what these are
 pub record AreConstants (first terms : List Term) (marks : List Bool) (others : List TermId) : Type 0 where

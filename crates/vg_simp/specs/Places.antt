@@ -11,7 +11,8 @@ use Rattle.vg_simp.specs.declared.placing.Place.{Place}
 -- wherever the facts are true, the term has the value of the place, as a whole number
 pub record IsPlace (terms : List Term) (facts : List TermId) (id : TermId) (place : Place) : Type 0 where
   pub stands : Stands terms place.base
-  pub each : (words : List Word) → Assigns words terms → AreTrue terms words facts → value_of terms words id + place.minus ≡ value_of terms words place.base + place.plus
+  pub each : (words : List Word) → Assigns words terms → AreTrue terms words facts → value_of terms words id + place.minus ≡ value_of terms words
+      place.base + place.plus
 
 -- the gap is on the bases of the two places, and wide enough for the one and so much to be at most the other
 pub record IsSpan (gap : Gap) (low : Place) (by : ℕ) (high : Place) : Type 0 where

@@ -1,4 +1,5 @@
--- What facts say of terms. A fact is true where its value is 1, and two terms are the same under facts where no assignment that makes the facts true tells them apart.
+-- What facts say of terms. A fact is true where its value is 1, and two terms are the same under facts where no assignment that makes the facts true
+-- tells them apart.
 use Rattle.std.specs.Prelude.{◌≡◌, List, All}
 use Rattle.vg_bits.specs.declared.word.Word.{Word}
 use Rattle.vg_term.specs.Terms.{Term, Stands, width_at}

@@ -24,7 +24,8 @@ pub record IsWideSum (terms : List Term) (facts : List TermId) (id : TermId) (su
   pub stands : Stands terms sum.base
   pub width : width_at terms sum.base ≤ sum.word.width
   pub word_width : sum.word.width ≡ width_at terms id
-  pub value : (words : List Word) → Assigns words terms → AreTrue terms words facts → value_of terms words id ≡ add sum.word.width (value_of terms words sum.base) sum.word.value
+  pub value : (words : List Word) → Assigns words terms → AreTrue terms words facts → value_of terms words id ≡ add sum.word.width
+      (value_of terms words sum.base) sum.word.value
 
 -- the sums of the narrow word and numbers in the range are those of the wide one
 pub record IsWidened (range : Range) (narrow wide : Word) : Type 0 where
@@ -46,4 +47,5 @@ pub record IsSumAs (terms : List Term) (sum other : Sum) : Type 0 where
   pub stands : Stands terms other.base
   pub width : width_at terms other.base ≡ other.word.width
   pub word_width : other.word.width ≡ sum.word.width
-  pub value : (words : List Word) → Assigns words terms → add sum.word.width (value_of terms words sum.base) sum.word.value ≡ add other.word.width (value_of terms words other.base) other.word.value
+  pub value : (words : List Word) → Assigns words terms → add sum.word.width (value_of terms words sum.base) sum.word.value ≡ add other.word.width
+      (value_of terms words other.base) other.word.value

@@ -1,5 +1,6 @@
 -- Each text is cut into words in exactly one way.
-use Rattle.std.proofs.Common.{◌≡◌, ◌∙◌, ◌+◌, ℕ, List, [], ◌∷◌, ◌++◌, length, Bool, true, false, not, ◌&&◌, ◌||◌, refl, sym, ap, subst, inl, inr, arith, All, append-nil, ◌≤◌}
+use Rattle.std.proofs.Common.{◌≡◌, ◌∙◌, ◌+◌, ℕ, List, [], ◌∷◌, ◌++◌, length, Bool, true, false, not, ◌&&◌, ◌||◌, refl, sym, ap, subst, inl, inr}
+use Rattle.std.proofs.Common.{arith, All, append-nil, ◌≤◌}
 use Rattle.std.specs.List.{list_all}
 use Rattle.std.proofs.Math.Bool.{and_comm}
 use Rattle.std.proofs.lemmas.Bool.{cases_Bool, eqb-true, true≢false, false≢true, and_parts, not-true, not_from_false}
@@ -30,7 +31,8 @@ equals-not_blank : (b : ℕ) → is_equals_sign b ≡ true → not (is_blank b) 
 equals-not_blank b equals = rw (eqb-true b 61 equals) refl
 
 -- two bytes, and more: name, name, equals, equals, and what all that follow are
-join_two : (a b e f seen : Bool) → (b && f) ≡ false → (b ≡ true → seen ≡ true) → (f ≡ true → seen ≡ true) → (a && (b && true) || e && (f && true)) ≡ ((b && a || f && e) && seen)
+join_two : (a b e f seen : Bool) → (b && f) ≡ false → (b ≡ true → seen ≡ true) → (f ≡ true → seen ≡ true)
+    → (a && (b && true) || e && (f && true)) ≡ ((b && a || f && e) && seen)
 join_two a true e true seen disjoint name equals = absurd (true≢false disjoint)
 join_two true true true false seen disjoint name equals = sym (name refl)
 join_two true true false false seen disjoint name equals = sym (name refl)
@@ -62,9 +64,11 @@ join_more false false false false names signs disjoint = refl
 
 is_word-cons : (b next : ℕ) (bytes : List ℕ) → is_word (b ∷ next ∷ bytes) ≡ (joins b next && is_word (next ∷ bytes))
 is_word-cons b next [] =
-    join_two (is_name_byte b) (is_name_byte next) (is_equals_sign b) (is_equals_sign next) (not (is_blank next)) (apart next) (name-not_blank next) (equals-not_blank next)
+    join_two (is_name_byte b) (is_name_byte next) (is_equals_sign b) (is_equals_sign next) (not (is_blank next)) (apart next) (name-not_blank next)
+    (equals-not_blank next)
 is_word-cons b next (c ∷ bytes) =
-    join_more (is_name_byte b) (is_name_byte next) (is_equals_sign b) (is_equals_sign next) (list_all is_name_byte (c ∷ bytes)) (list_all is_equals_sign (c ∷ bytes)) (apart next)
+    join_more (is_name_byte b) (is_name_byte next) (is_equals_sign b) (is_equals_sign next) (list_all is_name_byte (c ∷ bytes))
+    (list_all is_equals_sign (c ∷ bytes)) (apart next)
 
 -- a byte before a word that it joins makes a word
 joined-word : (b next : ℕ) (bytes : List ℕ) → joins b next ≡ true → is_word (b ∷ next ∷ bytes) ≡ is_word (next ∷ bytes)
@@ -106,7 +110,8 @@ cut-blank at b bytes (w ∷ ws) blank cut =
       cut.3,
     )
 
-cut-alone : (at b : ℕ) (bytes : List ℕ) (ws : List Placed) → is_blank b ≡ false → joins_next b bytes ≡ false → IsCutFrom (at + 1) bytes ws → IsCutFrom at (b ∷ bytes) (record { at = at; bytes = b ∷ [] } ∷ ws)
+cut-alone : (at b : ℕ) (bytes : List ℕ) (ws : List Placed) → is_blank b ≡ false → joins_next b bytes ≡ false → IsCutFrom (at + 1) bytes ws
+    → IsCutFrom at (b ∷ bytes) (record { at = at; bytes = b ∷ [] } ∷ ws)
 cut-alone at b bytes ws not alone cut = (
   [],
   bytes,
@@ -146,7 +151,8 @@ cut-longer at b next bytes place (v ∷ word) ws [] rest joined begins cut =
       subst (λ (k : ℕ). IsCutFrom k rest ws) further cut,
     )
 
-cut-joined : (at b next : ℕ) (bytes : List ℕ) (ws : List Placed) → joins b next ≡ true → IsCutFrom (at + 1) (next ∷ bytes) ws → IsCutFrom at (b ∷ next ∷ bytes) (longer at b ws)
+cut-joined : (at b next : ℕ) (bytes : List ℕ) (ws : List Placed) → joins b next ≡ true → IsCutFrom (at + 1) (next ∷ bytes) ws
+    → IsCutFrom at (b ∷ next ∷ bytes) (longer at b ws)
 cut-joined at b next bytes [] joined cut = absurd (true≢false (sym (All-head IsBlank next bytes cut) ∙ joins-not_blank b next joined))
 cut-joined at b next bytes (w ∷ ws) joined cut = cut-longer at b next bytes w.at w.bytes ws cut.0 cut.1 joined cut.2 cut.3
 
@@ -191,7 +197,8 @@ word-taken at b (next ∷ bytes) rest word ends =
     ∙ ap (longer at b) (word-taken (at + 1) next bytes rest parts.1 shorter)
     ∙ ap (λ (k : ℕ). record { at = at; bytes = b ∷ next ∷ bytes } ∷ words_from k rest) same
 
-first-taken : (at : ℕ) (bytes rest : List ℕ) → is_word bytes ≡ true → ends_before bytes rest ≡ true → words_from at (bytes ++ rest) ≡ record { at = at; bytes = bytes } ∷ words_from (at + length bytes) rest
+first-taken : (at : ℕ) (bytes rest : List ℕ) → is_word bytes ≡ true → ends_before bytes rest ≡ true
+    → words_from at (bytes ++ rest) ≡ record { at = at; bytes = bytes } ∷ words_from (at + length bytes) rest
 first-taken at [] rest word ends = absurd (false≢true word)
 first-taken at (b ∷ bytes) rest word ends = word-taken at b bytes rest word ends
 

@@ -1,5 +1,6 @@
 -- The words of a text from byte to byte, and its first word.
-use Rattle.std.proofs.Common.{suc, ◌≡◌, ℕ, ◌+◌, ◌<◌, ◌≤◌, List, [], ◌∷◌, take, drop, length, get_or, true, false, inl, inr, eqb, cond, refl, sym, ◌∙◌, ap, add-one, add-zero, drop-cons, length-drop, get_or-drop, drop-drop, ◌-◌, arith}
+use Rattle.std.proofs.Common.{suc, ◌≡◌, ℕ, ◌+◌, ◌<◌, ◌≤◌, List, [], ◌∷◌, take, drop, length, get_or, true, false, inl, inr, eqb, cond, refl, sym, ◌∙◌}
+use Rattle.std.proofs.Common.{ap, add-one, add-zero, drop-cons, length-drop, get_or-drop, drop-drop, ◌-◌, arith}
 use Rattle.std.proofs.lemmas.List.{drop_all}
 use Rattle.std.proofs.lemmas.Bool.{eqb-true, or_cases, cases_Bool, true≢false}
 use Rattle.vg_small.specs.Words.{Placed, is_blank}
@@ -22,7 +23,8 @@ pub drop-first : (text : List ℕ) (i : ℕ) → i < length text → drop i text
 drop-first text i h = rw (add-one, drop-cons text i 0) refl
 
 -- a word that goes on is longer by one than what follows its first byte
-pub word_len-joined : (text : List ℕ) (i : ℕ) → i < length text → joins_next (get_or text i 0) (drop (i + 1) text) ≡ true → word_len (drop i text) ≡ word_len (drop (i + 1) text) + 1
+pub word_len-joined : (text : List ℕ) (i : ℕ) → i < length text → joins_next (get_or text i 0) (drop (i + 1) text) ≡ true
+    → word_len (drop i text) ≡ word_len (drop (i + 1) text) + 1
 unfolding word_len
 word_len-joined text i h j = rw (drop-first text i h, j) refl
 
@@ -58,11 +60,13 @@ pub words_from-blank : (at b : ℕ) (bytes : List ℕ) → is_blank b ≡ true �
 unfolding words_from
 words_from-blank at b bytes blank = rw blank refl
 
-pub words_from-joined : (at b : ℕ) (bytes : List ℕ) → is_blank b ≡ false → joins_next b bytes ≡ true → words_from at (b ∷ bytes) ≡ longer at b (words_from (at + 1) bytes)
+pub words_from-joined : (at b : ℕ) (bytes : List ℕ) → is_blank b ≡ false → joins_next b bytes ≡ true
+    → words_from at (b ∷ bytes) ≡ longer at b (words_from (at + 1) bytes)
 unfolding words_from
 words_from-joined at b bytes not joined = rw (not, joined) refl
 
-pub words_from-alone : (at b : ℕ) (bytes : List ℕ) → is_blank b ≡ false → joins_next b bytes ≡ false → words_from at (b ∷ bytes) ≡ record { at = at; bytes = b ∷ [] } ∷ words_from (at + 1) bytes
+pub words_from-alone : (at b : ℕ) (bytes : List ℕ) → is_blank b ≡ false → joins_next b bytes ≡ false
+    → words_from at (b ∷ bytes) ≡ record { at = at; bytes = b ∷ [] } ∷ words_from (at + 1) bytes
 unfolding words_from
 words_from-alone at b bytes not alone = rw (not, alone) refl
 
@@ -92,13 +96,16 @@ words-first (b ∷ []) at h blank = rw word_len-one (words_from-alone at b [] bl
 words-first (b ∷ next ∷ bytes) at h blank =
     elim (cases_Bool (joins b next)) [
       | inl joined ↦
-          let rest : Begins (at + 1) (next ∷ bytes) (word_len (next ∷ bytes)) = words-first (next ∷ bytes) (at + 1) (omega arith) (joins-not_blank b next joined) in
-          rw (word_len-more b (next ∷ bytes) joined) (words_from-joined at b (next ∷ bytes) blank joined ∙ longer-first at b (next ∷ bytes) (word_len (next ∷ bytes)) rest)
+          let rest : Begins (at + 1) (next ∷ bytes) (word_len (next ∷ bytes)) = words-first (next ∷ bytes) (at + 1) (omega arith)
+          (joins-not_blank b next joined) in
+          rw (word_len-more b (next ∷ bytes) joined) (words_from-joined at b (next ∷ bytes) blank joined
+          ∙ longer-first at b (next ∷ bytes) (word_len (next ∷ bytes)) rest)
       | inr alone ↦ rw (word_len-one b (next ∷ bytes) alone) (words_from-alone at b (next ∷ bytes) blank alone)
     ]
 
 -- the words from a blank byte on
-pub words-blank : (text : List ℕ) (i : ℕ) → i < length text → is_blank (get_or text i 0) ≡ true → words_from i (drop i text) ≡ words_from (i + 1) (drop (i + 1) text)
+pub words-blank : (text : List ℕ) (i : ℕ) → i < length text → is_blank (get_or text i 0) ≡ true
+    → words_from i (drop i text) ≡ words_from (i + 1) (drop (i + 1) text)
 words-blank text i h blank = rw (drop-first text i h) (words_from-blank i (get_or text i 0) (drop (i + 1) text) blank)
 
 -- the words from the start of a word on

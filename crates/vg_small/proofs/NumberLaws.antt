@@ -1,5 +1,6 @@
 -- The reader's numbers are those that `decimal` writes.
-use Rattle.std.proofs.Common.{◌≡◌, ◌∙◌, ◌<◌, ◌≤◌, ◌+◌, ◌-◌, ◌*◌, ℕ, zero, suc, List, [], ◌∷◌, length, get_or, true, false, ◌||◌, eqb, nat_lt, Some, inl, inr, refl, sym, ap, arith}
+use Rattle.std.proofs.Common.{◌≡◌, ◌∙◌, ◌<◌, ◌≤◌, ◌+◌, ◌-◌, ◌*◌, ℕ, zero, suc, List, [], ◌∷◌, length, get_or, true, false, ◌||◌, eqb, nat_lt, Some}
+use Rattle.std.proofs.Common.{inl, inr, refl, sym, ap, arith}
 use Rattle.std.proofs.lemmas.Bool.{or_parts, or_from, ltb-true, ltb-false, lt-ltb, ltb-false, cases_Bool, ne_eqb, eqb-false}
 use Rattle.std.specs.Fmt.{decimal}
 use Rattle.std.specs.Int.{IsInRange}

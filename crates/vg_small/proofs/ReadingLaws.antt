@@ -14,11 +14,13 @@ use Rattle.vg_small.specs.Reader.{◌>>=◌, texts, placed_word, placed, head_of
 use Rattle.vg_small.proofs.SpellingLaws.{small_of-sound, small_of-complete}
 
 -- a call that gives what the reader reads from a text's words gives what the text spells, or finds that it spells nothing
-pub Gives-spelled : (lang : Lang) (text : List ℕ) (words : List Placed) (r : Result Small SmallFault) → IsCut text words → Gives r (small_of lang words) → IfOk r (Spells lang text)
+pub Gives-spelled : (lang : Lang) (text : List ℕ) (words : List Placed) (r : Result Small SmallFault) → IsCut text words
+    → Gives r (small_of lang words) → IfOk r (Spells lang text)
 Gives-spelled lang text words (Ok s) cut gives = small_of-sound lang text words cut gives
 Gives-spelled lang text words (Err e) cut gives = tt
 
-pub Gives-none : (lang : Lang) (text : List ℕ) (words : List Placed) (r : Result Small SmallFault) → IsCut text words → Gives r (small_of lang words) → IsErrOf r faults.Form → SpellsNone lang text
+pub Gives-none : (lang : Lang) (text : List ℕ) (words : List Placed) (r : Result Small SmallFault) → IsCut text words → Gives r (small_of lang words)
+    → IsErrOf r faults.Form → SpellsNone lang text
 Gives-none lang text words (Ok s) cut gives form = absurd (cc)
 Gives-none lang text words (Err faults.Memory) cut gives form = absurd (cc)
 Gives-none lang text words (Err faults.Form) cut gives form = λ s spells. let read = small_of-complete lang text words s cut spells in cc
@@ -39,7 +41,8 @@ module _ (lang : Lang) (words : List Word) where
 
   module _ (ports : ℕ) (rest : List Word) (head : head_of lang (texts words) ≡ Some (ports, texts rest)) where
     -- words with a head are what their body is
-    small_of-body : small_of lang (placed words) ≡ (body_of lang (value_bound lang ports) (length rest) (texts rest) >>= λ b. Some (record { ports = ports; at = name_at lang (placed words); tests = b.0; last = b.1 }))
+    small_of-body : small_of lang (placed words) ≡ (body_of lang (value_bound lang ports) (length rest) (texts rest) >>= λ b. Some
+        (record { ports = ports; at = name_at lang (placed words); tests = b.0; last = b.1 }))
     unfolding small_of
     small_of-body = rw (texts-are, head, length-map) refl
 

@@ -1,5 +1,6 @@
 -- The reader reads exactly what small functions spell.
-use Rattle.std.proofs.Common.{◌≡◌, ◌∙◌, ◌<◌, ◌≤◌, ◌+◌, ◌*◌, ℕ, zero, suc, List, [], ◌∷◌, ◌++◌, codes, length, true, false, ◌&&◌, eqb, nat_lt, nat_le, Some, None, inl, inr, refl, sym, ap, append_assoc, length-append, arith, All, cond}
+use Rattle.std.proofs.Common.{◌≡◌, ◌∙◌, ◌<◌, ◌≤◌, ◌+◌, ◌*◌, ℕ, zero, suc, List, [], ◌∷◌, ◌++◌, codes, length, true, false, ◌&&◌, eqb, nat_lt, nat_le}
+use Rattle.std.proofs.Common.{Some, None, inl, inr, refl, sym, ap, append_assoc, length-append, arith, All, cond}
 use Rattle.std.specs.List.{flat_map}
 use Rattle.std.specs.Fmt.{decimal}
 use Rattle.std.specs.Str.{bytes_eq}
@@ -14,7 +15,8 @@ use Rattle.vg_small.specs.declared.small.Lang.TheVariants.{C, Spec}
 use Rattle.vg_small.specs.Words.{Placed, spelled, IsCut}
 use Rattle.vg_small.specs.Spelling.{head_words, test_words, last_words, DeclaresPorts, value_bound, IsTest, Spells}
 use Rattle.vg_small.specs.Meaning.{steps_at, value_at}
-use Rattle.vg_small.specs.Reader.{after, number_of, number_after, ports_after, ports_words, step_words, head_of, value_after, if_words, then_words, end_words, answer_words, test_of, last_of, begins_if, body_of, small_of}
+use Rattle.vg_small.specs.Reader.{after, number_of, number_after, ports_after, ports_words, step_words, head_of, value_after, if_words, then_words}
+use Rattle.vg_small.specs.Reader.{end_words, answer_words, test_of, last_of, begins_if, body_of, small_of}
 use Rattle.vg_small.proofs.Options.{some_is, bind_some, chosen}
 use Rattle.vg_small.proofs.NumberLaws.{number_of-sound, number_of-decimal}
 use Rattle.vg_small.proofs.MeaningLaws.{steps_at-le, value_at-below}
@@ -58,10 +60,12 @@ value_after-sound bound ws {x} e =
     (rw (← same) ((number_after-sound ws read.1).0), rw (← same) (ltb-true read.0.0 bound small.0))
 
 -- a head by its parts
-head_parts : (ports : ℕ) (ws a b rest : List (List ℕ)) → ws ≡ ports_words ++ a → a ≡ decimal ports ∷ b → b ≡ step_words ++ rest → ws ≡ head_words Spec ports ++ rest
+head_parts : (ports : ℕ) (ws a b rest : List (List ℕ)) → ws ≡ ports_words ++ a → a ≡ decimal ports ∷ b → b ≡ step_words ++ rest
+    → ws ≡ head_words Spec ports ++ rest
 head_parts ports ws a b rest is_a is_b is_rest = rw (is_a, is_b, is_rest) refl
 
-head_of-sound : (lang : Lang) (ws : List (List ℕ)) {x : ℕ × List (List ℕ)} → head_of lang ws ≡ Some x → (ws ≡ head_words lang x.0 ++ x.1) × DeclaresPorts lang x.0
+head_of-sound : (lang : Lang) (ws : List (List ℕ)) {x : ℕ × List (List ℕ)} → head_of lang ws ≡ Some x → (ws ≡ head_words lang x.0 ++ x.1)
+    × DeclaresPorts lang x.0
 head_of-sound C ws {x} e =
     let a = bind_some (after (head_words C 0) ws) _ e in
     rw (← some_is a.2) (after-sound (head_words C 0) ws a.1, refl)
@@ -74,12 +78,14 @@ head_of-sound Spec ws {x} e =
     rw (← some_is c.2) (words, ports.1)
 
 -- a test by its parts
-test_parts : (lang : Lang) (port value : ℕ) (ws a b c d rest : List (List ℕ)) → ws ≡ if_words lang ++ a → a ≡ decimal port ∷ b → b ≡ then_words lang ++ c → c ≡ decimal value ∷ d
+test_parts : (lang : Lang) (port value : ℕ) (ws a b c d rest : List (List ℕ)) → ws ≡ if_words lang ++ a → a ≡ decimal port ∷ b → b ≡ then_words lang
+    ++ c → c ≡ decimal value ∷ d
     → d ≡ end_words lang ++ rest → ws ≡ test_words lang (record { port = port; value = value }) ++ rest
 test_parts C port value ws a b c d rest is_a is_b is_c is_d is_rest = rw (is_a, is_b, is_c, is_d, is_rest) refl
 test_parts Spec port value ws a b c d rest is_a is_b is_c is_d is_rest = rw (is_a, is_b, is_c, is_d, is_rest) refl
 
-test_of-sound : (lang : Lang) (bound : ℕ) (ws : List (List ℕ)) {x : Test × List (List ℕ)} → test_of lang bound ws ≡ Some x → (ws ≡ test_words lang x.0 ++ x.1) × IsTest bound x.0
+test_of-sound : (lang : Lang) (bound : ℕ) (ws : List (List ℕ)) {x : Test × List (List ℕ)} → test_of lang bound ws ≡ Some x
+    → (ws ≡ test_words lang x.0 ++ x.1) × IsTest bound x.0
 unfolding test_of
 test_of-sound lang bound ws {x} e =
     let a = bind_some (after (if_words lang) ws) _ e in
@@ -90,10 +96,12 @@ test_of-sound lang bound ws {x} e =
     let port = number_after-sound a.0 b.1 in
     let value = value_after-sound bound c.0 d.1 in
     let same = some_is f.2 in
-    let words = test_parts lang b.0.0 d.0.0 ws a.0 b.0.1 c.0 d.0.1 f.0 (after-sound (if_words lang) ws a.1) port.0 (after-sound (then_words lang) b.0.1 c.1) value.0 (after-sound (end_words lang) d.0.1 f.1) in
+    let words = test_parts lang b.0.0 d.0.0 ws a.0 b.0.1 c.0 d.0.1 f.0 (after-sound (if_words lang) ws a.1) port.0
+    (after-sound (then_words lang) b.0.1 c.1) value.0 (after-sound (end_words lang) d.0.1 f.1) in
     rw (← same) (words, record { port = port.1; value = value.1 })
 
-last_parts : (lang : Lang) (value : ℕ) (ws a b rest : List (List ℕ)) → ws ≡ answer_words lang ++ a → a ≡ decimal value ∷ b → b ≡ codes ";" ∷ codes "}" ∷ rest → rest ≡ [] → ws ≡ last_words lang value
+last_parts : (lang : Lang) (value : ℕ) (ws a b rest : List (List ℕ)) → ws ≡ answer_words lang ++ a → a ≡ decimal value ∷ b → b ≡ codes ";" ∷ codes "}"
+    ∷ rest → rest ≡ [] → ws ≡ last_words lang value
 last_parts C value ws a b rest is_a is_b is_rest none = rw (is_a, is_b, is_rest, none) refl
 last_parts Spec value ws a b rest is_a is_b is_rest none = rw (is_a, is_b, is_rest, none) refl
 
@@ -107,7 +115,8 @@ last_of-sound lang bound ws {last} e =
     let none = chosen (eqb (length c.0) 0) c.2 in
     let same : b.0.0 ≡ last = some_is none.1 in
     let over : c.0 ≡ [] = nil_from_length c.0 (eqb-true (length c.0) 0 none.0) in
-    let words = last_parts lang b.0.0 ws a.0 b.0.1 c.0 (after-sound (answer_words lang) ws a.1) value.0 (after-sound (codes ";" ∷ codes "}" ∷ []) b.0.1 c.1) over in
+    let words = last_parts lang b.0.0 ws a.0 b.0.1 c.0 (after-sound (answer_words lang) ws a.1) value.0 (after-sound (codes ";" ∷ codes "}" ∷ [])
+    b.0.1 c.1) over in
     rw (← same) (words, value.1)
 
 -- the words of tests and of the last value
@@ -120,10 +129,12 @@ record IsBody (lang : Lang) (bound : ℕ) (ws : List (List ℕ)) (b : List Test 
   tests : All (IsTest bound) b.0
   last : b.1 < bound
 
-IsBody-cons : (lang : Lang) (bound : ℕ) (ws rest : List (List ℕ)) (t : Test) (b : List Test × ℕ) → ws ≡ test_words lang t ++ rest → IsTest bound t → IsBody lang bound rest b
+IsBody-cons : (lang : Lang) (bound : ℕ) (ws rest : List (List ℕ)) (t : Test) (b : List Test × ℕ) → ws ≡ test_words lang t ++ rest → IsTest bound t
+    → IsBody lang bound rest b
     → IsBody lang bound ws (t ∷ b.0, b.1)
 IsBody-cons lang bound ws rest t b words test body = record {
-  words = words ∙ ap (λ (l : List (List ℕ)). test_words lang t ++ l) body.words ∙ sym (append_assoc (test_words lang t) (flat_map (test_words lang) b.0) (last_words lang b.1));
+  words = words ∙ ap (λ (l : List (List ℕ)). test_words lang t ++ l) body.words
+      ∙ sym (append_assoc (test_words lang t) (flat_map (test_words lang) b.0) (last_words lang b.1));
   tests = All-cons (IsTest bound) t b.0 test body.tests;
   last = body.last;
 }
@@ -137,7 +148,8 @@ body_of-sound lang bound (suc n) ws {b} e = elim (cases_Bool (begins_if ws)) [
       let t = bind_some (test_of lang bound ws) _ here in
       let rest = bind_some (body_of lang bound n t.0.1) _ t.2 in
       let read = test_of-sound lang bound ws t.1 in
-      rw (← some_is {x = (t.0.0 ∷ rest.0.0, rest.0.1)} rest.2) (IsBody-cons lang bound ws t.0.1 t.0.0 rest.0 read.0 read.1 (body_of-sound lang bound n t.0.1 rest.1))
+      rw (← some_is {x = (t.0.0 ∷ rest.0.0, rest.0.1)} rest.2) (IsBody-cons lang bound ws t.0.1 t.0.0 rest.0 read.0 read.1
+      (body_of-sound lang bound n t.0.1 rest.1))
   | inr last ↦
       let here = rw last at e in
       let value = bind_some (last_of lang bound ws) _ here in
@@ -177,12 +189,14 @@ after-complete (x ∷ es) rest = rw (bytes_eq-same x) (after-complete es rest)
 ports_after-complete : (n : ℕ) (rest : List (List ℕ)) → 1 ≤ n → n ≤ 16 → ports_after (decimal n ∷ rest) ≡ Some (n, rest)
 ports_after-complete n rest some most = rw (number_of-decimal n (omega arith), le-leb 1 n some, le-leb n 16 most) refl
 
-head_of-complete : (lang : Lang) (ports : ℕ) (rest : List (List ℕ)) → DeclaresPorts lang ports → head_of lang (head_words lang ports ++ rest) ≡ Some (ports, rest)
+head_of-complete : (lang : Lang) (ports : ℕ) (rest : List (List ℕ)) → DeclaresPorts lang ports
+    → head_of lang (head_words lang ports ++ rest) ≡ Some (ports, rest)
 head_of-complete C ports rest none = rw none refl
 head_of-complete Spec ports rest declared = rw (ports_after-complete ports (step_words ++ rest) declared.0 declared.1) refl
 
 -- a test of the form is read
-test_of-complete : (lang : Lang) (bound : ℕ) (t : Test) (rest : List (List ℕ)) → bound ≤ 16 → IsTest bound t → test_of lang bound (test_words lang t ++ rest) ≡ Some (t, rest)
+test_of-complete : (lang : Lang) (bound : ℕ) (t : Test) (rest : List (List ℕ)) → bound ≤ 16 → IsTest bound t
+    → test_of lang bound (test_words lang t ++ rest) ≡ Some (t, rest)
 unfolding test_of
 test_of-complete C bound t rest most test =
     rw (number_of-decimal t.port test.port, number_of-decimal t.value (omega (arith, test.value)), lt-ltb t.value bound test.value) refl
@@ -255,7 +269,15 @@ Spells-unique lang text s t one two = some_is (sym (small_of-complete lang text 
 pub Spells-steps : (lang : Lang) (text : List ℕ) (s : Small) (port : ℕ) → Spells lang text s → steps_at s.tests port ≤ length text
 Spells-steps lang text s port spells =
     let form = ap (λ (l : List (List ℕ)). length l) spells.form in
-    omega (arith, form, length-map spells.words (λ w. w.bytes), length-cut text spells.words spells.cut, length-append (head_words lang s.ports) (body_words lang s.tests s.last), length-body lang s.tests s.last, steps_at-le s.tests port)
+    omega (
+      arith,
+      form,
+      length-map spells.words (λ w. w.bytes),
+      length-cut text spells.words spells.cut,
+      length-append (head_words lang s.ports) (body_words lang s.tests s.last),
+      length-body lang s.tests s.last,
+      steps_at-le s.tests port,
+    )
 
 -- the values of a function that a text spells are below the bound of its values
 pub Spells-value : (lang : Lang) (text : List ℕ) (s : Small) (port : ℕ) → Spells lang text s → value_at s.tests s.last port < value_bound lang s.ports

@@ -1,6 +1,7 @@
 -- What the reader leaves of the words is the end of what it got.
 use Rattle.std.proofs.lemmas.List.{drop-map, length-map}
-use Rattle.std.proofs.Common.{◌<◌, map, nat_lt, append_assoc, append-nil, ◌≡◌, ℕ, zero, suc, ◌+◌, ◌-◌, ◌≤◌, List, [], ◌∷◌, ◌++◌, drop, length, true, false, cond, Option, Some, None, refl, sym, ◌∙◌, ap, drop-drop, length-drop, arith}
+use Rattle.std.proofs.Common.{◌<◌, map, nat_lt, append_assoc, append-nil, ◌≡◌, ℕ, zero, suc, ◌+◌, ◌-◌, ◌≤◌, List, [], ◌∷◌, ◌++◌, drop, length, true}
+use Rattle.std.proofs.Common.{false, cond, Option, Some, None, refl, sym, ◌∙◌, ap, drop-drop, length-drop, arith}
 use Rattle.std.specs.Str.{bytes_eq}
 use Rattle.vg_small.specs.declared.small.Test.{Test}
 use Rattle.vg_small.specs.declared.small.Lang.{Lang}
@@ -81,16 +82,20 @@ drop-some (x ∷ xs) zero h = (x, refl)
 drop-some (x ∷ xs) (suc i) h = drop-some xs i (omega arith)
 
 -- a body by its first words
-regroup : (front : List Test) (t : Test) (read : Option (List Test × ℕ)) → with_front front (read >>= λ b. Some (t ∷ b.0, b.1)) ≡ with_front (front ++ t ∷ []) read
+regroup : (front : List Test) (t : Test) (read : Option (List Test × ℕ)) → with_front front (read >>= λ b. Some (t ∷ b.0, b.1)) ≡ with_front
+    (front ++ t ∷ []) read
 regroup front t None = refl
 regroup front t (Some b) = ap (λ (ts : List Test). Some (ts, b.1)) (simp append_assoc)
 
-module _ (lang : Lang) (bound : ℕ) (front : List Test) (count i : ℕ) (ws : List (List ℕ)) (total : Option (List Test × ℕ)) (lt : i < count) (so_far : with_front front (body_of lang bound (count - i) ws) ≡ total) where
-  pub goes_on : (t : Test) (rest : List (List ℕ)) → begins_if ws ≡ true → test_of lang bound ws ≡ Some (t, rest) → with_front (front ++ t ∷ []) (body_of lang bound (count - (i + 1)) rest) ≡ total
+module _ (lang : Lang) (bound : ℕ) (front : List Test) (count i : ℕ) (ws : List (List ℕ)) (total : Option (List Test × ℕ)) (lt : i < count)
+    (so_far : with_front front (body_of lang bound (count - i) ws) ≡ total) where
+  pub goes_on : (t : Test) (rest : List (List ℕ)) → begins_if ws ≡ true → test_of lang bound ws ≡ Some (t, rest)
+      → with_front (front ++ t ∷ []) (body_of lang bound (count - (i + 1)) rest) ≡ total
   unfolding body_of
   goes_on t rest test is =
       let k : count - i ≡ suc (count - (i + 1)) = omega arith in
-      let one : with_front front (body_of lang bound (count - i) ws) ≡ with_front (front ++ t ∷ []) (body_of lang bound (count - (i + 1)) rest) = rw (k, test, is) (regroup front t (body_of lang bound (count - (i + 1)) rest)) in
+      let one : with_front front (body_of lang bound (count - i) ws) ≡ with_front (front ++ t ∷ []) (body_of lang bound (count - (i + 1)) rest) =
+      rw (k, test, is) (regroup front t (body_of lang bound (count - (i + 1)) rest)) in
       sym one ∙ so_far
 
   pub no_test : begins_if ws ≡ true → test_of lang bound ws ≡ None → total ≡ None
@@ -111,10 +116,12 @@ module _ (lang : Lang) (bound : ℕ) (front : List Test) (count i : ℕ) (ws : L
   unfolding body_of
   with_last last test is =
       let k : count - i ≡ suc (count - (i + 1)) = omega arith in
-      let one : with_front front (body_of lang bound (count - i) ws) ≡ Some (front, last) = rw (k, test, is) (ap (λ (ts : List Test). Some (ts, last)) (append-nil front)) in
+      let one : with_front front (body_of lang bound (count - i) ws) ≡ Some (front, last) =
+      rw (k, test, is) (ap (λ (ts : List Test). Some (ts, last)) (append-nil front)) in
       sym so_far ∙ one
 
-pub no_more : (lang : Lang) (bound : ℕ) (front : List Test) (count i : ℕ) (ws : List (List ℕ)) (total : Option (List Test × ℕ)) → count ≤ i → with_front front (body_of lang bound (count - i) ws) ≡ total → total ≡ None
+pub no_more : (lang : Lang) (bound : ℕ) (front : List Test) (count i : ℕ) (ws : List (List ℕ)) (total : Option (List Test × ℕ)) → count ≤ i
+    → with_front front (body_of lang bound (count - i) ws) ≡ total → total ≡ None
 unfolding body_of
 no_more lang bound front count i ws total le so_far =
     let k : count - i ≡ 0 = omega arith in

@@ -1,6 +1,7 @@
 -- How the reader goes through words: what the private functions of reading answer. It mirrors their code, and no public
 -- contract cites it: what a small text is stands in Spelling.
-use Rattle.std.specs.Prelude.{ℕ, zero, suc, ◌+◌, ◌-◌, ◌*◌, ◌≡◌, List, [], ◌∷◌, map, codes, length, is_some, Bool, ◌||◌, ◌&&◌, nat_lt, nat_le, ◌==◌, if◌then◌else◌, Option, Some, None, Result, Ok, Err}
+use Rattle.std.specs.Prelude.{ℕ, zero, suc, ◌+◌, ◌-◌, ◌*◌, ◌≡◌, List, [], ◌∷◌, map, codes, length, is_some, Bool, ◌||◌, ◌&&◌, nat_lt, nat_le, ◌==◌}
+use Rattle.std.specs.Prelude.{if◌then◌else◌, Option, Some, None, Result, Ok, Err}
 use Rattle.std.specs.Str.{bytes_eq}
 use Rattle.vg_small.specs.Words.{Placed, spelled}
 use Rattle.vg_small.specs.declared.words.Word.{Word}

@@ -2,7 +2,8 @@
 ghost use Rattle.std.specs.Prelude.{◌≡◌, ◌<◌, ◌≤◌, ◌^◌, ℕ, List, length, map, option_map, IfOk, IsErrOf};
 ghost use Rattle.vg_small.specs.Meaning.{value_at, steps_at};
 ghost use Rattle.vg_small.specs.Spelling.{Spells, SpellsNone, name_at, value_bound};
-ghost use Rattle.vg_small.specs.Reader.{after, number_after, ports_after, head_of, value_after, test_of, last_of, begins_if, body_of, small_of, texts, placed, Gives};
+ghost use Rattle.vg_small.specs.Reader.{after, number_after, ports_after, head_of, value_after, test_of, last_of, begins_if, body_of, small_of, texts};
+ghost use Rattle.vg_small.specs.Reader.{placed, Gives};
 ghost use Rattle.vg_small.specs.declared.small.SmallFault.TheVariants as faults;
 
 use crate::form;

@@ -1,5 +1,6 @@
 -- The route for an address is one: what the relation says of it and what the function answers are the same.
-use Rattle.std.proofs.Common.{suc, ◌≡◌, ℕ, ◌+◌, ◌-◌, ◌/◌, ◌^◌, ◌<◌, ◌≤◌, List, [], ◌∷◌, ◌++◌, length, get_or, Option, Some, None, refl, sym, ◌∙◌, ap, subst, inl, inr, arith, length-append}
+use Rattle.std.proofs.Common.{suc, ◌≡◌, ℕ, ◌+◌, ◌-◌, ◌/◌, ◌^◌, ◌<◌, ◌≤◌, List, [], ◌∷◌, ◌++◌, length, get_or, Option, Some, None, refl, sym, ◌∙◌, ap}
+use Rattle.std.proofs.Common.{subst, inl, inr, arith, length-append}
 use Rattle.std.specs.List.{All}
 use Rattle.std.specs.Prelude.{nat_lt, if◌then◌else◌}
 use Rattle.std.proofs.lemmas.Bool.{cases_eq, cases_lt, cases_order, lt-ltb, le-ltb, eq-eqb, ne_eqb, cond-true, cond-false}
@@ -34,7 +35,8 @@ IsBest routes a None = All (λ route. ¬ Matches route a) routes
 IsBest routes a (Some route) = IsRouteFor routes a route
 
 -- the first route is the one, where it matches and all that match behind it are shorter
-is_first : (route : Route) (routes : List Route) (a : ℕ) → Matches route a → All (λ other. Matches other a → other.len < route.len) routes → IsRouteFor (route ∷ routes) a route
+is_first : (route : Route) (routes : List Route) (a : ℕ) → Matches route a → All (λ other. Matches other a → other.len < route.len) routes
+    → IsRouteFor (route ∷ routes) a route
 is_first route routes a matched shorter = record {
   before = [];
   behind = routes;
@@ -45,7 +47,8 @@ is_first route routes a matched shorter = record {
 }
 
 -- one behind the first route is the one, where the first doesn't match or is no longer
-is_behind : (route : Route) (routes : List Route) (a : ℕ) (b : Route) → (Matches route a → route.len ≤ b.len) → IsRouteFor routes a b → IsRouteFor (route ∷ routes) a b
+is_behind : (route : Route) (routes : List Route) (a : ℕ) (b : Route) → (Matches route a → route.len ≤ b.len) → IsRouteFor routes a b
+    → IsRouteFor (route ∷ routes) a b
 is_behind route routes a b no_longer was = record {
   before = route ∷ was.before;
   behind = was.behind;
@@ -64,7 +67,8 @@ no_longer_all : (routes : List Route) (a : ℕ) (b : Route) → IsRouteFor route
 no_longer_all routes a b was =
     subst (All (λ other. Matches other a → other.len ≤ b.len)) (sym was.stands)
     (All-append (λ other. Matches other a → other.len ≤ b.len) was.before (b ∷ was.behind) was.no_longer
-    (All-cons (λ other. Matches other a → other.len ≤ b.len) b was.behind (λ _. omega arith) (λ k d within matched. omega (arith, was.shorter k d within matched))))
+    (All-cons (λ other. Matches other a → other.len ≤ b.len) b was.behind (λ _. omega arith)
+    (λ k d within matched. omega (arith, was.shorter k d within matched))))
 
 best_step : (route : Route) (routes : List Route) (a : ℕ) (rest : Option Route) → IsBest routes a rest → IsBest (route ∷ routes) a (longer route a rest)
 best_step route routes a None none = elim (cases_eq (a / 2 ^ (32 - route.len)) (route.address / 2 ^ (32 - route.len))) [
@@ -79,7 +83,8 @@ best_step route routes a (Some b) best = elim (cases_eq (a / 2 ^ (32 - route.len
         (is_first route routes a matched (λ k d within other. omega (arith, no_longer_all routes a b best k d within other)))
     | inr no_longer ↦ subst (IsBest (route ∷ routes) a) (sym (longer-kept route a b (λ _. no_longer))) (is_behind route routes a b (λ _. no_longer) best)
   ]
-  | inr differs ↦ subst (IsBest (route ∷ routes) a) (sym (longer-kept route a b (λ same. absurd (differs same)))) (is_behind route routes a b (λ same. absurd (differs same)) best)
+  | inr differs ↦ subst (IsBest (route ∷ routes) a) (sym (longer-kept route a b (λ same. absurd (differs same))))
+      (is_behind route routes a b (λ same. absurd (differs same)) best)
 ]
 
 -- the function answers what the relation says
@@ -87,18 +92,21 @@ best : (routes : List Route) (a : ℕ) → IsBest routes a (route_for routes a)
 best [] a = All-nil (λ route. ¬ Matches route a)
 best (route ∷ routes) a = best_step route routes a (route_for routes a) (best routes a)
 
-match_of_best : (routes : List Route) (a : ℕ) (answer : Option Route) → IsBest routes a answer → IsLongestMatch routes a (elim answer [ None ↦ None | Some route ↦ Some route.value ])
+match_of_best : (routes : List Route) (a : ℕ) (answer : Option Route) → IsBest routes a answer
+    → IsLongestMatch routes a (elim answer [ None ↦ None | Some route ↦ Some route.value ])
 match_of_best routes a None none = none
 match_of_best routes a (Some route) is = (route, is, refl)
 
 -- what stands at one place is one
-same_place : (routes before behind front back : List Route) (one other : Route) → routes ≡ before ++ one ∷ behind → routes ≡ front ++ other ∷ back → length before ≡ length front → one ≡ other
+same_place : (routes before behind front back : List Route) (one other : Route) → routes ≡ before ++ one ∷ behind → routes ≡ front ++ other ∷ back
+    → length before ≡ length front → one ≡ other
 same_place routes before behind front back one other stands stays same =
     sym (get_or-append-add before (one ∷ behind) 0 one) ∙ ap (λ xs. get_or xs (length before + 0) one) (sym stands ∙ stays)
     ∙ ap (λ i. get_or (front ++ other ∷ back) (i + 0) one) same ∙ get_or-append-add front (other ∷ back) 0 one
 
 -- one of two that are the one doesn't stand before the other
-not_before : (routes : List Route) (a : ℕ) (one other : Route) (s : IsRouteFor routes a one) (t : IsRouteFor routes a other) → length s.before < length t.before → ⊥
+not_before : (routes : List Route) (a : ℕ) (one other : Route) (s : IsRouteFor routes a one) (t : IsRouteFor routes a other)
+    → length s.before < length t.before → ⊥
 not_before routes a one other s t less =
     let there : get_or t.before (length s.before) one ≡ one =
     sym (get_or_append_left t.before (other ∷ t.behind) one (length s.before) less)

@@ -26,8 +26,10 @@ deepest depth xs = fold (λ greatest x. max greatest (depth x)) 0 xs
 abbrev pub expression_depth : Syntax → List ℕ → SExpr → ℕ
 expression_depth code known (expressions.Parens inner) = 1 + depth_at known inner
 expression_depth code known (expressions.Not operand) = 1 + depth_at known operand
-expression_depth code known (expressions.Chain first rest) = max (depth_at known first) (deepest (λ operation. depth_at known operation.operand) (listed code.operations rest))
-expression_depth code known (expressions.Choose condition chosen otherwise) = max (depth_at known condition) (1 + max (depth_at known chosen) (depth_at known otherwise))
+expression_depth code known (expressions.Chain first rest) =
+    max (depth_at known first) (deepest (λ operation. depth_at known operation.operand) (listed code.operations rest))
+expression_depth code known (expressions.Choose condition chosen otherwise) = max (depth_at known condition)
+    (1 + max (depth_at known chosen) (depth_at known otherwise))
 expression_depth code known (expressions.Call body arguments) = 1 + max (depth_at known body) (deepest (depth_at known) (listed code.items arguments))
 expression_depth code known (expressions.Cell vector index field) = 1 + depth_at known index
 expression_depth code known (expressions.Frame word place) = 1 + depth_at known place

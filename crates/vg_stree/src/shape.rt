@@ -1,6 +1,7 @@
 //! What a specification declares.
 ghost use Rattle.std.specs.Prelude.{◌≤◌, ◌^◌, length, ◌≡◌, [], ◌∷◌, ◌++◌, IfOk, OnOk};
-ghost use Rattle.vg_stree.specs.Declarations.{width_bytes, field_bytes, fields_of, struct_bytes, field_place, bytes_of, empty_shape, with_number, with_struct, with_field, with_object, with_rule, with_premise};
+ghost use Rattle.vg_stree.specs.Declarations.{width_bytes, field_bytes, fields_of, struct_bytes, field_place, bytes_of, empty_shape, with_number};
+ghost use Rattle.vg_stree.specs.Declarations.{with_struct, with_field, with_object, with_rule, with_premise};
 
 use crate::code::{Parts, part_of};
 use std::alloc::Global;

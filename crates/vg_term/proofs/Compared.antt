@@ -1,5 +1,6 @@
 -- Comparisons in a narrower width, and operations with the sign on words whose sign is 0.
-use Rattle.std.proofs.Common.{◌≡◌, ℕ, ◌+◌, ◌-◌, ◌*◌, ◌/◌, ◌%◌, ◌^◌, ◌<◌, ◌≤◌, false, List, [], ◌∷◌, map, get_or, slice_get, Some, Result, Ok, Err, All, ◌⊎◌, refl, sym, ap, subst, ◌∙◌, inl, inr, arith, eq-eqb, le-ltb}
+use Rattle.std.proofs.Common.{◌≡◌, ℕ, ◌+◌, ◌-◌, ◌*◌, ◌/◌, ◌%◌, ◌^◌, ◌<◌, ◌≤◌, false, List, [], ◌∷◌, map, get_or, slice_get, Some, Result, Ok, Err}
+use Rattle.std.proofs.Common.{All, ◌⊎◌, refl, sym, ap, subst, ◌∙◌, inl, inr, arith, eq-eqb, le-ltb}
 use Rattle.std.specs.Prelude.{nat_eq, nat_lt, int_lt}
 use Rattle.std.specs.Int.{bit_at}
 use Rattle.std.proofs.Math.Nat.{mod-eq_of_lt}
@@ -54,7 +55,8 @@ extends v w a some wider below =
           inr (high, omega (arith, e))
     ]
 
-ordered : (h p q a b s t : ℕ) → p ≤ q → h ≤ p → a < p → b < p → ((a < h) × (s ≡ a)) ⊎ ((h ≤ a) × (s + p ≡ a + q)) → ((b < h) × (t ≡ b)) ⊎ ((h ≤ b) × (t + p ≡ b + q)) → a < b → s < t
+ordered : (h p q a b s t : ℕ) → p ≤ q → h ≤ p → a < p → b < p → ((a < h) × (s ≡ a)) ⊎ ((h ≤ a) × (s + p ≡ a + q)) → ((b < h) × (t ≡ b))
+    ⊎ ((h ≤ b) × (t + p ≡ b + q)) → a < b → s < t
 ordered h p q a b s t wider half below_a below_b (inl x) (inl y) less = omega (arith, x.1, y.1, less)
 ordered h p q a b s t wider half below_a below_b (inl x) (inr y) less = omega (arith, x.0, x.1, y.0, y.1, wider, below_a)
 ordered h p q a b s t wider half below_a below_b (inr x) (inl y) less = absurd (omega (arith, x.0, y.0, less))
@@ -71,7 +73,8 @@ not_before_itself a = not_at_most a a (omega arith)
 
 module _ (v w : ℕ) (some : 0 < v) (wider : v ≤ w) (a b : ℕ) (below_a : a < 2 ^ v) (below_b : b < 2 ^ v) where
   up : (x y : ℕ) → x < 2 ^ v → y < 2 ^ v → x < y → formulas.sext v w x < formulas.sext v w y
-  up x y p q less = ordered (2 ^ (v - 1)) (2 ^ v) (2 ^ w) x y (formulas.sext v w x) (formulas.sext v w y) (pow_mono wider) (pow_mono {i = v - 1} {j = v} (omega arith)) p q (extends v w x some wider p) (extends v w y some wider q) less
+  up x y p q less = ordered (2 ^ (v - 1)) (2 ^ v) (2 ^ w) x y (formulas.sext v w x) (formulas.sext v w y) (pow_mono wider)
+      (pow_mono {i = v - 1} {j = v} (omega arith)) p q (extends v w x some wider p) (extends v w y some wider q) less
 
   less_kept : nat_lt (formulas.sext v w a) (formulas.sext v w b) ≡ nat_lt a b
   less_kept =
@@ -104,7 +107,8 @@ module _ (v w : ℕ) (some : 0 < v) (wider : v ≤ w) (a b : ℕ) (below_a : a <
             ∙ sym other.0
       ]
 
-compared_alike : (op : Op) (v w a b : ℕ) → IsComparison op → 0 < v → v ≤ w → a < 2 ^ v → b < 2 ^ v → answer op (word w (formulas.sext v w a) ∷ word w (formulas.sext v w b) ∷ []) ≡ answer op (word v a ∷ word v b ∷ [])
+compared_alike : (op : Op) (v w a b : ℕ) → IsComparison op → 0 < v → v ≤ w → a < 2 ^ v → b < 2 ^ v
+    → answer op (word w (formulas.sext v w a) ∷ word w (formulas.sext v w b) ∷ []) ≡ answer op (word v a ∷ word v b ∷ [])
 compared_alike ops.Eq v w a b is some wider p q = ap formulas.bit (same_kept v w some wider a b p q)
 compared_alike ops.Ult v w a b is some wider p q = ap formulas.bit (less_kept v w some wider a b p q)
 compared_alike ops.Slt v w a b is some wider p q = (λ j. formulas.bit (int_lt (signed-sext v w a some wider p j) (signed-sext v w b some wider q j)))
@@ -142,7 +146,8 @@ extended_later old new made g id part there is =
           ∙ (λ j. formulas.sext (sym wide_part j) (sym wide j) (sym (value_later old new made g words part is.stands) j));
     }
 
-narrower_stands_for : {terms : List Term} → AreTerms terms → (op : Op) (a b x y id : TermId) → IsComparison op → width_at terms a ≡ width_at terms b → AreNarrower terms a b x y → StandsFor terms id op (x ∷ y ∷ []) → StandsFor terms id op (a ∷ b ∷ [])
+narrower_stands_for : {terms : List Term} → AreTerms terms → (op : Op) (a b x y id : TermId) → IsComparison op → width_at terms a ≡ width_at terms b
+    → AreNarrower terms a b x y → StandsFor terms id op (x ∷ y ∷ []) → StandsFor terms id op (a ∷ b ∷ [])
 narrower_stands_for {terms} made op a b x y id is alike n for = record {
   stands = for.stands;
   width = for.width ∙ compared_width op (width_at terms x) (width_at terms y) is ∙ sym (compared_width op (width_at terms a) (width_at terms b) is);
@@ -153,12 +158,14 @@ narrower_stands_for {terms} made op a b x y id is alike n for = record {
       let vy = value_of terms words y in
       for.value words assigns
       ∙ (λ j. answer op (word v vx ∷ word (sym n.alike j) vy ∷ []))
-      ∙ sym (compared_alike op v w vx vy is (width_some made x n.left.stands) n.left.wider (term_range made words assigns x n.left.stands).below (subst (λ k. vy < 2 ^ k) (sym n.alike) (term_range made words assigns y n.right.stands).below))
+      ∙ sym (compared_alike op v w vx vy is (width_some made x n.left.stands) n.left.wider (term_range made words assigns x n.left.stands).below
+      (subst (λ k. vy < 2 ^ k) (sym n.alike) (term_range made words assigns y n.right.stands).below))
       ∙ (λ j. answer op (word w (sym (n.left.value words assigns) j) ∷ word (alike j) (formulas.sext (n.alike j) (alike j) vy) ∷ []))
       ∙ (λ j. answer op (bits_at terms words a ∷ word (width_at terms b) (sym (n.right.value words assigns) j) ∷ []));
 }
 
-pub narrower_builds : (old mid new : List Term) (op : Op) (a b x y : TermId) (result : Result TermId TermStop) → IsComparison op → Grown old mid → Stands old a → Stands old b → width_at old a ≡ width_at old b → AreNarrower mid a b x y →
+pub narrower_builds : (old mid new : List Term) (op : Op) (a b x y : TermId) (result : Result TermId TermStop) → IsComparison op → Grown old mid
+    → Stands old a → Stands old b → width_at old a ≡ width_at old b → AreNarrower mid a b x y →
     Builds mid new op (x ∷ y ∷ []) result → Builds old new op (a ∷ b ∷ []) result
 narrower_builds old mid new op a b x y (Ok id) is g there_a there_b alike n h =
     let whole = grown_on old mid new g (record { made = h.made; grows = h.grows }) in
@@ -174,14 +181,22 @@ narrower_builds old mid new op a b x y (Ok id) is g there_a there_b alike n h =
             alike = width_later mid new h.grows x n.left.stands ∙ n.alike ∙ sym (width_later mid new h.grows y n.right.stands);
           }) h.means;
     }
-narrower_builds old mid new op a b x y (Err stop) is g there_a there_b alike n h = record { made = h.made; grows = (grown_on old mid new g (record { made = h.made; grows = h.grows })).grows; means = tt }
+narrower_builds old mid new op a b x y (Err stop) is g there_a there_b alike n h = record {
+  made = h.made;
+  grows =
+      (grown_on old mid new g (record { made = h.made; grows = h.grows })).grows;
+  means = tt;
+}
 
-pub builds_after : (old mid new : List Term) (op : Op) (ps : List TermId) (result : Result TermId TermStop) → Grown old mid → Builds mid new op ps result → Builds old new op ps result
-builds_after old mid new op ps result g h = record { made = h.made; grows = (grown_on old mid new g (record { made = h.made; grows = h.grows })).grows; means = h.means }
+pub builds_after : (old mid new : List Term) (op : Op) (ps : List TermId) (result : Result TermId TermStop) → Grown old mid
+    → Builds mid new op ps result → Builds old new op ps result
+builds_after old mid new op ps result g h =
+    record { made = h.made; grows = (grown_on old mid new g (record { made = h.made; grows = h.grows })).grows; means = h.means }
 
 -- ---- the lowest bits, where those above are 0
 
-pub low_whole : (old new : List Term) (a x : TermId) (wires : List Wire) (w end : ℕ) → AreTerms old → AreTerms new → Grows old new → Stands old a → AllCarry old (ops.Extract 0 w) (a ∷ []) wires w → w ≡ width_at old a → AreOff wires end w → end ≤ w →
+pub low_whole : (old new : List Term) (a x : TermId) (wires : List Wire) (w end : ℕ) → AreTerms old → AreTerms new → Grows old new → Stands old a
+    → AllCarry old (ops.Extract 0 w) (a ∷ []) wires w → w ≡ width_at old a → AreOff wires end w → end ≤ w →
     IsWired new x wires 0 end → (words : List Word) → Assigns words new → value_of new words x ≡ value_of new words a
 low_whole old new a x wires w end was made g there carry wide off le wired words assigns =
     let before = assigns_later old new g words assigns in
@@ -209,13 +224,16 @@ low_whole old new a x wires w end was made g there carry wide off le wired words
     ])
     ∙ sym (value_later old new was g words a there)
 
-less_as_unsigned : (op : Op) (n v a b : ℕ) → IsLess op → a < 2 ^ (n - 1) → b < 2 ^ (n - 1) → answer ops.Ult (word v a ∷ word v b ∷ []) ≡ answer op (word n a ∷ word n b ∷ [])
+less_as_unsigned : (op : Op) (n v a b : ℕ) → IsLess op → a < 2 ^ (n - 1) → b < 2 ^ (n - 1)
+    → answer ops.Ult (word v a ∷ word v b ∷ []) ≡ answer op (word n a ∷ word n b ∷ [])
 less_as_unsigned ops.Ult n v a b is p q = refl
 less_as_unsigned ops.Slt n v a b is p q = (λ j. formulas.bit (int_lt (sym (signed_pos n a p) j) (sym (signed_pos n b q) j)))
 less_as_unsigned _ n v a b is p q = absurd is
 
-pub less_builds : (old one two new : List Term) (op : Op) (a b x y : TermId) (left right : List Wire) (w end : ℕ) (result : Result TermId TermStop) → IsLess op → AreTerms old → Stands old a → Stands old b → width_at old a ≡ width_at old b → w ≡ width_at old a →
-    AllCarry old (ops.Extract 0 w) (a ∷ []) left w → AllCarry old (ops.Extract 0 w) (b ∷ []) right w → AreOff left end w → AreOff right end w → end < w → Grown old one → IsWired one x left 0 end → Grown one two → IsWired two y right 0 end →
+pub less_builds : (old one two new : List Term) (op : Op) (a b x y : TermId) (left right : List Wire) (w end : ℕ) (result : Result TermId TermStop)
+    → IsLess op → AreTerms old → Stands old a → Stands old b → width_at old a ≡ width_at old b → w ≡ width_at old a →
+    AllCarry old (ops.Extract 0 w) (a ∷ []) left w → AllCarry old (ops.Extract 0 w) (b ∷ []) right w → AreOff left end w → AreOff right end w
+    → end < w → Grown old one → IsWired one x left 0 end → Grown one two → IsWired two y right 0 end →
     Builds two new ops.Ult (x ∷ y ∷ []) result → Builds old new op (a ∷ b ∷ []) result
 less_builds old one two new op a b x y left right w end (Ok id) is made there_a there_b alike wide carry_a carry_b off_a off_b less g1 up g2 down h =
     let g3 : Grown two new = record { made = h.made; grows = h.grows } in
@@ -232,19 +250,26 @@ less_builds old one two new op a b x y left right w end (Ok id) is made there_a 
             let in_two = assigns_later two new h.grows words assigns in
             let in_one = assigns_later one new g_one.grows words assigns in
             let x_is : value_of new words x ≡ value_of new words a =
-            value_later one new g1.made g_one.grows words x up.stands ∙ low_whole old one a x left w end made g1.made g1.grows there_a carry_a wide off_a (omega (arith, less)) up words in_one ∙ sym (value_later one new g1.made g_one.grows words a (stands_later old one g1.grows a there_a)) in
+            value_later one new g1.made g_one.grows words x up.stands ∙ low_whole old one a x left w end made g1.made g1.grows there_a carry_a wide
+            off_a (omega (arith, less)) up words in_one
+            ∙ sym (value_later one new g1.made g_one.grows words a (stands_later old one g1.grows a there_a)) in
             let y_is : value_of new words y ≡ value_of new words b =
-            value_later two new g2.made h.grows words y down.stands ∙ low_whole old two b y right w end made g2.made g_two.grows there_b carry_b (wide ∙ alike) off_b (omega (arith, less)) down words in_two ∙ sym (value_later two new g2.made h.grows words b (stands_later old two g_two.grows b there_b)) in
+            value_later two new g2.made h.grows words y down.stands ∙ low_whole old two b y right w end made g2.made g_two.grows there_b carry_b
+            (wide ∙ alike) off_b (omega (arith, less)) down words in_two
+            ∙ sym (value_later two new g2.made h.grows words b (stands_later old two g_two.grows b there_b)) in
             let wide_x : width_at new x ≡ end = width_later one new g_one.grows x up.stands ∙ up.width in
             let wide_y : width_at new y ≡ end = width_later two new h.grows y down.stands ∙ down.width in
             let wide_a : width_at new a ≡ w = width_later old new whole.grows a there_a ∙ sym wide in
             let wide_b : width_at new b ≡ w = width_later old new whole.grows b there_b ∙ sym alike ∙ sym wide in
             let half : 2 ^ end ≤ 2 ^ (w - 1) = pow_mono (omega (arith, less)) in
-            let small_x = subst (λ k. value_of new words x < 2 ^ k) wide_x (term_range h.made words assigns x (stands_later one new g_one.grows x up.stands)).below in
-            let small_y = subst (λ k. value_of new words y < 2 ^ k) wide_y (term_range h.made words assigns y (stands_later two new h.grows y down.stands)).below in
+            let small_x = subst (λ k. value_of new words x < 2 ^ k) wide_x (term_range h.made words assigns x
+            (stands_later one new g_one.grows x up.stands)).below in
+            let small_y = subst (λ k. value_of new words y < 2 ^ k) wide_y (term_range h.made words assigns y
+            (stands_later two new h.grows y down.stands)).below in
             h.means.value words assigns
             ∙ (λ j. answer ops.Ult (word (wide_x j) (x_is j) ∷ word (wide_y j) (y_is j) ∷ []))
-            ∙ less_as_unsigned op w end (value_of new words a) (value_of new words b) is (subst (λ n. n < 2 ^ (w - 1)) x_is (omega (arith, small_x, half))) (subst (λ n. n < 2 ^ (w - 1)) y_is (omega (arith, small_y, half)))
+            ∙ less_as_unsigned op w end (value_of new words a) (value_of new words b) is (subst (λ n. n < 2 ^ (w - 1)) x_is
+            (omega (arith, small_x, half))) (subst (λ n. n < 2 ^ (w - 1)) y_is (omega (arith, small_y, half)))
             ∙ (λ j. answer op (word (sym wide_a j) (value_of new words a) ∷ word (sym wide_b j) (value_of new words b) ∷ []));
       };
     }
@@ -261,21 +286,26 @@ top_zero v k below none =
     let whole : 0 * 2 ^ k + v % 2 ^ k ≡ v = ap (λ n. n * 2 ^ k + v % 2 ^ k) (sym z) ∙ shr_split v k in
     omega (arith, r, whole)
 
-pub nonnegative : (terms : List Term) (term : TermId) (at : ℕ) (wire : Wire) → AreTerms terms → Stands terms term → at + 1 ≡ width_at terms term → SameWire terms (Bit term at) wire → wire ≡ Fixed false → IsNonnegative terms term
+pub nonnegative : (terms : List Term) (term : TermId) (at : ℕ) (wire : Wire) → AreTerms terms → Stands terms term → at + 1 ≡ width_at terms term
+    → SameWire terms (Bit term at) wire → wire ≡ Fixed false → IsNonnegative terms term
 nonnegative terms term at wire made there top same off words assigns =
     let wide : width_at terms term ≡ 1 + at = omega (arith, top) in
     let k : at ≡ width_at terms term - 1 = omega (arith, top) in
     subst (λ n. value_of terms words term < 2 ^ n) k
-    (top_zero (value_of terms words term) at (subst (λ n. value_of terms words term < 2 ^ n) wide (term_range made words assigns term there).below) (sym (same.value words assigns) ∙ ap (wire_value terms words) off))
+    (top_zero (value_of terms words term) at (subst (λ n. value_of terms words term < 2 ^ n) wide (term_range made words assigns term there).below)
+    (sym (same.value words assigns) ∙ ap (wire_value terms words) off))
 
-pub same_answers : (terms : List Term) (op op' other : Op) (p q : Parts) → op ≡ op' → p ≡ q → All (Stands terms) (listed p) → Fits op (map (width_at terms) (listed p)) →
+pub same_answers : (terms : List Term) (op op' other : Op) (p q : Parts) → op ≡ op' → p ≡ q → All (Stands terms) (listed p)
+    → Fits op (map (width_at terms) (listed p)) →
     (All (Stands terms) (listed q) → Fits op' (map (width_at terms) (listed q)) → AnswersAs terms op' other (listed q)) → AnswersAs terms op other (listed p)
 same_answers terms op op' other p q e f stand fits base =
     subst (λ (o : Op). AnswersAs terms o other (listed p)) (sym e)
     (subst (λ (r : Parts). AnswersAs terms op' other (listed r)) (sym f)
-    (base (subst (λ (r : Parts). All (Stands terms) (listed r)) f stand) (subst (λ (r : Parts). Fits op' (map (width_at terms) (listed r))) f (subst (λ (o : Op). Fits o (map (width_at terms) (listed p))) e fits))))
+    (base (subst (λ (r : Parts). All (Stands terms) (listed r)) f stand) (subst (λ (r : Parts). Fits op' (map (width_at terms) (listed r))) f
+    (subst (λ (o : Op). Fits o (map (width_at terms) (listed p))) e fits))))
 
-pub zeros_for_sign : (terms : List Term) (w : ℕ) (a : TermId) → AreTerms terms → IsNonnegative terms a → All (Stands terms) (a ∷ []) → Fits (ops.Sext w) (map (width_at terms) (a ∷ [])) → AnswersAs terms (ops.Sext w) (ops.Zext w) (a ∷ [])
+pub zeros_for_sign : (terms : List Term) (w : ℕ) (a : TermId) → AreTerms terms → IsNonnegative terms a → All (Stands terms) (a ∷ [])
+    → Fits (ops.Sext w) (map (width_at terms) (a ∷ [])) → AnswersAs terms (ops.Sext w) (ops.Zext w) (a ∷ [])
 zeros_for_sign terms w a made small stand fits = record {
   fits = fits;
   width = refl;
@@ -288,7 +318,8 @@ zeros_for_sign terms w a made small stand fits = record {
       sym (rw (signed_pos v va (small words assigns)) (mod-eq_of_lt (omega (arith, below, whole))));
 }
 
-pub shift_for_sign : (terms : List Term) (a b : TermId) → AreTerms terms → IsNonnegative terms a → All (Stands terms) (a ∷ b ∷ []) → Fits ops.Ashr (map (width_at terms) (a ∷ b ∷ [])) → AnswersAs terms ops.Ashr ops.Lshr (a ∷ b ∷ [])
+pub shift_for_sign : (terms : List Term) (a b : TermId) → AreTerms terms → IsNonnegative terms a → All (Stands terms) (a ∷ b ∷ [])
+    → Fits ops.Ashr (map (width_at terms) (a ∷ b ∷ [])) → AnswersAs terms ops.Ashr ops.Lshr (a ∷ b ∷ [])
 shift_for_sign terms a b made small stand fits = record {
   fits = fits;
   width = refl;
@@ -304,17 +335,20 @@ shift_for_sign terms a b made small stand fits = record {
 
 -- ---- what was extended
 
-pub extended_of : {terms : List Term} → AreTerms terms → (term part : TermId) (v w : ℕ) → slice_get terms term.0 ≡ Some (nodes.Op (ops.Sext v) (parts.One part), w) → IsExtended terms term part
+pub extended_of : {terms : List Term} → AreTerms terms → (term part : TermId) (v w : ℕ) → slice_get terms term.0 ≡ Some
+    (nodes.Op (ops.Sext v) (parts.One part), w) → IsExtended terms term part
 extended_of {terms} made term part v w here =
     let fits = node_fits made term (ops.Sext v) (parts.One part) w here in
     let wide : width_at terms term ≡ v = ap width_in here ∙ node_width made term (ops.Sext v) (parts.One part) w here in
     record {
       stands = All-head (Stands terms) part [] (node_parts made term (ops.Sext v) (parts.One part) w here);
       wider = omega (arith, wide, fits.0);
-      value = λ words assigns. node_value made term (ops.Sext v) (parts.One part) w here words ∙ ap (λ n. formulas.sext (width_at terms part) n (value_of terms words part)) (sym wide);
+      value = λ words assigns. node_value made term (ops.Sext v) (parts.One part) w here words
+          ∙ ap (λ n. formulas.sext (width_at terms part) n (value_of terms words part)) (sym wide);
     }
 
-pub extended_word_of : (terms : List Term) (term : TermId) (width : ℕ) (word low r : Word) → IsWord terms term word → width ≤ word.width → low.width ≡ width → r.value ≡ formulas.sext low.width word.width low.value → r.value ≡ word.value → IsExtendedWord terms term width low
+pub extended_word_of : (terms : List Term) (term : TermId) (width : ℕ) (word low r : Word) → IsWord terms term word → width ≤ word.width
+    → low.width ≡ width → r.value ≡ formulas.sext low.width word.width low.value → r.value ≡ word.value → IsExtendedWord terms term width low
 extended_word_of terms term width word low r is wider low_width extended same =
     let wide : width_at terms term ≡ word.width = ap (λ (b : Bits). b.width) (is []) in
     record {
@@ -323,7 +357,8 @@ extended_word_of terms term width word low r is wider low_width extended same =
       value = λ words assigns. ap (λ (b : Bits). b.value) (is words) ∙ sym same ∙ extended ∙ (λ j. formulas.sext (low_width j) (sym wide j) low.value);
     }
 
-word_later : (old new : List Term) (id y : TermId) (n : ℕ) (w : Word) → AreTerms old → AreTerms new → Grows old new → Stands old id → IsExtendedWord old id n w → Needs old new (operation old (ops.Const w) []) (Ok y) → IsExtended new id y × (width_at new y ≡ n)
+word_later : (old new : List Term) (id y : TermId) (n : ℕ) (w : Word) → AreTerms old → AreTerms new → Grows old new → Stands old id
+    → IsExtendedWord old id n w → Needs old new (operation old (ops.Const w) []) (Ok y) → IsExtended new id y × (width_at new y ≡ n)
 word_later old new id y n w was made g there is needs =
     let for = (folds_to_itself old new (ops.Const w) [] (Ok y) made (All-nil (Stands old)) tt needs).means in
     let wide : width_at new id ≡ width_at old id = width_later old new g id there in
@@ -339,13 +374,17 @@ word_later old new id y n w was made g there is needs =
       wide_y,
     )
 
-pub narrower_right : (old new : List Term) (a b x y : TermId) (n : ℕ) (w : Word) → AreTerms old → AreTerms new → Stands old a → Stands old b → IsExtended old a x → n ≡ width_at old x → IsExtendedWord old b n w → Needs old new (operation old (ops.Const w) []) (Ok y) → AreNarrower new a b x y
+pub narrower_right : (old new : List Term) (a b x y : TermId) (n : ℕ) (w : Word) → AreTerms old → AreTerms new → Stands old a → Stands old b
+    → IsExtended old a x → n ≡ width_at old x → IsExtendedWord old b n w → Needs old new (operation old (ops.Const w) []) (Ok y)
+    → AreNarrower new a b x y
 narrower_right old new a b x y n w was made there_a there_b left wide right needs =
     let g = needs_grows old new (operation old (ops.Const w) []) (Ok y) needs in
     let second = word_later old new b y n w was made g there_b right needs in
     record { left = extended_later old new was g a x there_a left; right = second.0; alike = width_later old new g x left.stands ∙ sym wide ∙ sym second.1 }
 
-pub narrower_left : (old new : List Term) (a b x y : TermId) (n : ℕ) (w : Word) → AreTerms old → AreTerms new → Stands old a → Stands old b → IsExtended old b y → n ≡ width_at old y → IsExtendedWord old a n w → Needs old new (operation old (ops.Const w) []) (Ok x) → AreNarrower new a b x y
+pub narrower_left : (old new : List Term) (a b x y : TermId) (n : ℕ) (w : Word) → AreTerms old → AreTerms new → Stands old a → Stands old b
+    → IsExtended old b y → n ≡ width_at old y → IsExtendedWord old a n w → Needs old new (operation old (ops.Const w) []) (Ok x)
+    → AreNarrower new a b x y
 narrower_left old new a b x y n w was made there_a there_b right wide left needs =
     let g = needs_grows old new (operation old (ops.Const w) []) (Ok x) needs in
     let first = word_later old new a x n w was made g there_a left needs in
@@ -355,6 +394,11 @@ pub off_more : (wires : List Wire) (m n w : ℕ) → AreOff wires m w → m ≤ 
 off_more wires m n w off le = record { each = λ i d from below. off.each i d (omega (arith, from, le)) below }
 
 -- parts that are compared after other terms were added
-pub ready_later : (old mid : List Term) (a b : TermId) → Grown old mid → Stands old a → Stands old b → width_at old a ≡ width_at old b → Stands mid a × Stands mid b × (width_at mid a ≡ width_at mid b)
-ready_later old mid a b g there_a there_b alike =
-    (stands_later old mid g.grows a there_a, stands_later old mid g.grows b there_b, width_later old mid g.grows a there_a ∙ alike ∙ sym (width_later old mid g.grows b there_b))
+pub ready_later : (old mid : List Term) (a b : TermId) → Grown old mid → Stands old a → Stands old b → width_at old a ≡ width_at old b → Stands mid a
+    × Stands mid b × (width_at mid a ≡ width_at mid b)
+ready_later old mid a b g there_a there_b alike = (
+  stands_later old mid g.grows a there_a,
+  stands_later old mid g.grows b there_b,
+  width_later old mid g.grows a there_a ∙ alike
+      ∙ sym (width_later old mid g.grows b there_b),
+)

@@ -76,7 +76,8 @@ bit_op_none ops.Or is = refl
 bit_op_none ops.Xor is = refl
 bit_op_none _ is = absurd is
 
-pub cut_bits : (op : Op) (n from w a b : ℕ) → IsBitOp op → words.extract from w (answer op (word n a ∷ word n b ∷ [])) ≡ answer op (word w (words.extract from w a) ∷ word w (words.extract from w b) ∷ [])
+pub cut_bits : (op : Op) (n from w a b : ℕ) → IsBitOp op → words.extract from w (answer op (word n a ∷ word n b ∷ [])) ≡ answer op
+    (word w (words.extract from w a) ∷ word w (words.extract from w b) ∷ [])
 cut_bits op n from w a b is =
     let whole = answer op (word n a ∷ word n b ∷ []) in
     let x = words.extract from w a in
@@ -138,7 +139,8 @@ low_sub n w a b le below =
     ∙ sym (mod-add-mod a m (m - r))
     ∙ sym (sub-is w (a % m) r (omega (arith, rest)))
 
-pub cut_low : (op : Op) (n w a b : ℕ) → IsArithmetic op → w ≤ n → b < 2 ^ n → words.extract 0 w (answer op (word n a ∷ word n b ∷ [])) ≡ answer op (word w (words.extract 0 w a) ∷ word w (words.extract 0 w b) ∷ [])
+pub cut_low : (op : Op) (n w a b : ℕ) → IsArithmetic op → w ≤ n → b < 2 ^ n → words.extract 0 w (answer op (word n a ∷ word n b ∷ [])) ≡ answer op
+    (word w (words.extract 0 w a) ∷ word w (words.extract 0 w b) ∷ [])
 cut_low ops.Add n w a b is le below = lowest w (words.add n a b) ∙ low_add n w a b le ∙ (λ j. words.add w (sym (lowest w a) j) (sym (lowest w b) j))
 cut_low ops.Sub n w a b is le below = lowest w (words.sub n a b) ∙ low_sub n w a b le below ∙ (λ j. words.sub w (sym (lowest w a) j) (sym (lowest w b) j))
 cut_low ops.Mul n w a b is le below = lowest w (words.mul n a b) ∙ low_mul n w a b le ∙ (λ j. words.mul w (sym (lowest w a) j) (sym (lowest w b) j))
@@ -176,7 +178,8 @@ cut_signed from w v n a some wider below within =
     (λ i.
     elim (cases_lt i w) [
       | inl low ↦ bit_cut s from w i low ∙ low_signed v n a (from + i) some wider below (omega (arith, low, within)) ∙ sym (bit_cut a from w i low)
-      | inr high ↦ bit_at_above (words.extract from w s) w i (none_below (s / 2 ^ from) w) high ∙ sym (bit_at_above (words.extract from w a) w i (none_below (a / 2 ^ from) w) high)
+      | inr high ↦ bit_at_above (words.extract from w s) w i (none_below (s / 2 ^ from) w) high
+          ∙ sym (bit_at_above (words.extract from w a) w i (none_below (a / 2 ^ from) w) high)
     ])
 
 ones_above_at : (q p c : ℕ) → c < p → (q + 1) * p - 1 - c ≡ q * p + (p - 1 - c)
@@ -203,7 +206,8 @@ cut_extended w v n a some wide wider below =
           let far : words.sext v n a ≡ 2 ^ n - 1 - c = rw (signed_neg v a large below, m) refl in
           let near : words.sext v w a ≡ 2 ^ w - 1 - c = rw (signed_neg v a large below, l) refl in
           let split : 2 ^ n ≡ 2 ^ (n - w) * 2 ^ w = ap (λ k. 2 ^ k) (let t : n ≡ (n - w) + w = omega (arith, wider) in t) ∙ pow-add 2 (n - w) w in
-          let joined : 2 ^ n - 1 - c ≡ (2 ^ (n - w) - 1) * 2 ^ w + (2 ^ w - 1 - c) = ap (λ k. k - 1 - c) split ∙ ones_above (2 ^ (n - w)) (2 ^ w) c (pow_pos (n - w)) (omega arith) in
+          let joined : 2 ^ n - 1 - c ≡ (2 ^ (n - w) - 1) * 2 ^ w + (2 ^ w - 1 - c) = ap (λ k. k - 1 - c) split
+          ∙ ones_above (2 ^ (n - w)) (2 ^ w) c (pow_pos (n - w)) (omega arith) in
           ap (λ k. k % 2 ^ w) (far ∙ joined) ∙ mod_low (2 ^ (n - w) - 1) w (2 ^ w - 1 - c) (omega (arith, pow_pos w)) ∙ sym near
     ]
 
@@ -220,5 +224,6 @@ cut_twice from w n v within =
           ∙ ap (bit_at v) (let e : 0 + (from + i) ≡ from + i = omega arith in e)
           ∙ sym (bit_cut v from w i low)
       | inr high ↦
-          bit_at_above (words.extract from w (words.extract 0 n v)) w i (none_below (words.extract 0 n v / 2 ^ from) w) high ∙ sym (bit_at_above (words.extract from w v) w i (none_below (v / 2 ^ from) w) high)
+          bit_at_above (words.extract from w (words.extract 0 n v)) w i (none_below (words.extract 0 n v / 2 ^ from) w) high
+          ∙ sym (bit_at_above (words.extract from w v) w i (none_below (v / 2 ^ from) w) high)
     ])

@@ -1,5 +1,6 @@
 -- Where the bits of what an operation answers come from.
-use Rattle.std.proofs.Common.{◌≡◌, ℕ, suc, ◌+◌, ◌-◌, ◌*◌, ◌/◌, ◌%◌, ◌^◌, ◌<◌, ◌≤◌, Bool, false, List, [], ◌∷◌, map, slice_get, Option, Some, None, All, refl, sym, ap, subst, ◌∙◌, inl, inr, arith}
+use Rattle.std.proofs.Common.{◌≡◌, ℕ, suc, ◌+◌, ◌-◌, ◌*◌, ◌/◌, ◌%◌, ◌^◌, ◌<◌, ◌≤◌, Bool, false, List, [], ◌∷◌, map, slice_get, Option, Some, None}
+use Rattle.std.proofs.Common.{All, refl, sym, ap, subst, ◌∙◌, inl, inr, arith}
 use Rattle.std.specs.Prelude.{IfSome, nat_eq}
 use Rattle.std.specs.Int.{bit_at}
 use Rattle.std.proofs.lemmas.Bool.Decides.{eqb_tells}
@@ -46,7 +47,8 @@ set_bit n set e =
 abbrev Asked : List Term → Op → Parts → ℕ → Type 0
 Asked terms op p at = All (Stands terms) (listed p) × Fits op (map (width_at terms) (listed p)) × (at < width_of op (map (width_at terms) (listed p)))
 
-cut_at : (terms : List Term) (op op' : Op) (p p' : Parts) (at : ℕ) (wire : Wire) → op ≡ op' → p ≡ p' → All (Stands terms) (listed p) → Fits op (map (width_at terms) (listed p)) → at < width_of op (map (width_at terms) (listed p)) →
+cut_at : (terms : List Term) (op op' : Op) (p p' : Parts) (at : ℕ) (wire : Wire) → op ≡ op' → p ≡ p' → All (Stands terms) (listed p)
+    → Fits op (map (width_at terms) (listed p)) → at < width_of op (map (width_at terms) (listed p)) →
     (Asked terms op' p' at → IsCut terms op' (listed p') at wire) → IsCut terms op (listed p) at wire
 cut_at terms op op' p p' at wire e f stand fits within base =
     let asked : Asked terms op p at = (stand, fits, within) in
@@ -57,7 +59,8 @@ cut_at terms op op' p p' at wire e f stand fits within base =
 first_below : (n : ℕ) (t : TermId) (more : List TermId) → All (λ (part : TermId). part.0 < n) (t ∷ more) → suc t.0 ≤ n
 first_below n t more h = All-head (λ (part : TermId). part.0 < n) t more h
 
-module _ (terms : List Term) (op : Op) (p : Parts) (at : ℕ) (stand : All (Stands terms) (listed p)) (fits : Fits op (map (width_at terms) (listed p))) (within : at < width_of op (map (width_at terms) (listed p))) where
+module _ (terms : List Term) (op : Op) (p : Parts) (at : ℕ) (stand : All (Stands terms) (listed p)) (fits : Fits op (map (width_at terms) (listed p)))
+    (within : at < width_of op (map (width_at terms) (listed p))) where
   pub cut_word : (w : Word) (set : Bool) → op ≡ ops.Const w → p ≡ parts.Zero → set ≡ nat_eq (w.value / 2 ^ at % 2) 1 → IsCut terms op (listed p) at (Fixed set)
   cut_word w set e f is =
       cut_at terms op (ops.Const w) p parts.Zero at (Fixed set) e f stand fits within
@@ -66,7 +69,8 @@ module _ (terms : List Term) (op : Op) (p : Parts) (at : ℕ) (stand : All (Stan
   -- the place is below 128
   pub cut_fits : AreTerms terms → (from w : ℕ) (t : TermId) → op ≡ ops.Extract from w → p ≡ parts.One t → from + at < 2 ^ 8
   cut_fits made from w t e f =
-      let asked : Asked terms (ops.Extract from w) (parts.One t) at = subst (λ (q : Parts). Asked terms (ops.Extract from w) q at) f (subst (λ (o : Op). Asked terms o p at) e (stand, fits, within)) in
+      let asked : Asked terms (ops.Extract from w) (parts.One t) at = subst (λ (q : Parts). Asked terms (ops.Extract from w) q at) f
+      (subst (λ (o : Op). Asked terms o p at) e (stand, fits, within)) in
       omega (arith, asked.1, asked.2, width_most made t (All-head (Stands terms) t [] asked.0))
 
   pub cut_extract : (from w : ℕ) (t : TermId) → op ≡ ops.Extract from w → p ≡ parts.One t → IsCut terms op (listed p) at (Bit t (from + at))
@@ -83,13 +87,22 @@ module _ (terms : List Term) (op : Op) (p : Parts) (at : ℕ) (stand : All (Stan
   pub cut_extended : (w : ℕ) (t : TermId) → op ≡ ops.Zext w → p ≡ parts.One t → at < width_at terms t → IsCut terms op (listed p) at (Bit t at)
   cut_extended w t e f low =
       cut_at terms op (ops.Zext w) p (parts.One t) at (Bit t at) e f stand fits within
-      (λ asked. record { carries = record { stands = (All-head (Stands terms) t [] asked.0, low); value = λ words assigns. refl }; below = λ n all. first_below n t [] all })
+      (λ asked. record {
+        carries = record { stands = (All-head (Stands terms) t [] asked.0, low); value = λ words assigns. refl };
+        below =
+            λ n all. first_below n t [] all;
+      })
 
   pub cut_above : AreTerms terms → (w : ℕ) (t : TermId) → op ≡ ops.Zext w → p ≡ parts.One t → width_at terms t ≤ at → IsCut terms op (listed p) at (Fixed false)
   cut_above made w t e f high =
       cut_at terms op (ops.Zext w) p (parts.One t) at (Fixed false) e f stand fits within
       (λ asked. record {
-        carries = record { stands = tt; value = λ words assigns. sym (bit_at_above (value_of terms words t) (width_at terms t) at (term_range made words assigns t (All-head (Stands terms) t [] asked.0)).below high) };
+        carries = record {
+          stands = tt;
+          value =
+              λ words assigns. sym (bit_at_above (value_of terms words t) (width_at terms t) at
+              (term_range made words assigns t (All-head (Stands terms) t [] asked.0)).below high);
+        };
         below = λ n all. omega arith;
       })
 
@@ -104,7 +117,8 @@ module _ (terms : List Term) (op : Op) (p : Parts) (at : ℕ) (stand : All (Stan
         below = λ n all. first_below n low [] (All-tail (λ (part : TermId). part.0 < n) high (low ∷ []) all);
       })
 
-  pub cut_high : AreTerms terms → (high low : TermId) (width : ℕ) → op ≡ ops.Concat → p ≡ parts.Two high low → width ≡ width_at terms low → width ≤ at → IsCut terms op (listed p) at (Bit high (at - width))
+  pub cut_high : AreTerms terms → (high low : TermId) (width : ℕ) → op ≡ ops.Concat → p ≡ parts.Two high low → width ≡ width_at terms low → width ≤ at
+      → IsCut terms op (listed p) at (Bit high (at - width))
   cut_high made high low width e f wide big =
       cut_at terms op ops.Concat p (parts.Two high low) at (Bit high (at - width)) e f stand fits within
       (λ asked. record {
@@ -112,7 +126,8 @@ module _ (terms : List Term) (op : Op) (p : Parts) (at : ℕ) (stand : All (Stan
           stands = (All-head (Stands terms) high (low ∷ []) asked.0, omega (arith, asked.2, wide, big));
           value = λ words assigns.
               let l = All-head (Stands terms) low [] (All-tail (Stands terms) high (low ∷ []) asked.0) in
-              sym (bit_at_cat_high (value_of terms words high) (width_at terms low) (value_of terms words low) at (term_range made words assigns low l).below (omega (arith, wide, big))
+              sym (bit_at_cat_high (value_of terms words high) (width_at terms low) (value_of terms words low) at
+              (term_range made words assigns low l).below (omega (arith, wide, big))
               ∙ ap (λ n. bit_at (value_of terms words high) (at - n)) (sym wide));
         };
         below = λ n all. first_below n high (low ∷ []) all;
@@ -120,11 +135,13 @@ module _ (terms : List Term) (op : Op) (p : Parts) (at : ℕ) (stand : All (Stan
 
 -- ---- the wire below
 
-module _ {terms : List Term} (made : AreTerms terms) (term : TermId) (at : ℕ) (op : Op) (p : Parts) (w : ℕ) (here : slice_get terms term.0 ≡ Some (nodes.Op op p, w)) where
+module _ {terms : List Term} (made : AreTerms terms) (term : TermId) (at : ℕ) (op : Op) (p : Parts) (w : ℕ)
+    (here : slice_get terms term.0 ≡ Some (nodes.Op op p, w)) where
   pub below_stand : All (Stands terms) (listed p)
   below_stand =
       let within = slice_get_within terms term.0 (nodes.Op op p, w) here in
-      All-weaker (λ (part : TermId). part.0 < term.0) (Stands terms) (λ part lower. omega (arith, lower, within)) (listed p) (is_made made term.0 op p w here).before
+      All-weaker (λ (part : TermId). part.0 < term.0) (Stands terms) (λ part lower. omega (arith, lower, within)) (listed p)
+      (is_made made term.0 op p w here).before
 
   pub below_fits : Fits op (map (width_at terms) (listed p))
   below_fits = (is_made made term.0 op p w here).fits
@@ -134,13 +151,16 @@ module _ {terms : List Term} (made : AreTerms terms) (term : TermId) (at : ℕ) 
       let there : WireStands terms (Bit term at) = subst (WireStands terms) is stands in
       subst (λ n. at < n) (ap width_in here ∙ (is_made made term.0 op p w here).width) there.1
 
-  pub next_below : (wire : Wire) (r : Option Wire) → wire ≡ Bit term at → IfSome r (λ x. IsCut terms op (listed p) at x) → IfSome r (λ next. wire_depth next < wire_depth wire)
+  pub next_below : (wire : Wire) (r : Option Wire) → wire ≡ Bit term at → IfSome r (λ x. IsCut terms op (listed p) at x)
+      → IfSome r (λ next. wire_depth next < wire_depth wire)
   next_below wire r is cut =
       if_some (λ x. IsCut terms op (listed p) at x) (λ next. wire_depth next < wire_depth wire) r
-      (λ x h. subst (λ (v : Wire). wire_depth x < wire_depth v) (sym is) (let lower = h.below term.0 (is_made made term.0 op p w here).before in omega (arith, lower)))
+      (λ x h. subst (λ (v : Wire). wire_depth x < wire_depth v) (sym is) (let lower = h.below term.0 (is_made made term.0 op p w here).before in
+      omega (arith, lower)))
       cut
 
-  pub next_same : (wire : Wire) (r : Option Wire) → wire ≡ Bit term at → IfSome r (λ x. IsCut terms op (listed p) at x) → IfSome r (λ next. SameWire terms wire next)
+  pub next_same : (wire : Wire) (r : Option Wire) → wire ≡ Bit term at → IfSome r (λ x. IsCut terms op (listed p) at x)
+      → IfSome r (λ next. SameWire terms wire next)
   next_same wire r is cut =
       if_some (λ x. IsCut terms op (listed p) at x) (λ next. SameWire terms wire next) r
       (λ x h. record {
@@ -154,7 +174,8 @@ module _ {terms : List Term} (made : AreTerms terms) (term : TermId) (at : ℕ) 
 
 -- ---- wires of an operation
 
-pub carries_on : (terms : List Term) (op : Op) (ps : List TermId) (at : ℕ) (wire other : Wire) → Carries terms op ps at wire → SameWire terms wire other → Carries terms op ps at other
+pub carries_on : (terms : List Term) (op : Op) (ps : List TermId) (at : ℕ) (wire other : Wire) → Carries terms op ps at wire
+    → SameWire terms wire other → Carries terms op ps at other
 carries_on terms op ps at wire other is same = record { stands = same.stands; value = λ words assigns. same.value words assigns ∙ is.value words assigns }
 
 pub bit_law : (op : Op) (a b : Bits) (at : ℕ) → IsBitOp op → bit_at (answer op (a ∷ b ∷ [])) at ≡ bit_op op (bit_at a.value at) (bit_at b.value at)
@@ -163,7 +184,8 @@ bit_law ops.Or a b at is = bit_at_or a.value b.value at
 bit_law ops.Xor a b at is = bit_at_xor a.value b.value at
 bit_law _ a b at is = absurd is
 
-pub carries_bits : (terms : List Term) (op : Op) (a b : TermId) (at : ℕ) (x y wire : Wire) → SameWire terms (Bit a at) x → SameWire terms (Bit b at) y → IsBitwise op x y wire → Carries terms op (a ∷ b ∷ []) at wire
+pub carries_bits : (terms : List Term) (op : Op) (a b : TermId) (at : ℕ) (x y wire : Wire) → SameWire terms (Bit a at) x → SameWire terms (Bit b at) y
+    → IsBitwise op x y wire → Carries terms op (a ∷ b ∷ []) at wire
 carries_bits terms op a b at x y wire same_x same_y is = record {
   stands = is.stands terms same_x.stands same_y.stands;
   value = λ words assigns.
@@ -194,7 +216,8 @@ module _ (terms : List Term) (op : Op) (a b : TermId) (at : ℕ) (by : Word) (co
             ∙ sym (bit_within (value_of terms words a * 2 ^ value_of terms words b) (width_at terms a) at within);
       }
 
-  pub carries_left : op ≡ ops.Shl → at < width_at terms a → by.value ≤ at → (k : ℕ) (wire : Wire) → k ≡ by.value → SameWire terms (Bit a (at - k)) wire → Carries terms op (a ∷ b ∷ []) at wire
+  pub carries_left : op ≡ ops.Shl → at < width_at terms a → by.value ≤ at → (k : ℕ) (wire : Wire) → k ≡ by.value
+      → SameWire terms (Bit a (at - k)) wire → Carries terms op (a ∷ b ∷ []) at wire
   carries_left e within big k wire k_is same =
       subst (λ (o : Op). Carries terms o (a ∷ b ∷ []) at wire) (sym e)
       record {

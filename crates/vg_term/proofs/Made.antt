@@ -1,12 +1,15 @@
 -- Laws of lists that are made term by term.
-use Rattle.std.proofs.Common.{◌≡◌, ℕ, suc, zero, ◌+◌, ◌<◌, ◌≤◌, List, [], ◌∷◌, ◌++◌, map, length, take, drop, slice_get, unwrap_or, is_some, true≢false, length-take-le, Some, Result, Ok, Err, ◌↔◌, add-zero, Contains, All, ◌⊎◌, refl, sym, ap, subst, ◌∙◌, inl, inr, arith}
+use Rattle.std.proofs.Common.{◌≡◌, ℕ, suc, zero, ◌+◌, ◌<◌, ◌≤◌, List, [], ◌∷◌, ◌++◌, map, length, take, drop, slice_get, unwrap_or, is_some}
+use Rattle.std.proofs.Common.{true≢false, length-take-le, Some, Result, Ok, Err, ◌↔◌, add-zero, Contains, All, ◌⊎◌, refl, sym, ap, subst, ◌∙◌, inl}
+use Rattle.std.proofs.Common.{inr, arith}
 use Rattle.std.proofs.lemmas.Bool.{cases_lt}
 use Rattle.std.proofs.lemmas.List.{length-append, take-append-drop, take-append-le, get_or_append_left}
 use Rattle.std.proofs.lemmas.List.Elements.{All-head, All-tail}
 use Rattle.std.proofs.lemmas.Option.{slice_get_within, slice_get-get_or, slice_get_past}
 use Rattle.std.proofs.Math.Seq.{take-append_seam}
 use Rattle.vg_term.specs.Operations.{Fits, width_of}
-use Rattle.vg_term.specs.Terms.{Term, Stands, ComesNext, AreTerms, nothing, extended, HasWidth, Needs, width_at, width_in, variable_count, listed, held, operation}
+use Rattle.vg_term.specs.Terms.{Term, Stands, ComesNext, AreTerms, nothing, extended, HasWidth, Needs, width_at, width_in, variable_count, listed}
+use Rattle.vg_term.specs.Terms.{held, operation}
 use Rattle.vg_term.specs.declared.node.TermId.{TermId}
 use Rattle.vg_term.specs.declared.node.Op.{Op}
 use Rattle.vg_term.specs.declared.node.Parts.{Parts}
@@ -20,7 +23,8 @@ pub stays : {X : Type 0} (old more : List X) (at : ℕ) → at < length old → 
 stays [] more at h = let none : ⊥ = omega (arith, h) in absurd none
 stays (x ∷ old) more at h =
     let longer = length-append (x ∷ old) more in
-    slice_get-get_or ((x ∷ old) ++ more) at x (omega (arith, longer, h)) ∙ ap Some (get_or_append_left (x ∷ old) more x at h) ∙ sym (slice_get-get_or (x ∷ old) at x h)
+    slice_get-get_or ((x ∷ old) ++ more) at x (omega (arith, longer, h)) ∙ ap Some (get_or_append_left (x ∷ old) more x at h)
+    ∙ sym (slice_get-get_or (x ∷ old) at x h)
 
 pub same_width : (old more : List Term) (id : TermId) → Stands old id → width_at (old ++ more) id ≡ width_at old id
 same_width old more id h = ap width_in (stays old more id.0 h)
@@ -79,12 +83,14 @@ pub record IsMade (terms : List Term) (at : ℕ) (op : Op) (parts : List TermId)
   pub fits : Fits op (map (width_at terms) parts)
   pub width : w ≡ width_of op (map (width_at terms) parts)
 
-pub is_made : {terms : List Term} → AreTerms terms → (at : ℕ) (op : Op) (parts : Parts) (w : ℕ) → slice_get terms at ≡ Some (nodes.Op op parts, w) → IsMade terms at op (listed parts) w
+pub is_made : {terms : List Term} → AreTerms terms → (at : ℕ) (op : Op) (parts : Parts) (w : ℕ) → slice_get terms at ≡ Some (nodes.Op op parts, w)
+    → IsMade terms at op (listed parts) w
 is_made {terms} made at op parts w e =
     let next = comes_next made at (nodes.Op op parts, w) e in
     let within = slice_get_within terms at (nodes.Op op parts, w) e in
     let same : map (width_at terms) (listed parts) ≡ map (width_at (take at terms)) (listed parts) =
-    ap (λ (ts : List Term). map (width_at ts) (listed parts)) (sym (take-append-drop at terms)) ∙ same_widths (take at terms) (drop at terms) (listed parts) next.0 in
+    ap (λ (ts : List Term). map (width_at ts) (listed parts)) (sym (take-append-drop at terms))
+    ∙ same_widths (take at terms) (drop at terms) (listed parts) next.0 in
     let long : length (take at terms) ≡ at = length_take_le at terms (lt_le within) in
     record {
       before = subst (λ n. All (λ (part : TermId). part.0 < n) (listed parts)) long next.0;
@@ -93,7 +99,8 @@ is_made {terms} made at op parts w e =
     }
 
 -- an operation that stands has its one width
-pub op_width : {terms : List Term} → AreTerms terms → (op : Op) (parts : Parts) → HasWidth terms (nodes.Op op parts) (width_of op (map (width_at terms) (listed parts)))
+pub op_width : {terms : List Term} → AreTerms terms → (op : Op) (parts : Parts) → HasWidth terms (nodes.Op op parts)
+    (width_of op (map (width_at terms) (listed parts)))
 op_width made op parts at w e = (is_made made at op parts w e).width
 
 -- ---- variables are numbered in order
@@ -109,9 +116,11 @@ count_below ((nodes.Var number width, w) ∷ terms) = omega (arith, count_below 
 count_below ((nodes.Op op parts, w) ∷ terms) = omega (arith, count_below terms)
 
 -- a variable counts for those after it
-count_at : (terms : List Term) (at number width w : ℕ) → slice_get terms at ≡ Some (nodes.Var number width, w) → suc (variable_count (take at terms)) ≤ variable_count terms
+count_at : (terms : List Term) (at number width w : ℕ) → slice_get terms at ≡ Some (nodes.Var number width, w)
+    → suc (variable_count (take at terms)) ≤ variable_count terms
 count_at [] at number width w e = absurd (nowhere at e)
-count_at (t ∷ terms) zero number width w e = subst (λ (y : Term). suc (variable_count (take zero (y ∷ terms))) ≤ variable_count (y ∷ terms)) (sym (some_same e)) (omega arith)
+count_at (t ∷ terms) zero number width w e = subst (λ (y : Term). suc (variable_count (take zero (y ∷ terms))) ≤ variable_count (y ∷ terms))
+    (sym (some_same e)) (omega arith)
 count_at ((nodes.Var n v, u) ∷ terms) (suc at) number width w e = omega (arith, count_at terms at number width w e)
 count_at ((nodes.Op op parts, u) ∷ terms) (suc at) number width w e = count_at terms at number width w e
 
@@ -150,7 +159,8 @@ not_most old t id none most full =
     ]
 
 -- an operation is added
-pub kept_op : (old new : List Term) (count : ℕ) (op : Op) (parts : Parts) (w : ℕ) (result : Result TermId TermStop) → AreTerms old → count ≡ variable_count old → length old ≤ 4194304 →
+pub kept_op : (old new : List Term) (count : ℕ) (op : Op) (parts : Parts) (w : ℕ) (result : Result TermId TermStop) → AreTerms old
+    → count ≡ variable_count old → length old ≤ 4194304 →
     ComesNext old (nodes.Op op parts, w) → Needs old new (nodes.Op op parts, w) result → AreTerms new × (count ≡ variable_count new) × (length new ≤ 4194304)
 kept_op old new count op parts w (Ok id) made same most next needs =
     elim needs.either [
@@ -165,7 +175,8 @@ kept_op old new count op parts w (Err stop) made same most next needs = rw needs
 
 -- ---- `make` and `var`, whose terms are seen as `now` and held as `entries`
 
-module _ (now entries : List Term) (op : Op) (parts : List TermId) (p : Parts) (w : ℕ) (same : entries ≡ now) (is : p ≡ held parts) (fits : Fits op (map (width_at now) parts)) (width : w ≡ width_of op (map (width_at now) (listed p))) where
+module _ (now entries : List Term) (op : Op) (parts : List TermId) (p : Parts) (w : ℕ) (same : entries ≡ now) (is : p ≡ held parts)
+    (fits : Fits op (map (width_at now) parts)) (width : w ≡ width_of op (map (width_at now) (listed p))) where
   same_parts : listed p ≡ parts
   same_parts = ap listed is ∙ listed_held op (width_at now) parts fits
 
@@ -177,13 +188,16 @@ module _ (now entries : List Term) (op : Op) (parts : List TermId) (p : Parts) (
   pub make_width : AreTerms entries → HasWidth entries (nodes.Op op p) w
   make_width made at v e = op_width made op p at v e ∙ ap (λ (ts : List Term). width_of op (map (width_at ts) (listed p))) same ∙ sym width
 
-  pub make_needs : (new : List Term) (result : Result TermId TermStop) → Needs entries new (nodes.Op op p, w) result → Needs now new (operation now op parts) result
+  pub make_needs : (new : List Term) (result : Result TermId TermStop) → Needs entries new (nodes.Op op p, w) result
+      → Needs now new (operation now op parts) result
   make_needs new result needs =
-      let term : (nodes.Op op p, w) ≡ operation now op parts = (λ j. (nodes.Op op (is j), (width ∙ ap (λ ps. width_of op (map (width_at now) ps)) same_parts) j)) in
+      let term : (nodes.Op op p, w) ≡ operation now op parts =
+      (λ j. (nodes.Op op (is j), (width ∙ ap (λ ps. width_of op (map (width_at now) ps)) same_parts) j)) in
       subst (λ (ts : List Term). Needs ts new (operation now op parts) result) same (subst (λ (t : Term). Needs entries new t result) term needs)
 
 -- a variable is added
-pub kept_var : (old new : List Term) (count width : ℕ) (id : TermId) → AreTerms old → count ≡ variable_count old → length old ≤ 4194304 → 0 < width → width ≤ 64 →
+pub kept_var : (old new : List Term) (count width : ℕ) (id : TermId) → AreTerms old → count ≡ variable_count old → length old ≤ 4194304 → 0 < width
+    → width ≤ 64 →
     Needs old new (nodes.Var count width, width) (Ok id) → AreTerms new × (count + 1 ≡ variable_count new) × (length new ≤ 4194304) × (count < 4194304)
 kept_var old new count width id made same most some fits needs =
     let t : Term = (nodes.Var count width, width) in

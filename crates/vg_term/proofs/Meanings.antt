@@ -19,7 +19,8 @@ use Rattle.vg_term.proofs.Made.{is_made, same_widths, stays, listed_held}
 use Rattle.vg_term.proofs.Values.{value_follows, bits_stay, op_reckoned, widths_bits}
 
 -- a constant has its word under every assignment
-pub const_word : {terms : List Term} → AreTerms terms → (id : TermId) (w : Word) (parts : Parts) (v : ℕ) → slice_get terms id.0 ≡ Some (nodes.Op (Const w) parts, v) → IsWord terms id w
+pub const_word : {terms : List Term} → AreTerms terms → (id : TermId) (w : Word) (parts : Parts) (v : ℕ)
+    → slice_get terms id.0 ≡ Some (nodes.Op (Const w) parts, v) → IsWord terms id w
 const_word made id w Zero v here words = sym (op_reckoned made words id (Const w) Zero v here [] refl w refl refl)
 const_word made id w (One a) v here words = absurd (is_made made id.0 (Const w) (One a) v here).fits
 const_word made id w (Two a b) v here words = absurd (is_made made id.0 (Const w) (Two a b) v here).fits
@@ -35,10 +36,12 @@ needs_grows old new t (Ok id) needs =
 needs_grows old new t (Err stop) needs = ([], needs.kept ∙ sym (append-nil old))
 
 -- the operation on parts that stood, where it stands now
-pub stands_for : (old new : List Term) (op : Op) (parts : List TermId) (id : TermId) → AreTerms new → Grows old new → All (Stands old) parts → Fits op (map (width_at old) parts) →
+pub stands_for : (old new : List Term) (op : Op) (parts : List TermId) (id : TermId) → AreTerms new → Grows old new → All (Stands old) parts
+    → Fits op (map (width_at old) parts) →
     slice_get new id.0 ≡ Some (operation old op parts) → StandsFor new id op parts
 stands_for old new op parts id made grows stand fits here =
-    let same : map (width_at new) parts ≡ map (width_at old) parts = ap (λ (ts : List Term). map (width_at ts) parts) grows.1 ∙ same_widths old grows.0 parts stand in
+    let same : map (width_at new) parts ≡ map (width_at old) parts = ap (λ (ts : List Term). map (width_at ts) parts) grows.1
+    ∙ same_widths old grows.0 parts stand in
     let list : listed (held parts) ≡ parts = listed_held op (width_at old) parts fits in
     record {
       stands = slice_get_within new id.0 (operation old op parts) here;
@@ -50,10 +53,12 @@ pub old_assigns : (old later : List Term) (words : List Word) → Assigns words 
 old_assigns old later words h at t e = h at t (stays old later at (slice_get_within old at t e) ∙ e)
 
 -- a constant for an operation that answers it
-pub word_stands_for : (old new : List Term) (op : Op) (parts : List TermId) (w : Word) (id : TermId) → AreTerms old → AreTerms new → Grows old new → All (Stands old) parts →
+pub word_stands_for : (old new : List Term) (op : Op) (parts : List TermId) (w : Word) (id : TermId) → AreTerms old → AreTerms new → Grows old new
+    → All (Stands old) parts →
     IsAnswer old op parts w → slice_get new id.0 ≡ Some (operation old (Const w) []) → StandsFor new id op parts
 word_stands_for old new op parts w id was made grows stand is here =
-    let same : map (width_at new) parts ≡ map (width_at old) parts = ap (λ (ts : List Term). map (width_at ts) parts) grows.1 ∙ same_widths old grows.0 parts stand in
+    let same : map (width_at new) parts ≡ map (width_at old) parts = ap (λ (ts : List Term). map (width_at ts) parts) grows.1
+    ∙ same_widths old grows.0 parts stand in
     record {
       stands = slice_get_within new id.0 (operation old (Const w) []) here;
       width = ap width_in here ∙ is.width ∙ ap (width_of op) (sym same);
@@ -65,7 +70,8 @@ word_stands_for old new op parts w id was made grows stand is here =
     }
 
 -- the operation on parts whose words are known
-module _ (terms : List Term) (op : Op) (parts : List TermId) (p q : Parts) (fits : Fits op (map (width_at terms) parts)) (is : p ≡ held parts) (at : p ≡ q) (ws : List Word)
+module _ (terms : List Term) (op : Op) (parts : List TermId) (p q : Parts) (fits : Fits op (map (width_at terms) parts)) (is : p ≡ held parts)
+    (at : p ≡ q) (ws : List Word)
     (known : (words : List Word) → map (bits_at terms words) (listed q) ≡ map bits_of ws) where
   pub parts_are : parts ≡ listed q
   parts_are = sym (listed_held op (width_at terms) parts fits) ∙ ap listed (sym is ∙ at)
@@ -83,10 +89,12 @@ module _ (terms : List Term) (op : Op) (parts : List TermId) (p q : Parts) (fits
   }
 
 -- the parts that are held stand
-pub held_stand : (terms : List Term) (op : Op) (parts : List TermId) (p q : Parts) → Fits op (map (width_at terms) parts) → p ≡ held parts → p ≡ q → All (Stands terms) parts → All (Stands terms) (listed q)
+pub held_stand : (terms : List Term) (op : Op) (parts : List TermId) (p q : Parts) → Fits op (map (width_at terms) parts) → p ≡ held parts → p ≡ q
+    → All (Stands terms) parts → All (Stands terms) (listed q)
 held_stand terms op parts p q fits is at stand = subst (All (Stands terms)) (sym (listed_held op (width_at terms) parts fits) ∙ ap listed (sym is ∙ at)) stand
 
-pub folds_to_word : (old new : List Term) (op : Op) (parts : List TermId) (w : Word) (result : Result TermId TermStop) → AreTerms old → AreTerms new → All (Stands old) parts → IsAnswer old op parts w →
+pub folds_to_word : (old new : List Term) (op : Op) (parts : List TermId) (w : Word) (result : Result TermId TermStop) → AreTerms old → AreTerms new
+    → All (Stands old) parts → IsAnswer old op parts w →
     Needs old new (operation old (Const w) []) result → Folds old new op parts result
 folds_to_word old new op parts w (Ok id) was made stand is needs =
     let grows = needs_grows old new (operation old (Const w) []) (Ok id) needs in
@@ -94,11 +102,13 @@ folds_to_word old new op parts w (Ok id) was made stand is needs =
 folds_to_word old new op parts w (Err stop) was made stand is needs =
     record { grows = needs_grows old new (operation old (Const w) []) (Err stop) needs; means = tt; kept = needs.kept }
 
-pub folded_to_word : (old new : List Term) (op : Op) (parts : List TermId) (w : Word) (result : Result TermId TermStop) → IsAnswer old op parts w → Needs old new (operation old (Const w) []) result → IfOk result (λ id. IsFolded old new op parts id)
+pub folded_to_word : (old new : List Term) (op : Op) (parts : List TermId) (w : Word) (result : Result TermId TermStop) → IsAnswer old op parts w
+    → Needs old new (operation old (Const w) []) result → IfOk result (λ id. IsFolded old new op parts id)
 folded_to_word old new op parts w (Ok id) is needs = record { word = w; constant = ap word_in needs.term; answer = is }
 folded_to_word old new op parts w (Err stop) is needs = tt
 
-pub folds_to_itself : (old new : List Term) (op : Op) (parts : List TermId) (result : Result TermId TermStop) → AreTerms new → All (Stands old) parts → Fits op (map (width_at old) parts) →
+pub folds_to_itself : (old new : List Term) (op : Op) (parts : List TermId) (result : Result TermId TermStop) → AreTerms new → All (Stands old) parts
+    → Fits op (map (width_at old) parts) →
     Needs old new (operation old op parts) result → Folds old new op parts result
 folds_to_itself old new op parts (Ok id) made stand fits needs =
     let grows = needs_grows old new (operation old op parts) (Ok id) needs in

@@ -1,5 +1,6 @@
 -- Each term has a width from 1 to 64, and a value in the range of its width.
-use Rattle.std.proofs.Common.{◌≡◌, ℕ, suc, zero, ◌+◌, ◌^◌, ◌<◌, ◌≤◌, Bool, true, false, List, [], ◌∷◌, map, length, get_or, slice_get, Some, All, refl, sym, ap, subst, ◌∙◌, arith}
+use Rattle.std.proofs.Common.{◌≡◌, ℕ, suc, zero, ◌+◌, ◌^◌, ◌<◌, ◌≤◌, Bool, true, false, List, [], ◌∷◌, map, length, get_or, slice_get, Some, All}
+use Rattle.std.proofs.Common.{refl, sym, ap, subst, ◌∙◌, arith}
 use Rattle.std.specs.Prelude.{nat_eq, nat_lt, int_lt, if◌then◌else◌}
 use Rattle.std.proofs.lemmas.List.Elements.{All-head, All-tail, All-map, All-weaker}
 use Rattle.std.proofs.lemmas.Nat.{pow_pos, and_le_l, or_lt, xor_lt}
@@ -8,12 +9,14 @@ use Rattle.vg_bits.specs.Words as words
 use Rattle.vg_bits.specs.declared.word.Word.{Word}
 use Rattle.vg_bits.proofs.Laws as laws
 use Rattle.vg_bits.proofs.Masks.{wider_below}
-use Rattle.vg_term.specs.Operations.{Bits, bits_of, widths, answer, width_of, Fits, FitsNone, FitsOne, FitsTwo, FitsThree, value_none, value_one, value_two, value_three, width_none, width_one, width_two}
+use Rattle.vg_term.specs.Operations.{Bits, bits_of, widths, answer, width_of, Fits, FitsNone, FitsOne, FitsTwo, FitsThree, value_none, value_one}
+use Rattle.vg_term.specs.Operations.{value_two, value_three, width_none, width_one, width_two}
 use Rattle.vg_term.specs.Terms.{Term, Stands, AreTerms, width_at, width_in, listed}
 use Rattle.vg_term.specs.Value.{value_of, bits_at, entry_value, assigned, Assigns}
 use Rattle.vg_term.specs.declared.node.TermId.{TermId}
 use Rattle.vg_term.specs.declared.node.Op.{Op}
-use Rattle.vg_term.specs.declared.node.Op.TheVariants.{Const, Not, Extract, Zext, Sext, Add, Sub, Mul, Udiv, Urem, And, Or, Xor, Shl, Lshr, Ashr, Eq, Ult, Slt, Concat, Ite}
+use Rattle.vg_term.specs.declared.node.Op.TheVariants.{Const, Not, Extract, Zext, Sext, Add, Sub, Mul, Udiv, Urem, And, Or, Xor, Shl, Lshr, Ashr, Eq}
+use Rattle.vg_term.specs.declared.node.Op.TheVariants.{Ult, Slt, Concat, Ite}
 use Rattle.vg_term.specs.declared.node.Node.TheVariants as nodes
 use Rattle.vg_term.proofs.Made.{is_made, comes_next}
 use Rattle.vg_term.proofs.Values.{value_follows, widths_bits}
@@ -44,7 +47,8 @@ on_one _ a fits r = absurd fits
 flag : (holds : Bool) → IsRange (record { width = 1; value = words.bit holds })
 flag holds = range 1 (words.bit holds) (omega arith) (omega arith) (laws.bit-below holds)
 
-on_two : (op : Op) (a b : Bits) → FitsTwo op a.width b.width → IsRange a → IsRange b → IsRange (record { width = width_two op a.width b.width; value = value_two op a b })
+on_two : (op : Op) (a b : Bits) → FitsTwo op a.width b.width → IsRange a → IsRange b → IsRange
+    (record { width = width_two op a.width b.width; value = value_two op a b })
 on_two Add a b fits r s = range a.width _ r.some r.most (laws.add-below a.width a.value b.value)
 on_two Sub a b fits r s = range a.width _ r.some r.most (laws.sub-below a.width a.value b.value)
 on_two Mul a b fits r s = range a.width _ r.some r.most (laws.mul-below a.width a.value b.value)
@@ -66,11 +70,13 @@ chosen : (c : Bool) (a b : Bits) → a.width ≡ b.width → IsRange a → IsRan
 chosen true a b same r s = r
 chosen false a b same r s = range a.width b.value r.some r.most (subst (λ n. b.value < 2 ^ n) (sym same) s.below)
 
-on_three : (op : Op) (c a b : Bits) → FitsThree op c.width a.width b.width → IsRange a → IsRange b → IsRange (record { width = a.width; value = value_three op c a b })
+on_three : (op : Op) (c a b : Bits) → FitsThree op c.width a.width b.width → IsRange a → IsRange b
+    → IsRange (record { width = a.width; value = value_three op c a b })
 on_three Ite c a b fits r s = chosen (nat_eq c.value 1) a b fits.1 r s
 on_three _ c a b fits r s = absurd fits
 
-pub answer_range : (op : Op) (parts : List Bits) → Fits op (widths parts) → All IsRange parts → IsRange (record { width = width_of op (widths parts); value = answer op parts })
+pub answer_range : (op : Op) (parts : List Bits) → Fits op (widths parts) → All IsRange parts
+    → IsRange (record { width = width_of op (widths parts); value = answer op parts })
 answer_range op [] fits all = on_none op fits
 answer_range op (a ∷ []) fits all = on_one op a fits (All-head IsRange a [] all)
 answer_range op (a ∷ b ∷ []) fits all = on_two op a b fits (All-head IsRange a (b ∷ []) all) (All-head IsRange b [] (All-tail IsRange a (b ∷ []) all))
@@ -80,7 +86,8 @@ answer_range op (c ∷ a ∷ b ∷ []) fits all =
 answer_range op (c ∷ a ∷ b ∷ d ∷ more) fits all = absurd fits
 
 -- a variable's word
-word_range : (words : List Word) (number w : ℕ) → (word : Word) × (slice_get words number ≡ Some word) × (word.width ≡ w) → IsRange (record { width = w; value = assigned (slice_get words number) })
+word_range : (words : List Word) (number w : ℕ) → (word : Word) × (slice_get words number ≡ Some word) × (word.width ≡ w)
+    → IsRange (record { width = w; value = assigned (slice_get words number) })
 word_range words number w word =
     subst (λ (b : Bits). IsRange b) (λ j. record { width = word.2 j; value = sym (ap assigned word.1) j }) (of_word word.0)
 
@@ -89,13 +96,17 @@ module _ {terms : List Term} (made : AreTerms terms) (words : List Word) (assign
   range_to : (k : ℕ) (id : TermId) → id.0 < k → (t : Term) → slice_get terms id.0 ≡ Some t → IsRange (bits_at terms words id)
   range_to zero id h t here = let none : ⊥ = omega (arith, h) in absurd none
   range_to (suc k) id h (nodes.Var number width, w) here =
-      let value : value_of terms words id ≡ assigned (slice_get words number) = value_follows made words id ∙ ap (entry_value words (bits_at terms words)) here in
-      subst (λ (b : Bits). IsRange b) (λ j. record { width = sym (ap width_in here) j; value = sym value j }) (word_range words number w (assigns id.0 (nodes.Var number width, w) here))
+      let value : value_of terms words id ≡ assigned (slice_get words number) = value_follows made words id
+      ∙ ap (entry_value words (bits_at terms words)) here in
+      subst (λ (b : Bits). IsRange b) (λ j. record { width = sym (ap width_in here) j; value = sym value j })
+      (word_range words number w (assigns id.0 (nodes.Var number width, w) here))
   range_to (suc k) id h (nodes.Op op parts, w) here =
       let is = is_made made id.0 op parts w here in
-      let value : value_of terms words id ≡ answer op (map (bits_at terms words) (listed parts)) = value_follows made words id ∙ ap (entry_value words (bits_at terms words)) here in
+      let value : value_of terms words id ≡ answer op (map (bits_at terms words) (listed parts)) = value_follows made words id
+      ∙ ap (entry_value words (bits_at terms words)) here in
       let wide : widths (map (bits_at terms words) (listed parts)) ≡ map (width_at terms) (listed parts) = widths_bits terms words (listed parts) in
-      let width : width_at terms id ≡ width_of op (widths (map (bits_at terms words) (listed parts))) = ap width_in here ∙ is.width ∙ ap (width_of op) (sym wide) in
+      let width : width_at terms id ≡ width_of op (widths (map (bits_at terms words) (listed parts))) = ap width_in here ∙ is.width
+      ∙ ap (width_of op) (sym wide) in
       let ranges : All IsRange (map (bits_at terms words) (listed parts)) =
       All-map IsRange (bits_at terms words) (listed parts)
       (All-weaker (λ (part : TermId). part.0 < id.0) (λ part. IsRange (bits_at terms words part)) (λ part before.
@@ -157,9 +168,11 @@ module _ {terms : List Term} (made : AreTerms terms) where
   width_most id stands = (width_range id stands).most
 
   -- the width of what an operation answers on terms
-  pub op_width_range : (op : Op) (parts : List TermId) → All (Stands terms) parts → Fits op (map (width_at terms) parts) → (0 < width_of op (map (width_at terms) parts)) × (width_of op (map (width_at terms) parts) ≤ 64)
+  pub op_width_range : (op : Op) (parts : List TermId) → All (Stands terms) parts → Fits op (map (width_at terms) parts)
+      → (0 < width_of op (map (width_at terms) parts)) × (width_of op (map (width_at terms) parts) ≤ 64)
   op_width_range op parts stand fits =
       let wide : widths (map (zeros terms) parts) ≡ map (width_at terms) parts = zeros_widths terms parts in
-      let ranges : All IsRange (map (zeros terms) parts) = All-map IsRange (zeros terms) parts (All-weaker (Stands terms) (λ (part : TermId). IsRange (zeros terms part)) (λ part there. width_range part there) parts stand) in
+      let ranges : All IsRange (map (zeros terms) parts) = All-map IsRange (zeros terms) parts
+      (All-weaker (Stands terms) (λ (part : TermId). IsRange (zeros terms part)) (λ part there. width_range part there) parts stand) in
       let whole = answer_range op (map (zeros terms) parts) (subst (Fits op) (sym wide) fits) ranges in
       (subst (λ ws. 0 < width_of op ws) wide whole.some, subst (λ ws. width_of op ws ≤ 64) wide whole.most)

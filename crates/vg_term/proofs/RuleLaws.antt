@@ -76,7 +76,8 @@ unequal w a n some e =
       | inr other ↦ sym (ap words.bit other.0)
     ]
 
-pub opposite_right : (op : Op) (a b part : Bits) → IsRange a → IsRange b → a.width ≡ part.width → b.width ≡ part.width → a.value + b.value ≡ words.all_ones part.width → IsRight (on_opposite op) op part a b
+pub opposite_right : (op : Op) (a b part : Bits) → IsRange a → IsRange b → a.width ≡ part.width → b.width ≡ part.width
+    → a.value + b.value ≡ words.all_ones part.width → IsRight (on_opposite op) op part a b
 opposite_right And a b part r s e f sum = (λ j. word (sym e j) (sym (apart part.width a.value b.value (subst (λ w. a.value < 2 ^ w) e r.below) sum) j))
 opposite_right Or a b part r s e f sum =
     let none = apart part.width a.value b.value (subst (λ w. a.value < 2 ^ w) e r.below) sum in
@@ -149,7 +150,12 @@ after_zero_right Or b r = at b.width (sym (or_zero_l b.value))
 after_zero_right Xor b r = at b.width (sym (xor_zero_l b.value))
 after_zero_right Mul b r = at b.width (sym (let e : 0 * b.value ≡ 0 = omega arith in ap (λ n. n % 2 ^ b.width) e ∙ zero-mod (2 ^ b.width)))
 after_zero_right And b r = at b.width (sym (and_zero_l b.value))
-after_zero_right Urem b r = at b.width (elim (eqb_tells b.value 0) [ inl z ↦ sym (ap (λ c. cond c 0 (0 % b.value)) z.0) | inr n ↦ sym (ap (λ c. cond c 0 (0 % b.value)) n.0 ∙ zero-mod b.value) ])
+after_zero_right Urem b r = at b.width
+    (elim (eqb_tells b.value 0) [
+      | inl z ↦ sym (ap (λ c. cond c 0 (0 % b.value)) z.0)
+      | inr n ↦ sym
+          (ap (λ c. cond c 0 (0 % b.value)) n.0 ∙ zero-mod b.value)
+    ])
 after_zero_right Shl b r = at b.width (sym (let e : 0 * 2 ^ b.value ≡ 0 = omega arith in ap (λ n. n % 2 ^ b.width) e ∙ zero-mod (2 ^ b.width)))
 after_zero_right Lshr b r = at b.width (sym (zero-div (2 ^ b.value)))
 after_zero_right Ashr b r = at b.width (reduced_zero b.width r.some b.value)

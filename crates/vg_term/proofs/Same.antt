@@ -6,7 +6,8 @@ use Rattle.vg_bits.proofs.Laws.{same_word}
 use Rattle.vg_term.specs.contracts.node.NodeEq.TheImpl.Laws.{laws-law}
 use Rattle.vg_term.specs.declared.node.TermId.{TermId}
 use Rattle.vg_term.specs.declared.node.Op.{Op}
-use Rattle.vg_term.specs.declared.node.Op.TheVariants.{Const, Not, Extract, Zext, Sext, Add, Sub, Mul, Udiv, Urem, And, Or, Xor, Shl, Lshr, Ashr, Eq, Ult, Slt, Concat, Ite}
+use Rattle.vg_term.specs.declared.node.Op.TheVariants.{Const, Not, Extract, Zext, Sext, Add, Sub, Mul, Udiv, Urem, And, Or, Xor, Shl, Lshr, Ashr, Eq}
+use Rattle.vg_term.specs.declared.node.Op.TheVariants.{Ult, Slt, Concat, Ite}
 use Rattle.vg_term.specs.declared.node.Parts.{Parts}
 use Rattle.vg_term.specs.declared.node.Parts.TheVariants.{Zero, One, Two, Three}
 use Rattle.vg_term.specs.declared.node.Node.{Node}

@@ -1,5 +1,6 @@
 -- Where a node stands among the terms, and where it doesn't.
-use Rattle.std.proofs.Common.{◌≡◌, ℕ, suc, zero, ◌+◌, ◌<◌, Bool, false, List, [], ◌∷◌, ◌++◌, length, get_or, slice_get, position, Some, None, Result, Ok, Err, is_ok, Contains, sym, ap, subst, ◌∙◌, true≢false, arith}
+use Rattle.std.proofs.Common.{◌≡◌, ℕ, suc, zero, ◌+◌, ◌<◌, Bool, false, List, [], ◌∷◌, ◌++◌, length, get_or, slice_get, position, Some, None, Result}
+use Rattle.std.proofs.Common.{Ok, Err, is_ok, Contains, sym, ap, subst, ◌∙◌, true≢false, arith}
 use Rattle.std.proofs.lemmas.List.{get_or-map, length-map}
 use Rattle.std.proofs.lemmas.List.Quantifiers.{position-Some}
 use Rattle.std.proofs.lemmas.Option.{slice_get-get_or, slice_get_within, get_or_from_slice_get}
@@ -23,7 +24,8 @@ pub contains_at : (terms : List Term) (at : ℕ) (t : Term) → slice_get terms 
 contains_at terms at t e = (at, slice_get_within terms at t e, get_or_from_slice_get terms at t t e)
 
 -- the place that is found holds the node
-pub found : (terms : List Term) (node : Node) (width : ℕ) (at : ℕ) → HasWidth terms node width → position (same_node node) (keys_of terms) ≡ Some at → slice_get terms at ≡ Some (node, width)
+pub found : (terms : List Term) (node : Node) (width : ℕ) (at : ℕ) → HasWidth terms node width → position (same_node node) (keys_of terms) ≡ Some at
+    → slice_get terms at ≡ Some (node, width)
 found terms node width at has e =
     let key = position-Some (same_node node) (keys_of terms) at node e in
     let d : Term = (node, width) in
@@ -36,7 +38,8 @@ found terms node width at has e =
     let whole : Some t ≡ Some (node, t.1) = ap (λ n. Some (n, t.1)) (sym same) in
     here ∙ whole ∙ ap (λ w. Some (node, w)) (has at t.1 (here ∙ whole))
 
-absent_at : (t : Node → Bool) (terms : List Term) (at : ℕ) (e : Term) → AllByRecursion (λ k. t k ≡ false) (keys_of terms) → at < length terms → get_or terms at e ≡ e → t e.0 ≡ false
+absent_at : (t : Node → Bool) (terms : List Term) (at : ℕ) (e : Term) → AllByRecursion (λ k. t k ≡ false) (keys_of terms) → at < length terms
+    → get_or terms at e ≡ e → t e.0 ≡ false
 absent_at t [] at e h p q = let none : ⊥ = omega (arith, p) in absurd none
 absent_at t (x ∷ xs) zero e h p q = subst (λ (y : Term). t y.0 ≡ false) q h.0
 absent_at t (x ∷ xs) (suc at) e h p q = absent_at t xs at e h.1 (omega arith) q
@@ -57,5 +60,6 @@ pub answered : {id : TermId} → ◌≡◌ {A = Result TermId TermStop} (Ok id) 
 answered {id} e = true≢false (ap is_ok e)
 
 -- a new node goes last
-pub added : {S : Type 0} (m : HashMap Node ℕ S) (node : Node) (width : ℕ) → position (same_node node) (keys_of m.entries) ≡ None → insert_entry same_node m.entries node width ≡ m.entries ++ (node, width) ∷ []
+pub added : {S : Type 0} (m : HashMap Node ℕ S) (node : Node) (width : ℕ) → position (same_node node) (keys_of m.entries) ≡ None
+    → insert_entry same_node m.entries node width ≡ m.entries ++ (node, width) ∷ []
 added m node width e = insert_entry-new same_node m node width (Missing-position (same_node node) m.entries e).value

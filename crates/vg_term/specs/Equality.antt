@@ -18,7 +18,8 @@ pub record IsLowEqual (terms : List Term) (id a b : TermId) (count : ℕ) : Type
 pub record IsBoth (terms : List Term) (id fact a b : TermId) : Type 0 where
   pub stands : Stands terms id
   pub width : width_at terms id ≡ 1
-  pub value : (words : List Word) → Assigns words terms → value_of terms words id ≡ bit_and (value_of terms words fact) (eq (value_of terms words a) (value_of terms words b))
+  pub value : (words : List Word) → Assigns words terms → value_of terms words id ≡ bit_and (value_of terms words fact)
+      (eq (value_of terms words a) (value_of terms words b))
 
 pub record JoinsEqual (old new : List Term) (fact a b : TermId) (result : Result TermId TermStop) : Type 0 where
   pub grown : Grown old new

@@ -1,4 +1,5 @@
--- Laws of the operations on two parts of one width, as tables: what an operation is on equal parts, on opposite ones, or beside a constant. `specs/Folding` says what rests on them.
+-- Laws of the operations on two parts of one width, as tables: what an operation is on equal parts, on opposite ones, or beside a constant.
+-- `specs/Folding` says what rests on them.
 use Rattle.std.specs.Prelude.{◌≡◌, ◌≢◌, ℕ, ◌+◌, List, Option, Some, None}
 use Rattle.vg_bits.specs.Words.{all_ones}
 use Rattle.vg_term.specs.Operations.{Bits}
@@ -35,7 +36,8 @@ simple_bits simple op part = record { width = width_alike op part.width; value =
 -- a simple answer beside a part, as a term that stands or a word
 abbrev pub Places : List Term → Op → Simple → TermId → Known → Type 0
 Places terms op simple part (Standing id) = (simple ≡ Part) × (id ≡ part)
-Places terms op simple part (Constant w) = (simple ≢ Part) × (w.width ≡ width_alike op (width_at terms part)) × (w.value ≡ simple_value simple (width_alike op (width_at terms part)))
+Places terms op simple part (Constant w) = (simple ≢ Part) × (w.width ≡ width_alike op (width_at terms part))
+    × (w.value ≡ simple_value simple (width_alike op (width_at terms part)))
 
 -- x op x
 abbrev pub on_equal : Op → Option Simple

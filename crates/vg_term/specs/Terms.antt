@@ -1,5 +1,6 @@
 -- Terms as the list of what they are made of: a term's number is its place in the list, each part stands before its term, and no two are equal.
-use Rattle.std.specs.Prelude.{◌≡◌, ◌↔◌, ◌⊎◌, ℕ, suc, ◌<◌, ◌≤◌, List, [], ◌∷◌, ◌++◌, map, length, slice_get, Option, Some, None, Result, Err, IfOk, OnOk, OnErr, All, Contains}
+use Rattle.std.specs.Prelude.{◌≡◌, ◌↔◌, ◌⊎◌, ℕ, suc, ◌<◌, ◌≤◌, List, [], ◌∷◌, ◌++◌, map, length, slice_get, Option, Some, None, Result, Err, IfOk}
+use Rattle.std.specs.Prelude.{OnOk, OnErr, All, Contains}
 use Rattle.vg_bits.specs.declared.word.Word.{Word}
 use Rattle.vg_term.specs.Operations.{Fits, width_of}
 use Rattle.vg_term.specs.declared.node.TermId.{TermId}

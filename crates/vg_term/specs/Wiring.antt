@@ -47,7 +47,8 @@ pub record IsRun (wires : List Wire) (from to : ℕ) : Type 0 where
 pub record IsWired (terms : List Term) (id : TermId) (wires : List Wire) (from long : ℕ) : Type 0 where
   pub stands : Stands terms id
   pub width : width_at terms id ≡ long
-  pub bits : (words : List Word) → Assigns words terms → (i : ℕ) (d : Wire) → i < long → bit_at (value_of terms words id) i ≡ wire_value terms words (slice_index_or wires (from + i) d)
+  pub bits : (words : List Word) → Assigns words terms → (i : ℕ) (d : Wire) → i < long → bit_at (value_of terms words id) i ≡ wire_value terms words
+      (slice_index_or wires (from + i) d)
 
 -- terms were added
 pub record Grown (old new : List Term) : Type 0 where

@@ -1,7 +1,8 @@
 //! What an operation answers on words.
 
 ghost use Rattle.std.specs.Prelude.{◌≡◌, map};
-ghost use Rattle.vg_term.specs.Operations.{Fits, FitsNone, FitsOne, FitsTwo, FitsThree, bits_of, answer, width_of, widths, value_none, value_one, value_two, value_three, width_none, width_one, width_two};
+ghost use Rattle.vg_term.specs.Operations.{Fits, FitsNone, FitsOne, FitsTwo, FitsThree, bits_of, answer, width_of, widths, value_none, value_one};
+ghost use Rattle.vg_term.specs.Operations.{value_two, value_three, width_none, width_one, width_two};
 
 use crate::node::Op;
 use vg_bits::Word;

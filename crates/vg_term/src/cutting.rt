@@ -14,7 +14,8 @@ use crate::node::{Node, Op, Parts, TermId};
 use crate::stops::TermStop;
 use crate::terms::Terms;
 
-/// How many operations may be cut while one term is built. Without a bound, a part would be cut once for each way down to it, which takes time exponential in the depth.
+/// How many operations may be cut while one term is built. Without a bound, a part would be cut once for each way down to it, which takes time
+/// exponential in the depth.
 pub(crate) const MOST_CUTS: u8 = 64;
 
 fn is_bitwise(op: Op) -> bool

@@ -31,7 +31,9 @@ impl Terms {
         }
     }
 
-    /// A term for an operation on parts that fit it, of the same value under every assignment. It is a simpler one where the parts are constants, equal, opposite, or neutral; on constants it is the constant of what the operation answers. It may need more terms than one: `Full` comes only where fewer than 65,536 of `MOST_TERMS` are left.
+    /// A term for an operation on parts that fit it, of the same value under every assignment. It is a simpler one where the parts are constants,
+    /// equal, opposite, or neutral; on constants it is the constant of what the operation answers. It may need more terms than one: `Full` comes only
+    /// where fewer than 65,536 of `MOST_TERMS` are left.
     pub fn build(&mut self, op: Op, parts: &[TermId]) -> Result<TermId, TermStop>
         requires parts_stand { All (Stands self.old) parts.now }
         requires fits { Fits op (map (width_at self.old) parts.now) }

@@ -401,7 +401,8 @@ fn signs_that_are_known(rt: HostRuntime) -> Result<(), Fail> {
     Ok(())
 }
 
-// Of 40 products each has the one before it twice below it, so that there are 2 ^ 40 ways down. Cutting the lowest bits of the last one ends after 64 cuts. There are 81 terms before, and a cut makes at most four.
+// Of 40 products each has the one before it twice below it, so that there are 2 ^ 40 ways down. Cutting the lowest bits of the last one ends after 64
+// cuts. There are 81 terms before, and a cut makes at most four.
 #[test]
 fn cuts_of_shared_parts_are_few(rt: HostRuntime) -> Result<(), Fail> {
     let mut terms = Terms::new(rt.alloc())?;

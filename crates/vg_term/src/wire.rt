@@ -64,7 +64,8 @@ fn fixed_word(wires: &[Wire], from: u8, to: u8) -> Word
     requires most { to ≤ 64 }
     requires long { to ≤ length wires.now }
     ensures width { from + result.width ≡ to }
-    ensures bits { (k : ℕ) (d : Wire) (holds : Bool) → from + k < to → slice_index_or wires.now (from + k) d ≡ kinds.Fixed holds → bit_at result.value k ≡ bit holds }
+    ensures bits { (k : ℕ) (d : Wire) (holds : Bool) → from + k < to → slice_index_or wires.now (from + k) d ≡ kinds.Fixed holds
+        → bit_at result.value k ≡ bit holds }
 {
     let mut word = Word::from_bool(is_set(wires[from as usize]));
     let mut at = from + 1;

@@ -43,7 +43,8 @@ more_taken : (c spec : Small) (port : ℕ) (ways : List (List Bool × List Bool)
 more_taken c spec port ways taken = All-weaker (IsTaken c spec port) (IsTaken c spec (port + 1)) (λ way t. let lt = t.1 in (t.0, omega arith, t.2)) ways taken
 
 -- the ways of the ports up to one, where that is among them
-each_more : (c spec : Small) (port : ℕ) (ways : List (List Bool × List Bool)) → ((q : ℕ) → q < port → Contains ways (sides c spec q)) → Contains ways (sides c spec port) →
+each_more : (c spec : Small) (port : ℕ) (ways : List (List Bool × List Bool)) → ((q : ℕ) → q < port → Contains ways (sides c spec q))
+    → Contains ways (sides c spec port) →
     (q : ℕ) → q < port + 1 → Contains ways (sides c spec q)
 each_more c spec port ways each here q below = elim (cases_lt q port) [
   | inl lower ↦ each q lower
@@ -56,7 +57,8 @@ ways_next c spec port count x new =
     let way = sides c spec port in
     record {
       ways = x.ways ++ way ∷ [];
-      different = all_pairs_push ◌≢◌ x.ways way x.different (All-weaker (IsTaken c spec port) (λ other. other ≢ way) (λ other t same. new t.0 t.1 (t.2 ∙ same)) x.ways x.taken);
+      different = all_pairs_push ◌≢◌ x.ways way x.different (All-weaker (IsTaken c spec port) (λ other. other ≢ way)
+          (λ other t same. new t.0 t.1 (t.2 ∙ same)) x.ways x.taken);
       each = each_more c spec port (x.ways ++ way ∷ []) (λ q lower. Contains-append_left x.ways (way ∷ []) (sides c spec q) (x.each q lower))
           (Contains-append_right x.ways (way ∷ []) way (0, omega arith, refl));
       taken = All-push (IsTaken c spec (port + 1)) x.ways way (more_taken c spec port x.ways x.taken) (port, omega arith, refl);

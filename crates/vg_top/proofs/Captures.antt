@@ -92,7 +92,8 @@ module _ (s : Disk) where
   pub header_all : {ins : List (List ℕ)} {p : ℕ} {f : HeaderField} {frames : List Arrival} → IsFirstBadHeader s ins p f → AreAll s ins frames → ⊥
   header_all x y = no_bad x y.1
 
-  pub header_up_to : {ins : List (List ℕ)} {p q number : ℕ} {f : HeaderField} {why : Damage} {frames : List Arrival} → IsFirstBadHeader s ins p f → AreUpTo s ins frames q number why → ⊥
+  pub header_up_to : {ins : List (List ℕ)} {p q number : ℕ} {f : HeaderField} {why : Damage} {frames : List Arrival} → IsFirstBadHeader s ins p f
+      → AreUpTo s ins frames q number why → ⊥
   header_up_to x y = no_bad x y.1
 
   pub header_many : {ins : List (List ℕ)} {p : ℕ} {f : HeaderField} {frames : List Arrival} → IsFirstBadHeader s ins p f → AreTooMany s ins frames → ⊥
@@ -112,7 +113,8 @@ module _ (s : Disk) where
       let next = y.5 in
       next.1 (AllCome-most a b all y.3 (omega (arith, x.3, y.4)) next.0)
 
-  pub same_up_to : {ins : List (List ℕ)} (a b : List Arrival) {p q : ℕ} (m n : ℕ) (d e : Damage) → AreUpTo s ins a p m d → AreUpTo s ins b q n e → (p ≡ q) × (m ≡ n) × (d ≡ e)
+  pub same_up_to : {ins : List (List ℕ)} (a b : List Arrival) {p q : ℕ} (m n : ℕ) (d e : Damage) → AreUpTo s ins a p m d → AreUpTo s ins b q n e
+      → (p ≡ q) × (m ≡ n) × (d ≡ e)
   same_up_to a b {p} {q} m n d e x y =
       let streams : x.0 ≡ y.0 = streams_same x.0 y.0 x.1 y.1 in
       let come : ComeUpTo y.0 a p d = rw streams at x.2 in

@@ -19,7 +19,8 @@ arrivals_of-handled f [] = refl
 arrivals_of-handled f (a ∷ frames) = ap (λ (l : List Arrival). a ∷ l) (arrivals_of-handled f frames)
 
 -- what a handler does that is a small function, and stays it
-pub handles_all : {H : Type 0} (function : H → Small) (first : H) (handled : List Handled) (last : H) → HandlesAll (λ old h new. Handles (function old) h (function new)) first handled last → AreHandledBy (function first) handled
+pub handles_all : {H : Type 0} (function : H → Small) (first : H) (handled : List Handled) (last : H)
+    → HandlesAll (λ old h new. Handles (function old) h (function new)) first handled last → AreHandledBy (function first) handled
 handles_all function first [] last x = refl
 handles_all function first (h ∷ handled) last x =
     let rest : AreHandledBy (function x.0) handled = handles_all function x.0 handled last x.2 in
@@ -31,5 +32,7 @@ never_stops handled a reason = ⊥
 
 -- so a replay through it is one of the frames that the function handles
 pub replays_small : {H : Type 0} (function : H → Small) (s t : Disk) (n : ReplayFiles) (handler : H) (result : Result Totals (RunStop Infallible)) →
-    ReplaysThrough (λ old h new. Handles (function old) h (function new)) (λ (x : H) (a : Arrival) (reason : Infallible). ⊥) s t n handler result → Replays s t n (AreHandledBy (function handler)) never_stops result
-replays_small function s t n handler result x = Replays-map (λ handled x. handles_all function handler handled x.0 x.1) (λ handled a reason x. x.2) s t n result x
+    ReplaysThrough (λ old h new. Handles (function old) h (function new)) (λ (x : H) (a : Arrival) (reason : Infallible). ⊥) s t n handler result
+    → Replays s t n (AreHandledBy (function handler)) never_stops result
+replays_small function s t n handler result x = Replays-map (λ handled x. handles_all function handler handled x.0 x.1) (λ handled a reason x. x.2) s
+    t n result x

@@ -1,5 +1,6 @@
 -- What a run answers and leaves, once it has printed.
-use Rattle.std.proofs.Common.{◌≡◌, ◌<◌, ◌≤◌, ◌⊎◌, inl, inr, ◌∙◌, ◌++◌, ◌∷◌, ℕ, List, [], length, IsTrue, if◌then◌else◌, Some, refl, sym, ap, append-nil, All, arith}
+use Rattle.std.proofs.Common.{◌≡◌, ◌<◌, ◌≤◌, ◌⊎◌, inl, inr, ◌∙◌, ◌++◌, ◌∷◌, ℕ, List, [], length, IsTrue, if◌then◌else◌, Some, refl, sym, ap}
+use Rattle.std.proofs.Common.{append-nil, All, arith}
 use Rattle.std.specs.List.{flat_map}
 use Rattle.std.proofs.lemmas.List.Elements.{All-map, All-head, All-tail}
 use Rattle.vg_base.specs.Files.{Disk}
@@ -31,7 +32,8 @@ use Rattle.vg_top.proofs.Unique.{ComesTo-same}
 -- ---- a run that was done
 
 -- no frame takes more than the greatest number of steps
-bounded : (c : Small) (ports most : ℕ) (frames : List Arrival) → IsMostSteps c ports most → All (λ a. a.port < ports) frames → All (λ h. h.steps ≤ most) (handled_by c frames)
+bounded : (c : Small) (ports most : ℕ) (frames : List Arrival) → IsMostSteps c ports most → All (λ a. a.port < ports) frames
+    → All (λ h. h.steps ≤ most) (handled_by c frames)
 bounded c ports most frames steps below = All-map (λ h. h.steps ≤ most) (handle_at c) frames (λ i d within. steps.bound _ (below i d within))
 
 -- what two functions that agree put into a capture is the same
@@ -40,7 +42,8 @@ module _ (c spec : Small) (agree : Agree c spec) (to : ℕ) where
   unfolding piece_to
   same_piece a below = ap (λ (v : Verdict). if goes_to v a.port to then record_of a.frame else []) (agree a.port below)
 
-  same_pieces : (frames : List Arrival) → All (λ a. a.port < spec.ports) frames → flat_map (piece_to to) (handled_by c frames) ≡ flat_map (piece_to to) (handled_by spec frames)
+  same_pieces : (frames : List Arrival) → All (λ a. a.port < spec.ports) frames → flat_map (piece_to to) (handled_by c frames) ≡ flat_map
+      (piece_to to) (handled_by spec frames)
   same_pieces [] below = refl
   same_pieces (a ∷ frames) below =
       rw (same_piece a (All-head (λ a. a.port < spec.ports) a frames below), same_pieces frames (All-tail (λ a. a.port < spec.ports) a frames below)) refl
@@ -53,14 +56,16 @@ pub has_finished : (s t : Disk) {n : Files} (r : Report) → HasRun s t n r → 
 has_finished s t {n} r has =
     let ports : length n.ins ≡ has.spec.ports = has.verified.functions.ports in
     let frames = arrivals_of has.replayed.frames in
-    let below : All (λ a. a.port < has.spec.ports) frames = All-map (λ (a : Arrival). a.port < has.spec.ports) (λ (h : Handled). h.arrival) has.replayed.frames (rw ports at has.replayed.ports) in
+    let below : All (λ a. a.port < has.spec.ports) frames = All-map (λ (a : Arrival). a.port < has.spec.ports) (λ (h : Handled). h.arrival)
+    has.replayed.frames (rw ports at has.replayed.ports) in
     record {
       c = has.c;
       spec = has.spec;
       verified = has.verified;
       frames = frames;
       all = has.replayed.all;
-      captures = λ told port name at. rw has.replayed.history at ((has.replayed.wrote told).outs port name at) ∙ ap Some (same_capture has.c has.spec has.verified.agree port frames below);
+      captures = λ told port name at. rw has.replayed.history at ((has.replayed.wrote told).outs port name at)
+          ∙ ap Some (same_capture has.c has.spec has.verified.agree port frames below);
       log = λ told. rw has.replayed.history at ((has.replayed.wrote told).log);
       others = has.others;
       paths = r.paths;
@@ -110,12 +115,20 @@ parts_of_all s t frames all = record {
 -- the frames that were handled are first ones
 
 first_of_all : {s : Disk} {ins : List (List ℕ)} {frames : List Arrival} → AreAll s ins frames → AreFirst s ins frames
-first_of_all all = (all.0, all.2.left, all.1, all.2.first, (λ port damage at. absurd (whole_refused (all.2.whole port) (all.2.first.ends port) at.refused)), all.3)
+first_of_all all = (
+  all.0,
+  all.2.left,
+  all.1,
+  all.2.first,
+  (λ port damage at. absurd (whole_refused (all.2.whole port) (all.2.first.ends port) at.refused)),
+  all.3,
+)
   where
     whole_refused : {a b : CaptureEnd} {damage : Damage} → b ≡ Whole → a ≡ b → a ≡ Refused damage → ⊥
     whole_refused whole ends refused = cc
 
-first_up_to : {s : Disk} {ins : List (List ℕ)} {frames : List Arrival} {port number : ℕ} {why : Damage} → AreUpTo s ins frames port number why → AreFirst s ins frames
+first_up_to : {s : Disk} {ins : List (List ℕ)} {frames : List Arrival} {port number : ℕ} {why : Damage} → AreUpTo s ins frames port number why
+    → AreFirst s ins frames
 first_up_to {frames = frames} {port = port} up_to = (
   up_to.0,
   up_to.2.left,
@@ -152,7 +165,8 @@ began_done s t {n} r run has = (
 
 -- ---- what stands in the outputs after a stop
 
-began_after : (s t : Disk) {n : Files} {Reason : List Arrival → Type 0} → ((frames : List Arrival) → Reason frames → AreFirst s n.ins frames) → StopsInReplay s t n Reason → BeganReplay s t n
+began_after : (s t : Disk) {n : Files} {Reason : List Arrival → Type 0} → ((frames : List Arrival) → Reason frames → AreFirst s n.ins frames)
+    → StopsInReplay s t n Reason → BeganReplay s t n
 began_after s t {n} first x =
     let came : arrivals_of (handled_by x.c x.frames) ≡ x.frames = arrivals_of-handled x.c x.frames in
     record {
@@ -169,7 +183,8 @@ began_after s t {n} first x =
       others = x.others;
     }
 
-pub outputs_after : {words : List (List ℕ)} (s t : Disk) {n : Files} (stop : Stop) → IsRun words n → Leaves s t n stop → Unwritten s t ⊎ RunsOn words (BeganReplay s t)
+pub outputs_after : {words : List (List ℕ)} (s t : Disk) {n : Files} (stop : Stop) → IsRun words n → Leaves s t n stop → Unwritten s t
+    ⊎ RunsOn words (BeganReplay s t)
 outputs_after s t Read run (_, inl none) = inl none
 outputs_after s t {n} Read run (_, inr b) = inr (n, run, b)
 outputs_after s t {n} Write run x = inr (n, run, x.2)
@@ -184,7 +199,8 @@ outputs_after s t (Limit lang) run x = inl x.unwritten
 
 -- ---- the one answer
 
-pub exactly_done : {words : List (List ℕ)} (s t : Disk) {u v : Flow} {text : List ℕ} {n : Files} {answer : ℕ} (r : Report) → IsRun words n → HasRun s t n r → Prints u v text 0 answer →
+pub exactly_done : {words : List (List ℕ)} (s t : Disk) {u v : Flow} {text : List ℕ} {n : Files} {answer : ℕ} (r : Report) → IsRun words n
+    → HasRun s t n r → Prints u v text 0 answer →
     IsTrue s.tells_held → (ending : Ending) → ComesTo s words ending → (answer ≡ status_at ending) ⊎ IsFaultOrMemory answer
 exactly_done {words = words} s t {n = n} r run has (inl printed) told ending comes =
     let done : ComesTo s words (Done has.c has.spec (arrivals_of has.replayed.frames)) = inr (inr (n, run, (has.verified, has.replayed.all))) in
@@ -192,7 +208,8 @@ exactly_done {words = words} s t {n = n} r run has (inl printed) told ending com
 exactly_done s t r run has (inr failed) told ending comes = inr (inr (inl failed.0))
 
 -- a run that stopped for a reason
-pub exactly_reason : {words : List (List ℕ)} (s : Disk) {u v : Flow} {text : List ℕ} {answer : ℕ} (stop : Stop) → ComesTo s words (Stopped stop) → Prints u v text (status_of stop) answer →
+pub exactly_reason : {words : List (List ℕ)} (s : Disk) {u v : Flow} {text : List ℕ} {answer : ℕ} (stop : Stop) → ComesTo s words (Stopped stop)
+    → Prints u v text (status_of stop) answer →
     IsTrue s.tells_held → (ending : Ending) → ComesTo s words ending → (answer ≡ status_at ending) ⊎ IsFaultOrMemory answer
 exactly_reason {words = words} s stop reason (inl printed) told ending comes =
     inl (printed.0 ∙ ap status_at (ComesTo-same s words (Stopped stop) ending told reason comes))
@@ -203,22 +220,49 @@ free_stop : {u v : Flow} {text : List ℕ} {answer : ℕ} (status : ℕ) → IsF
 free_stop status free (inl printed) = rw printed.0 free
 free_stop status free (inr failed) = inr (inl failed.0)
 
-pub exactly_stopped : {words : List (List ℕ)} (s t : Disk) {u v : Flow} {text : List ℕ} {n : Files} {answer : ℕ} (stop : Stop) → IsRun words n → Leaves s t n stop → Prints u v text (status_of stop) answer →
+pub exactly_stopped : {words : List (List ℕ)} (s t : Disk) {u v : Flow} {text : List ℕ} {n : Files} {answer : ℕ} (stop : Stop) → IsRun words n
+    → Leaves s t n stop → Prints u v text (status_of stop) answer →
     IsTrue s.tells_held → (ending : Ending) → ComesTo s words ending → (answer ≡ status_at ending) ⊎ IsFaultOrMemory answer
 exactly_stopped s t Read run stops printed told ending comes = inr (free_stop 6 (inl refl) printed)
 exactly_stopped s t Write run stops printed told ending comes = inr (free_stop 7 (inr (inl refl)) printed)
 exactly_stopped s t Memory run stops printed told ending comes = inr (free_stop 8 (inr (inr refl)) printed)
 exactly_stopped s t {n = n} (Capture port (Record number why)) run stops printed told ending comes =
-    exactly_reason s (Capture port (Record number why)) (inr (inr (n, run, record { c = stops.c; spec = stops.spec; verified = stops.verified; captures = λ held. (stops.frames, stops.handled held) }))) printed told ending comes
+    exactly_reason s (Capture port (Record number why))
+    (inr (inr (
+      n,
+      run,
+      record {
+        c = stops.c;
+        spec = stops.spec;
+        verified = stops.verified;
+        captures =
+            λ held. (stops.frames, stops.handled held);
+      },
+    ))) printed told ending comes
 exactly_stopped s t {n = n} Frames run stops printed told ending comes =
-    exactly_reason s Frames (inr (inr (n, run, record { c = stops.c; spec = stops.spec; verified = stops.verified; captures = λ held. (stops.frames, stops.handled held) }))) printed told ending comes
-exactly_stopped s t {n = n} (Capture port (Header field)) run stops printed told ending comes = exactly_reason s (Capture port (Header field)) (inr (inr (n, run, stops.reason))) printed told ending comes
+    exactly_reason s Frames (inr (inr (
+      n,
+      run,
+      record {
+        c = stops.c;
+        spec = stops.spec;
+        verified = stops.verified;
+        captures =
+            λ held. (stops.frames, stops.handled held);
+      },
+    ))) printed told ending comes
+exactly_stopped s t {n = n} (Capture port (Header field)) run stops printed told ending comes =
+    exactly_reason s (Capture port (Header field)) (inr (inr (n, run, stops.reason))) printed told ending comes
 exactly_stopped s t {n = n} Usage run stops printed told ending comes = exactly_reason s Usage (inr (inr (n, run, stops.reason))) printed told ending comes
-exactly_stopped s t {n = n} (Wrong at port) run stops printed told ending comes = exactly_reason s (Wrong at port) (inr (inr (n, run, stops.reason))) printed told ending comes
-exactly_stopped s t {n = n} (NotBuilt what) run stops printed told ending comes = exactly_reason s (NotBuilt what) (inr (inr (n, run, stops.reason))) printed told ending comes
-exactly_stopped s t {n = n} (Limit lang) run stops printed told ending comes = exactly_reason s (Limit lang) (inr (inr (n, run, stops.reason))) printed told ending comes
+exactly_stopped s t {n = n} (Wrong at port) run stops printed told ending comes = exactly_reason s (Wrong at port) (inr (inr (n, run, stops.reason)))
+    printed told ending comes
+exactly_stopped s t {n = n} (NotBuilt what) run stops printed told ending comes = exactly_reason s (NotBuilt what) (inr (inr (n, run, stops.reason)))
+    printed told ending comes
+exactly_stopped s t {n = n} (Limit lang) run stops printed told ending comes = exactly_reason s (Limit lang) (inr (inr (n, run, stops.reason)))
+    printed told ending comes
 
-pub exactly_words : {words : List (List ℕ)} (s : Disk) {u v : Flow} {text : List ℕ} {answer : ℕ} (stop : Stop) → RefusesWords words stop → Prints u v text (status_of stop) answer →
+pub exactly_words : {words : List (List ℕ)} (s : Disk) {u v : Flow} {text : List ℕ} {answer : ℕ} (stop : Stop) → RefusesWords words stop
+    → Prints u v text (status_of stop) answer →
     IsTrue s.tells_held → (ending : Ending) → ComesTo s words ending → (answer ≡ status_at ending) ⊎ IsFaultOrMemory answer
 exactly_words s stop (inl none) printed = exactly_reason s stop (inl (ap Stopped none.0, none.1)) printed
 exactly_words s stop (inr other) printed = exactly_reason s stop (inr (inl (ap Stopped other.0, other.1))) printed

@@ -13,7 +13,8 @@ use Rattle.vg_pcap.specs.Incoming.{AllComeIn, IsFirstBadHeader}
 use Rattle.vg_replay.specs.declared.stop.RunStop.{RunStop}
 use Rattle.vg_replay.specs.declared.stop.RunStop.TheVariants as stops
 use Rattle.vg_replay.specs.declared.totals.Totals.{Totals}
-use Rattle.vg_replay.specs.Replays.{ReplayFiles, KeepsOthers, WroteAll, WroteParts, AreFirst, AreAll, AreUpTo, AreTooMany, HasReplayed, StopsAtHeader, StopsAtRecord, Began, StopsReplay, Replays}
+use Rattle.vg_replay.specs.Replays.{ReplayFiles, KeepsOthers, WroteAll, WroteParts, AreFirst, AreAll, AreUpTo, AreTooMany, HasReplayed, StopsAtHeader}
+use Rattle.vg_replay.specs.Replays.{StopsAtRecord, Began, StopsReplay, Replays}
 use Rattle.vg_replay.specs.Outputs.{Handled, arrivals_of}
 use Rattle.vg_top.proofs.Handled.{never_stops}
 use Rattle.vg_top.specs.Frames.{AreHandledBy}
@@ -39,7 +40,8 @@ module _ {s t : Disk} (same : t.held ≡ s.held) where
   AreAll-before : {ins : List (List ℕ)} {frames : List Arrival} → AreAll t ins frames → AreAll s ins frames
   AreAll-before x = (x.0, all_before x.1, x.2, x.3)
 
-  AreUpTo-before : {ins : List (List ℕ)} {frames : List Arrival} {port number : ℕ} {why : Damage} → AreUpTo t ins frames port number why → AreUpTo s ins frames port number why
+  AreUpTo-before : {ins : List (List ℕ)} {frames : List Arrival} {port number : ℕ} {why : Damage} → AreUpTo t ins frames port number why
+      → AreUpTo s ins frames port number why
   AreUpTo-before x = (x.0, all_before x.1, x.2, x.3, x.4)
 
   AreTooMany-before : {ins : List (List ℕ)} {frames : List Arrival} → AreTooMany t ins frames → AreTooMany s ins frames
@@ -130,7 +132,8 @@ module _ {s t : Disk} (u : Disk) {n : Files} (f : Functions) (x : ReadsFunctions
     read_faults = y.no_fault.read_faults ∙ x.reads.same;
   }
 
-  pub replay_stops : (e : RunStop Infallible) → (IsTrue t.tells_made → KeepsOthers t u (replay_files n)) → StopsReplay t u (replay_files n) (AreHandledBy f.c) never_stops e → Leaves s u n (stop_of e)
+  pub replay_stops : (e : RunStop Infallible) → (IsTrue t.tells_made → KeepsOthers t u (replay_files n))
+      → StopsReplay t u (replay_files n) (AreHandledBy f.c) never_stops e → Leaves s u n (stop_of e)
   replay_stops (stops.Capture port (Header field)) keeps y = at_header port field y
   replay_stops (stops.Capture port (Record number why)) keeps y = after_record port number why keeps y
   replay_stops stops.Read keeps y = (
@@ -156,7 +159,8 @@ module _ {s t : Disk} (u : Disk) {n : Files} (f : Functions) (x : ReadsFunctions
   replay_stops stops.Memory keeps y =
       (unwritten y.0 y.1.write_faults, y.1.read_faults ∙ x.reads.same)
 
-  pub replay_done : (r : Report) → IsPathCount f.c f.spec f.spec.ports r.paths → IsMostSteps f.c f.spec.ports r.steps → (IsTrue t.tells_made → KeepsOthers t u (replay_files n)) →
+  pub replay_done : (r : Report) → IsPathCount f.c f.spec f.spec.ports r.paths → IsMostSteps f.c f.spec.ports r.steps
+      → (IsTrue t.tells_made → KeepsOthers t u (replay_files n)) →
       HasReplayed t u (replay_files n) (AreHandledBy f.c) r.totals → HasRun s u n r
   replay_done r paths steps keeps y = record {
     c = f.c;

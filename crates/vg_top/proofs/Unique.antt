@@ -21,14 +21,16 @@ use Rattle.vg_top.specs.declared.stop.Unbuilt.TheVariants.{Words, Text}
 use Rattle.vg_top.specs.Agreement.{Agree, IsFirstDifference}
 use Rattle.vg_top.specs.Endings.{Ending, Stopped, Done, EndsIn, ComesTo, most_text, IsLonger, IsWithin}
 use Rattle.vg_top.specs.Runs.{IsRun, IsUnbuilt}
-use Rattle.vg_top.proofs.Captures.{same_header_port, same_header_field, header_all, header_up_to, header_many, same_all, all_up_to, all_many, same_up_to, up_to_many}
+use Rattle.vg_top.proofs.Captures.{same_header_port, same_header_field, header_all, header_up_to, header_many, same_all, all_up_to, all_many}
+use Rattle.vg_top.proofs.Captures.{same_up_to, up_to_many}
 
 -- ---- the decisions of a run, one after another
 
 -- a header is refused, or frames are handled: up to a record, or the most, or all
 data AtCaptures (s : Disk) (n : Files) (c spec : Small) (e : Ending) : Type 0 where
   header : (port : ℕ) (field : HeaderField) → e ≡ Stopped (Capture port (Header field)) → IsFirstBadHeader s n.ins port field → AtCaptures s n c spec e
-  up_to : (port number : ℕ) (why : Damage) (frames : List Arrival) → e ≡ Stopped (Capture port (Record number why)) → AreUpTo s n.ins frames port number why → AtCaptures s n c spec e
+  up_to : (port number : ℕ) (why : Damage) (frames : List Arrival) → e ≡ Stopped (Capture port (Record number why))
+      → AreUpTo s n.ins frames port number why → AtCaptures s n c spec e
   many : (frames : List Arrival) → e ≡ Stopped Frames → AreTooMany s n.ins frames → AtCaptures s n c spec e
   all : (frames : List Arrival) → e ≡ Done c spec frames → AreAll s n.ins frames → AtCaptures s n c spec e
 

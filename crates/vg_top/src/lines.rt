@@ -1,6 +1,7 @@
 //! Lines of text of bounded length: those that are printed.
 ghost use Rattle.std.specs.Prelude.{◌≡◌, ◌≤◌, ◌++◌, codes, length};
-ghost use Rattle.vg_top.specs.Lines.{verified_line, totals_line, wrong_text, field_name, damage_name, capture_line, text_name, unbuilt_name, usage_line, refusal_text};
+ghost use Rattle.vg_top.specs.Lines.{verified_line, totals_line, wrong_text, field_name, damage_name, capture_line, text_name, unbuilt_name};
+ghost use Rattle.vg_top.specs.Lines.{usage_line, refusal_text};
 
 use crate::report::Report;
 use crate::stop::{Stop, Unbuilt};

@@ -1,5 +1,6 @@
 -- Literals of a clause that are assumed false one by one.
-use Rattle.std.proofs.Common.{◌≡◌, ℕ, ◌+◌, ◌<◌, ◌≤◌, List, [], ◌∷◌, ◌++◌, length, take, get_or, true, false, refl, sym, ap, ◌∙◌, inl, inr, ◌⊎◌, subst, arith, length-append, append_assoc}
+use Rattle.std.proofs.Common.{◌≡◌, ℕ, ◌+◌, ◌<◌, ◌≤◌, List, [], ◌∷◌, ◌++◌, length, take, get_or, true, false, refl, sym, ap, ◌∙◌, inl, inr, ◌⊎◌, subst}
+use Rattle.std.proofs.Common.{arith, length-append, append_assoc}
 use Rattle.std.specs.Prelude.{ℤ, pos, neg_ℤ, Bool, not, ◌||◌, All, Option, Some, None, is_some}
 use Rattle.std.specs.List.{list_all}
 use Rattle.std.specs.Ordering.{int_eq}
@@ -103,7 +104,8 @@ listed_cases list n entry h =
     ]
 
 -- a decision, and what it forces
-pub decided_more : (made trail new : List ℤ) (starts : List ℕ) (cs : List (List ℤ)) (l : ℤ) → holds made l ≡ true → Grown cs (trail ++ l ∷ []) new → AreDecided made trail starts →
+pub decided_more : (made trail new : List ℤ) (starts : List ℕ) (cs : List (List ℤ)) (l : ℤ) → holds made l ≡ true → Grown cs (trail ++ l ∷ []) new
+    → AreDecided made trail starts →
     AreDecided made new (starts ++ length trail ∷ [])
 decided_more made trail new starts cs l here grown decided at listed =
     let longer = grown_longer cs (trail ++ l ∷ []) new grown in
@@ -112,7 +114,8 @@ decided_more made trail new starts cs l here grown decided at listed =
       | inl earlier ↦
           let before = decided at earlier in (
             omega (arith, before.0, longer, one),
-            ap (holds made) (grown_same cs (trail ++ l ∷ []) new at (omega (arith, before.0, one)) grown ∙ get_or-append trail (l ∷ []) (pos 0) at before.0) ∙ before.1,
+            ap (holds made) (grown_same cs (trail ++ l ∷ []) new at (omega (arith, before.0, one)) grown
+                ∙ get_or-append trail (l ∷ []) (pos 0) at before.0) ∙ before.1,
           )
       | inr last ↦ (
         omega (arith, last, longer, one),
@@ -194,24 +197,28 @@ further_rests start s rest further none =
 -- ---- and taking back takes away
 
 same_parts : (v w : ℕ) (cs ds : List (List ℤ)) (t u : List ℤ) (p q : List ℕ) (m n : ℕ) → v ≡ w → cs ≡ ds → t ≡ u → p ≡ q → m ≡ n →
-    ◌≡◌ {A = Search} (record { variables = v; clauses = cs; trail = t; starts = p; head = m }) (record { variables = w; clauses = ds; trail = u; starts = q; head = n })
+    ◌≡◌ {A = Search} (record { variables = v; clauses = cs; trail = t; starts = p; head = m })
+    (record { variables = w; clauses = ds; trail = u; starts = q; head = n })
 same_parts v w cs ds t u p q m n variables clauses trail starts head = cc (variables, clauses, trail, starts, head)
 
 same_search : (before old : Search) (start : ℕ) → IsBeyond before old → start ≡ length before.trail → before.head ≡ length before.trail →
     record old { trail = take start old.trail; starts = take (length before.starts) old.starts; head = start } ≡ before
 same_search before old start h is propagated =
-    let trail : take start old.trail ≡ before.trail = ap (λ n. take n old.trail) is ∙ ap (take (length before.trail)) h.trail ∙ take-append_seam before.trail h.made in
+    let trail : take start old.trail ≡ before.trail = ap (λ n. take n old.trail) is ∙ ap (take (length before.trail)) h.trail
+    ∙ take-append_seam before.trail h.made in
     let starts : take (length before.starts) old.starts ≡ before.starts =
     ap (take (length before.starts)) h.starts ∙ take-append_seam before.starts (length before.trail ∷ h.later) in
     let head : start ≡ before.head = is ∙ sym propagated in
-    same_parts old.variables before.variables old.clauses before.clauses (take start old.trail) before.trail (take (length before.starts) old.starts) before.starts start before.head h.variables
+    same_parts old.variables before.variables old.clauses before.clauses (take start old.trail) before.trail (take (length before.starts) old.starts)
+    before.starts start before.head h.variables
     h.clauses trail starts head
 
 pub returned : (level : ℕ) (before old new : Search) → length before.starts ≡ level → before.head ≡ length before.trail → IsBeyond before old →
     new ≡ record old { trail = take (start_in old.starts level) old.trail; starts = take level old.starts; head = start_in old.starts level } → new ≡ before
 returned level before old new here propagated h is =
     let start : start_in old.starts level ≡ length before.trail =
-    ap (start_in old.starts) (sym here) ∙ ap (λ xs. start_in xs (length before.starts)) h.starts ∙ get_or-append_seam before.starts (length before.trail) h.later 0 in
+    ap (start_in old.starts) (sym here) ∙ ap (λ xs. start_in xs (length before.starts)) h.starts
+    ∙ get_or-append_seam before.starts (length before.trail) h.later 0 in
     is
     ∙ ap (λ n. record old { trail = take (start_in old.starts level) old.trail; starts = take n old.starts; head = start_in old.starts level }) (sym here)
     ∙ same_search before old (start_in old.starts level) h start propagated
@@ -278,7 +285,8 @@ one_taken : (a list : List ℤ) (at : ℕ) (l : ℤ) → at < length list → l 
 one_taken a list at l inside read =
     append_assoc a (take at list) (l ∷ []) ∙ ap (λ xs. a ++ xs) (sym (take_more list at l inside ∙ ap (λ x. take at list ++ x ∷ []) (sym read)))
 
-pub assuming_passes : (start s : Search) (list : List ℤ) (at : ℕ) (l : ℤ) → at < length list → l ≡ get_or list at l → holds s.trail (neg_ℤ l) ≡ true → Assuming start s list at →
+pub assuming_passes : (start s : Search) (list : List ℤ) (at : ℕ) (l : ℤ) → at < length list → l ≡ get_or list at l → holds s.trail (neg_ℤ l) ≡ true
+    → Assuming start s list at →
     Assuming start s list (at + 1)
 assuming_passes start s list at l inside read here h =
     record {
@@ -289,7 +297,8 @@ assuming_passes start s list at l inside read here h =
       assumed = λ a assumes. subst (Assumes s) (one_taken a list at l inside read) (assumes_false s (a ++ take at list) l here (h.assumed a assumes));
     }
 
-pub assuming_decides : (start s next new : Search) (list : List ℤ) (at : ℕ) (l : ℤ) → at < length list → l ≡ get_or list at l → Decided s next new (neg_ℤ l) → IsEnd next new None →
+pub assuming_decides : (start s next new : Search) (list : List ℤ) (at : ℕ) (l : ℤ) → at < length list → l ≡ get_or list at l
+    → Decided s next new (neg_ℤ l) → IsEnd next new None →
     Assuming start s list at → Assuming start new list (at + 1)
 assuming_decides start s next new list at l inside read step ended h =
     record {
@@ -297,7 +306,8 @@ assuming_decides start s next new list at l inside read step ended h =
       propagated = ended.0;
       settled = ended.1;
       sound = step.sound;
-      assumed = λ a assumes. subst (Assumes new) (one_taken a list at l inside read) (assumes_decided s next new (a ++ take at list) l step (h.assumed a assumes));
+      assumed = λ a assumes. subst (Assumes new) (one_taken a list at l inside read) (assumes_decided s next new (a ++ take at list) l step
+          (h.assumed a assumes));
     }
 
 taken_within : (a list : List ℤ) (at : ℕ) → AreWithin (a ++ take at list) (a ++ list)
@@ -308,9 +318,11 @@ reached : (start : Search) (a list : List ℤ) (at : ℕ) → All (IsClauseOver 
     Reaches start.clauses (negations (a ++ take at list)) → follows start.clauses (a ++ list) ≡ true
 reached start a list at all over reaches =
     reaches-follows start.clauses (a ++ list) (over-nonzero start.variables start.clauses all) over.clause
-    (Reaches-more start.clauses (negations (a ++ take at list)) (negations (a ++ list)) (negations_within (a ++ take at list) (a ++ list) (taken_within a list at)) reaches)
+    (Reaches-more start.clauses (negations (a ++ take at list)) (negations (a ++ list)) (negations_within (a ++ take at list) (a ++ list)
+    (taken_within a list at)) reaches)
 
-assuming_conflict : (start s next new : Search) (list : List ℤ) (at : ℕ) (l : ℤ) (clause : ℕ) → All (IsClauseOver start.variables) start.clauses → at < length list → l ≡ get_or list at l →
+assuming_conflict : (start s next new : Search) (list : List ℤ) (at : ℕ) (l : ℤ) (clause : ℕ) → All (IsClauseOver start.variables) start.clauses
+    → at < length list → l ≡ get_or list at l →
     Decided s next new (neg_ℤ l) → IsEnd next new (Some clause) → Assuming start s list at → TellsBeside start list true
 assuming_conflict start s next new list at l clause all inside read step ended h a assumes over =
     let clauses : new.clauses ≡ start.clauses = further_clauses start new (further_beyond start s new (beyond_decided s next new (neg_ℤ l) step) h.further) in
@@ -320,13 +332,16 @@ assuming_conflict start s next new list at l clause all inside read step ended h
     sym
     (reached start a list (at + 1) all over
     (subst (λ cs. Reaches cs (negations made)) clauses
-    (chain_conflict new.clauses new.trail new.starts (negations made) (get_or new.clauses clause []) step.sound.chain here.decided (contains_at new.clauses clause ended.1) ended.2)))
+    (chain_conflict new.clauses new.trail new.starts (negations made) (get_or new.clauses clause []) step.sound.chain here.decided
+    (contains_at new.clauses clause ended.1) ended.2)))
 
-pub assuming_clash : (start s : Search) (list : List ℤ) (at : ℕ) (l : ℤ) → All (IsClauseOver start.variables) start.clauses → holds list l ≡ true → holds s.trail l ≡ true →
+pub assuming_clash : (start s : Search) (list : List ℤ) (at : ℕ) (l : ℤ) → All (IsClauseOver start.variables) start.clauses → holds list l ≡ true
+    → holds s.trail l ≡ true →
     Assuming start s list at → TellsBeside start list true
 assuming_clash start s list at l all held here h a assumes over =
     let some = a ++ take at list in
-    let decided = wider (negations some) (negations (a ++ list)) s.trail s.starts (negations_within some (a ++ list) (taken_within a list at)) (h.assumed a assumes).decided in
+    let decided = wider (negations some) (negations (a ++ list)) s.trail s.starts (negations_within some (a ++ list) (taken_within a list at))
+    (h.assumed a assumes).decided in
     sym
     (reaches-follows start.clauses (a ++ list) (over-nonzero start.variables start.clauses all) over.clause
     (subst (λ cs. Reaches cs (negations (a ++ list))) (further_clauses start s h.further)
@@ -344,18 +359,21 @@ assuming_open start s list at end h a assumes over =
 
 -- ---- as the loop meets them
 
-pub assuming_some : (start s next new : Search) (list : List ℤ) (at : ℕ) (l n : ℤ) (end : Option ℕ) → is_some end ≡ true → All (IsClauseOver start.variables) start.clauses →
+pub assuming_some : (start s next new : Search) (list : List ℤ) (at : ℕ) (l n : ℤ) (end : Option ℕ) → is_some end ≡ true
+    → All (IsClauseOver start.variables) start.clauses →
     at < length list → l ≡ get_or list at l → n ≡ neg_ℤ l → Decided s next new n → IsEnd next new end → Assuming start s list at → TellsBeside start list true
 assuming_some start s next new list at l n None some all inside read negation step ended h = absurd (false≢true some)
 assuming_some start s next new list at l n (Some clause) some all inside read negation step ended h =
     assuming_conflict start s next new list at l clause all inside read (subst (Decided s next new) negation step) ended h
 
-pub assuming_none : (start s next new : Search) (list : List ℤ) (at : ℕ) (l n : ℤ) (end : Option ℕ) → is_some end ≡ false → at < length list → l ≡ get_or list at l → n ≡ neg_ℤ l →
+pub assuming_none : (start s next new : Search) (list : List ℤ) (at : ℕ) (l n : ℤ) (end : Option ℕ) → is_some end ≡ false → at < length list
+    → l ≡ get_or list at l → n ≡ neg_ℤ l →
     Decided s next new n → IsEnd next new end → Assuming start s list at → Assuming start new list (at + 1)
 assuming_none start s next new list at l n None none inside read negation step ended h =
     assuming_decides start s next new list at l inside read (subst (Decided s next new) negation step) ended h
 assuming_none start s next new list at l n (Some clause) none inside read negation step ended h = absurd (true≢false none)
 
 -- where the answer is no, the state shows it
-pub rests_open : (s : Search) (list : List ℤ) → IsSound s → (s.head ≡ length s.trail → All (Settled s.trail) s.clauses) → s.head ≡ length s.trail → Assumes s list → Rests s list
+pub rests_open : (s : Search) (list : List ℤ) → IsSound s → (s.head ≡ length s.trail → All (Settled s.trail) s.clauses) → s.head ≡ length s.trail
+    → Assumes s list → Rests s list
 rests_open s list sound settled propagated h = record { consistent = sound.consistent; settled = settled propagated; falses = h.falses }

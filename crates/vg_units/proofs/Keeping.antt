@@ -1,5 +1,6 @@
 -- What a search keeps when literals are made true and taken back.
-use Rattle.std.proofs.Common.{◌≡◌, ℕ, zero, suc, ◌<◌, ◌≤◌, List, [], ◌∷◌, ◌++◌, length, take, get_or, true, false, refl, sym, ap, ◌∙◌, inl, inr, ◌⊎◌, subst, arith, length-append, ltb}
+use Rattle.std.proofs.Common.{◌≡◌, ℕ, zero, suc, ◌<◌, ◌≤◌, List, [], ◌∷◌, ◌++◌, length, take, get_or, true, false, refl, sym, ap, ◌∙◌, inl, inr, ◌⊎◌}
+use Rattle.std.proofs.Common.{subst, arith, length-append, ltb}
 use Rattle.std.specs.Prelude.{ℤ, pos, negsuc, neg_ℤ, unsigned_abs, ◌||◌, Contains, All, Option, None, Some, is_some, IsSome, Bool, not, MatchBool}
 use Rattle.std.specs.Ordering.{int_eq}
 use Rattle.std.proofs.Math.IntN.{neg_ℤ-neg_ℤ}
@@ -18,7 +19,8 @@ use Rattle.vg_cnf.proofs.Steps.{clash, same_literal}
 use Rattle.vg_units.specs.Lists.{IsListedFrom}
 use Rattle.vg_units.specs.Trails.{Made, IsMadeTrue}
 use Rattle.vg_units.specs.Watching.{Watching, clause_of, pair_of, clause_in, pair_in, IsSame, IsAdded}
-use Rattle.vg_units.specs.Propagating.{AreFalse, IsForced, Grown, same, more, IsWatched, by_true, by_open, AreWatched, AreWithin, Advances, IsOpenBeside, AreFalseBeside}
+use Rattle.vg_units.specs.Propagating.{AreFalse, IsForced, Grown, same, more, IsWatched, by_true, by_open, AreWatched, AreWithin, Advances}
+use Rattle.vg_units.specs.Propagating.{IsOpenBeside, AreFalseBeside}
 use Rattle.vg_units.specs.Searching.{Search, IsAtRest, IsChain, IsSound, IsSameBut, IsEnd}
 use Rattle.vg_units.specs.Levels.{IsKept, start_in}
 use Rattle.vg_units.specs.declared.watches.Pair.{Pair}
@@ -26,7 +28,8 @@ use Rattle.vg_units.proofs.Listing.{same_or_other, listed_pushed, listed_last}
 use Rattle.vg_units.proofs.Literals.{held_over}
 use Rattle.vg_units.proofs.Watching.{each_added}
 use Rattle.vg_units.proofs.Reaching.{AreDecided, chain_more, chain_conflict}
-use Rattle.vg_units.proofs.Visiting.{apart_from, other_test, advances_same, contains_at, holds_before, holds_last, not_within, watched_more, watched_on, grown_longer, grown_prefix, held_prefix}
+use Rattle.vg_units.proofs.Visiting.{apart_from, other_test, advances_same, contains_at, holds_before, holds_last, not_within, watched_more}
+use Rattle.vg_units.proofs.Visiting.{watched_on, grown_longer, grown_prefix, held_prefix}
 
 -- ---- literals made true
 
@@ -65,7 +68,8 @@ consistent_pushed made l consistent nonzero not_false k e =
           unheld_pushed made l (neg_ℤ k) (ap (λ x. holds made (neg_ℤ x)) is_l ∙ not_false) (ap (λ x. int_eq (neg_ℤ x) l) is_l ∙ apart_self l nonzero)
     ]
 
-pub chain_pushed : (cs : List (List ℤ)) (t : List ℤ) (starts : List ℕ) (l : ℤ) → IsListedFrom starts 0 (length t) ⊎ IsForced cs t l → IsChain cs t starts → IsChain cs (t ++ l ∷ []) starts
+pub chain_pushed : (cs : List (List ℤ)) (t : List ℤ) (starts : List ℕ) (l : ℤ) → IsListedFrom starts 0 (length t) ⊎ IsForced cs t l
+    → IsChain cs t starts → IsChain cs (t ++ l ∷ []) starts
 chain_pushed cs t starts l last chain at within =
     elim (same_or_other at (length t)) [
       | inl here ↦
@@ -81,7 +85,8 @@ chain_pushed cs t starts l last chain at within =
 
 pub chain_grown : (cs : List (List ℤ)) (old new : List ℤ) (starts : List ℕ) → Grown cs old new → IsChain cs old starts → IsChain cs new starts
 chain_grown cs old new starts same chain = chain
-chain_grown cs old new starts (more made l before forced fresh not_false) chain = chain_pushed cs made starts l (inr forced) (chain_grown cs old made starts before chain)
+chain_grown cs old new starts (more made l before forced fresh not_false) chain = chain_pushed cs made starts l (inr forced)
+    (chain_grown cs old made starts before chain)
 
 clause_found : (v : ℕ) (cs : List (List ℤ)) (c : List ℤ) → All (IsClauseOver v) cs → Contains cs c → IsClauseOver v c
 clause_found v cs c all at = subst (IsClauseOver v) at.2 (all at.0 c at.1)
@@ -120,7 +125,8 @@ watched_at : (w : Watching) (t : List ℤ) (a b : ℕ) → a ≡ b → AreWatche
 watched_at w t a b e h = subst (λ n. AreWatched w (take n t) (take n t)) (sym e) h
 
 -- a level begins
-pub kept_started : (w : Watching) (t : Made) (starts : List ℕ) (head : ℕ) → head ≡ length t.literals → IsKept w t starts head → IsKept w t (starts ++ length t.literals ∷ []) head
+pub kept_started : (w : Watching) (t : Made) (starts : List ℕ) (head : ℕ) → head ≡ length t.literals → IsKept w t starts head
+    → IsKept w t (starts ++ length t.literals ∷ []) head
 kept_started w t starts head propagated h =
     let n = length t.literals in
     let whole : take n t.literals ≡ t.literals = take_all n t.literals (omega arith) in
@@ -147,7 +153,8 @@ kept_started w t starts head propagated h =
                 (subst (AreWatched w t.literals) (ap (λ m. take m t.literals) propagated ∙ whole) h.watched))
             | inr other ↦
                 let earlier : level < length starts = omega (arith, other, inside, longer) in
-                watched_at w t.literals (start_in (starts ++ n ∷ []) level) (start_in starts level) (start_before starts n level earlier) (h.levels level earlier)
+                watched_at w t.literals (start_in (starts ++ n ∷ []) level) (start_in starts level) (start_before starts n level earlier)
+                (h.levels level earlier)
           ];
       sorted =
           λ level next le inside.
@@ -175,7 +182,8 @@ kept_started w t starts head propagated h =
 
 -- a literal is made true
 pub kept_pushed : (w : Watching) (t : Made) (starts : List ℕ) (head : ℕ) (l : ℤ) → 0 < unsigned_abs l → holds t.literals (neg_ℤ l) ≡ false →
-    IsListedFrom starts 0 (length t.literals) ⊎ IsForced w.clauses t.literals l → IsKept w t starts head → IsKept w (record t { literals = t.literals ++ l ∷ [] }) starts head
+    IsListedFrom starts 0 (length t.literals) ⊎ IsForced w.clauses t.literals l → IsKept w t starts head
+    → IsKept w (record t { literals = t.literals ++ l ∷ [] }) starts head
 kept_pushed w t starts head l nonzero not_false last h =
     let prefix = λ (n : ℕ) (le : n ≤ head). take-append-le n t.literals (l ∷ []) (omega (arith, le, h.within)) in
     record {
@@ -196,10 +204,12 @@ kept_pushed w t starts head l nonzero not_false last h =
       chain = chain_pushed w.clauses t.literals starts l last h.chain;
     }
 
-pub kept_decided : (w : Watching) (t : Made) (starts : List ℕ) (head : ℕ) (l : ℤ) → head ≡ length t.literals → 0 < unsigned_abs l → holds t.literals (neg_ℤ l) ≡ false → IsKept w t starts head →
+pub kept_decided : (w : Watching) (t : Made) (starts : List ℕ) (head : ℕ) (l : ℤ) → head ≡ length t.literals → 0 < unsigned_abs l
+    → holds t.literals (neg_ℤ l) ≡ false → IsKept w t starts head →
     IsKept w (record t { literals = t.literals ++ l ∷ [] }) (starts ++ length t.literals ∷ []) head
 kept_decided w t starts head l propagated nonzero not_false h =
-    kept_pushed w t (starts ++ length t.literals ∷ []) head l nonzero not_false (inl (listed_last starts (length t.literals))) (kept_started w t starts head propagated h)
+    kept_pushed w t (starts ++ length t.literals ∷ []) head l nonzero not_false (inl (listed_last starts (length t.literals)))
+    (kept_started w t starts head propagated h)
 
 -- forced literals are made true
 pub kept_advanced : (w new : Watching) (t u : Made) (starts : List ℕ) (head : ℕ) → Advances w new t u → IsKept w t starts head → IsKept new u starts head
@@ -211,7 +221,8 @@ kept_advanced w new t u starts head step h =
       over = subst (λ v. All (IsClauseOver v) new.clauses) (sym step.variables) (subst (All (IsClauseOver w.variables)) (sym step.clauses) h.over);
       within = omega (arith, h.within, longer);
       watched =
-          subst (AreWatched new u.literals) (sym (prefix head (omega arith))) (watched_on w new t u (take head t.literals) step (held_prefix head t.literals) h.watched);
+          subst (AreWatched new u.literals) (sym (prefix head (omega arith))) (watched_on w new t u (take head t.literals) step
+          (held_prefix head t.literals) h.watched);
       before = h.before;
       levels =
           λ level inside.
@@ -226,7 +237,8 @@ kept_advanced w new t u starts head step h =
     }
 
 -- all is propagated
-pub kept_propagated : (w : Watching) (t : Made) (starts : List ℕ) (head : ℕ) → AreWatched w t.literals t.literals → IsKept w t starts head → IsKept w t starts (length t.literals)
+pub kept_propagated : (w : Watching) (t : Made) (starts : List ℕ) (head : ℕ) → AreWatched w t.literals t.literals → IsKept w t starts head
+    → IsKept w t starts (length t.literals)
 kept_propagated w t starts head watched h =
     record {
       variables = h.variables;
@@ -276,7 +288,8 @@ kept_truncated w t starts head level inside h =
       chain =
           λ at at_in.
           let below : at < start = omega (arith, at_in, shorter) in
-          subst (λ x. IsListedFrom (take level starts) 0 at ⊎ IsForced w.clauses (take at (take start t.literals)) x) (sym (get_or-take start t.literals at (pos 0) below))
+          subst (λ x. IsListedFrom (take level starts) 0 at ⊎ IsForced w.clauses (take at (take start t.literals)) x)
+          (sym (get_or-take start t.literals at (pos 0) below))
           (subst (λ xs. IsListedFrom (take level starts) 0 at ⊎ IsForced w.clauses xs (get_or t.literals at (pos 0))) (sym (prefix at (omega (arith, below))))
           (elim (h.chain at (omega (arith, below, fits))) [
             | inl decided ↦ inl (listed_earlier starts level at inside below h.sorted decided)
@@ -289,8 +302,12 @@ kept_truncated w t starts head level inside h =
     listed_earlier starts level at inside below sorted decided =
         elim (cases_Bool (ltb decided.0 level)) [
           | inl earlier ↦
-              let k_below : decided.0 < level = ltb-true decided.0 level earlier in
-              (decided.0, omega arith, omega (arith, k_below, length-take-le level starts (omega (arith, inside))), get_or-take level starts decided.0 0 k_below ∙ decided.3)
+              let k_below : decided.0 < level = ltb-true decided.0 level earlier in (
+                decided.0,
+                omega arith,
+                omega (arith, k_below, length-take-le level starts (omega (arith, inside))),
+                get_or-take level starts decided.0 0 k_below ∙ decided.3,
+              )
           | inr later ↦
               let above : level ≤ decided.0 = ltb-false decided.0 level later in
               absurd (omega (arith, sorted level decided.0 above decided.2, decided.3, below))
@@ -305,7 +322,8 @@ pub all_settled : (w : Watching) (made : List ℤ) → AreWatched w made made �
 all_settled w made watched =
     All-from_get_or (Settled made) w.clauses [] (λ at inside. watched_settled (clause_of w at) (pair_of w at) made (watched at inside))
 
-pub end_settled : (old new : Search) (conflict : Option ℕ) → is_some conflict ≡ false → new.head ≡ length new.trail → All (Settled new.trail) new.clauses → IsEnd old new conflict
+pub end_settled : (old new : Search) (conflict : Option ℕ) → is_some conflict ≡ false → new.head ≡ length new.trail
+    → All (Settled new.trail) new.clauses → IsEnd old new conflict
 end_settled old new None e propagated settled = (propagated, settled)
 end_settled old new (Some clause) e propagated settled = absurd (true≢false e)
 
@@ -321,22 +339,27 @@ kept_back w t u starts fewer head level start inside read trail_is starts_are h 
     (subst (λ xs. IsKept w (record t { literals = take start t.literals }) xs start) (sym starts_are)
     (subst (λ n. IsKept w (record t { literals = take n t.literals }) (take level starts) n) is (kept_truncated w t starts head level inside h)))
 
-pub kept_settled : (w : Watching) (t : Made) (starts : List ℕ) (head : ℕ) → IsKept w t starts head → head ≡ length t.literals → All (Settled t.literals) w.clauses
+pub kept_settled : (w : Watching) (t : Made) (starts : List ℕ) (head : ℕ) → IsKept w t starts head → head ≡ length t.literals
+    → All (Settled t.literals) w.clauses
 kept_settled w t starts head h propagated =
-    all_settled w t.literals (subst (AreWatched w t.literals) (ap (λ n. take n t.literals) propagated ∙ take_all (length t.literals) t.literals (omega arith)) h.watched)
+    all_settled w t.literals (subst (AreWatched w t.literals) (ap (λ n. take n t.literals) propagated
+    ∙ take_all (length t.literals) t.literals (omega arith)) h.watched)
 
 -- ---- one clause more
 
 pub kept_same : (w new : Watching) (t : Made) (starts : List ℕ) (head : ℕ) → IsSame w new → IsKept w t starts head → IsKept new t starts head
 kept_same w new t starts head stay h = kept_advanced w new t t starts head (advances_same w new t stay) h
 
-pub kept_added : (w new : Watching) (t u : Made) (starts : List ℕ) (head : ℕ) (c : List ℤ) (p : Pair) → starts ≡ [] → IsAdded w new c p → length w.pairs ≡ length w.clauses →
-    IsClauseOver w.variables c → u.variables ≡ t.variables → AreWithin t.literals u.literals → head ≤ length u.literals → take head u.literals ≡ take head t.literals → IsConsistent u.literals →
+pub kept_added : (w new : Watching) (t u : Made) (starts : List ℕ) (head : ℕ) (c : List ℤ) (p : Pair) → starts ≡ [] → IsAdded w new c p
+    → length w.pairs ≡ length w.clauses →
+    IsClauseOver w.variables c → u.variables ≡ t.variables → AreWithin t.literals u.literals → head ≤ length u.literals
+    → take head u.literals ≡ take head t.literals → IsConsistent u.literals →
     IsChain new.clauses u.literals starts → IsWatched c p u.literals (take head t.literals) → IsKept w t starts head → IsKept new u starts head
 kept_added w new t u starts head c p base added paired over variables within fits prefix consistent chain watched h =
     record {
       variables = added.0 ∙ h.variables ∙ sym variables;
-      over = subst (λ v. All (IsClauseOver v) new.clauses) (sym added.0) (subst (All (IsClauseOver w.variables)) (sym added.1) (All-push (IsClauseOver w.variables) w.clauses c h.over over));
+      over = subst (λ v. All (IsClauseOver v) new.clauses) (sym added.0) (subst (All (IsClauseOver w.variables)) (sym added.1)
+          (All-push (IsClauseOver w.variables) w.clauses c h.over over));
       within = fits;
       watched =
           subst (AreWatched new u.literals) (sym prefix)
@@ -344,7 +367,8 @@ kept_added w new t u starts head c p base added paired over variables within fit
           subst (λ cs. IsWatched (clause_in cs at) (pair_of new at) u.literals (take head t.literals)) (sym added.1)
           (subst (λ ps. IsWatched (clause_in (w.clauses ++ c ∷ []) at) (pair_in ps at) u.literals (take head t.literals)) (sym added.2)
           (each_added (λ d q n. IsWatched d q u.literals (take head t.literals)) w.clauses w.pairs c p paired
-          (λ n n_in. watched_more (clause_of w n) (pair_of w n) t.literals u.literals (take head t.literals) within (h.watched n n_in)) watched at (subst (λ cs. at < length cs) added.1 inside))));
+          (λ n n_in. watched_more (clause_of w n) (pair_of w n) t.literals u.literals (take head t.literals) within (h.watched n n_in)) watched at
+          (subst (λ cs. at < length cs) added.1 inside))));
       before = λ level inside. absurd (omega (arith, inside, ap length base));
       levels = λ level inside. absurd (omega (arith, inside, ap length base));
       sorted = λ level next le inside. absurd (omega (arith, inside, ap length base));
@@ -353,26 +377,33 @@ kept_added w new t u starts head c p base added paired over variables within fit
     }
 
 -- a clause with two literals that are not false
-pub kept_open : (w new : Watching) (t : Made) (starts : List ℕ) (head : ℕ) (c : List ℤ) (first second : ℤ) → starts ≡ [] → IsAdded w new c (record { first = first; second = second }) →
-    length w.pairs ≡ length w.clauses → IsClauseOver w.variables c → holds c first ≡ true → holds t.literals (neg_ℤ first) ≡ false → IsOpenBeside t.literals c first second →
+pub kept_open : (w new : Watching) (t : Made) (starts : List ℕ) (head : ℕ) (c : List ℤ) (first second : ℤ) → starts ≡ []
+    → IsAdded w new c (record { first = first; second = second }) →
+    length w.pairs ≡ length w.clauses → IsClauseOver w.variables c → holds c first ≡ true → holds t.literals (neg_ℤ first) ≡ false
+    → IsOpenBeside t.literals c first second →
     IsKept w t starts head → IsKept new t starts head
 kept_open w new t starts head c first second base added paired over held not_false beside h =
     kept_added w new t t starts head c (record { first = first; second = second }) base added paired over refl (λ k e. e) h.within refl h.consistent
     (subst (λ cs. IsChain cs t.literals starts) (sym added.1) (chain_more w.clauses (c ∷ []) t.literals starts h.chain))
-    (by_open (other_test first second (λ e. apart_from second first beside.1 (sym e))) held beside.0 (not_within (take head t.literals) t.literals (neg_ℤ first) (held_prefix head t.literals) not_false)
+    (by_open (other_test first second (λ e. apart_from second first beside.1 (sym e))) held beside.0
+    (not_within (take head t.literals) t.literals (neg_ℤ first) (held_prefix head t.literals) not_false)
     (not_within (take head t.literals) t.literals (neg_ℤ second) (held_prefix head t.literals) beside.2)) h
 
 -- a clause with just one
-pub kept_single : (w new : Watching) (t u : Made) (starts : List ℕ) (head : ℕ) (c : List ℤ) (l : ℤ) → starts ≡ [] → IsAdded w new c (record { first = l; second = l }) →
-    length w.pairs ≡ length w.clauses → IsClauseOver w.variables c → holds c l ≡ true → 0 < unsigned_abs l → holds t.literals (neg_ℤ l) ≡ false → AreFalseBeside t.literals c l → IsMadeTrue t u l →
+pub kept_single : (w new : Watching) (t u : Made) (starts : List ℕ) (head : ℕ) (c : List ℤ) (l : ℤ) → starts ≡ []
+    → IsAdded w new c (record { first = l; second = l }) →
+    length w.pairs ≡ length w.clauses → IsClauseOver w.variables c → holds c l ≡ true → 0 < unsigned_abs l → holds t.literals (neg_ℤ l) ≡ false
+    → AreFalseBeside t.literals c l → IsMadeTrue t u l →
     IsKept w t starts head → IsKept new u starts head
 kept_single w new t u starts head c l base added paired over held nonzero not_false others_false made h =
-    let chain : IsChain new.clauses t.literals starts = subst (λ cs. IsChain cs t.literals starts) (sym added.1) (chain_more w.clauses (c ∷ []) t.literals starts h.chain) in
+    let chain : IsChain new.clauses t.literals starts = subst (λ cs. IsChain cs t.literals starts) (sym added.1)
+    (chain_more w.clauses (c ∷ []) t.literals starts h.chain) in
     let last : Contains new.clauses c = subst (λ cs. Contains cs c) (sym added.1) (Contains-push w.clauses c) in
     elim made [
       | inl before ↦
           subst (λ x. IsKept new x starts head) (sym before.0)
-          (kept_added w new t t starts head c (record { first = l; second = l }) base added paired over refl (λ k e. e) h.within refl h.consistent chain (by_true l held before.1) h)
+          (kept_added w new t t starts head c (record { first = l; second = l }) base added paired over refl (λ k e. e) h.within refl h.consistent
+          chain (by_true l held before.1) h)
       | inr fresh ↦
           subst (λ x. IsKept new x starts head) (sym fresh.0)
           (kept_added w new t (record t { literals = t.literals ++ l ∷ [] }) starts head c (record { first = l; second = l }) base added paired over refl
@@ -387,24 +418,28 @@ kept_single w new t u starts head c l base added paired over held nonzero not_fa
 none_decided : (trail : List ℤ) (starts : List ℕ) → starts ≡ [] → AreDecided [] trail starts
 none_decided trail starts base at listed = absurd (omega (arith, listed.2, ap length base))
 
-pub false_reaches : (cs : List (List ℤ)) (trail : List ℤ) (starts : List ℕ) (c : List ℤ) → starts ≡ [] → IsChain cs trail starts → AreFalse trail c → Reaches (cs ++ c ∷ []) []
+pub false_reaches : (cs : List (List ℤ)) (trail : List ℤ) (starts : List ℕ) (c : List ℤ) → starts ≡ [] → IsChain cs trail starts → AreFalse trail c
+    → Reaches (cs ++ c ∷ []) []
 false_reaches cs trail starts c base chain falses =
     chain_conflict (cs ++ c ∷ []) trail starts [] c (chain_more cs (c ∷ []) trail starts chain) (none_decided trail starts base) (Contains-push cs c) falses
 
-pub end_reaches : (cs : List (List ℤ)) (next new : Search) (end : Option ℕ) (none : Bool) → is_some end ≡ not none → next.starts ≡ [] → next.clauses ≡ cs → IsSameBut next new → IsSound new →
+pub end_reaches : (cs : List (List ℤ)) (next new : Search) (end : Option ℕ) (none : Bool) → is_some end ≡ not none → next.starts ≡ []
+    → next.clauses ≡ cs → IsSameBut next new → IsSound new →
     IsEnd next new end → MatchBool none (IsAtRest new × (new.clauses ≡ cs)) (Reaches cs [])
 end_reaches cs next new None true e base clauses stay sound ended = ((stay.2 ∙ base, ended.0), stay.1 ∙ clauses)
 end_reaches cs next new None false e base clauses stay sound ended = absurd (false≢true e)
 end_reaches cs next new (Some clause) true e base clauses stay sound ended = absurd (true≢false e)
 end_reaches cs next new (Some clause) false e base clauses stay sound ended =
     subst (λ xs. Reaches xs []) (stay.1 ∙ clauses)
-    (chain_conflict new.clauses new.trail new.starts [] (get_or new.clauses clause []) sound.chain (none_decided new.trail new.starts (stay.2 ∙ base)) (contains_at new.clauses clause ended.1) ended.2)
+    (chain_conflict new.clauses new.trail new.starts [] (get_or new.clauses clause []) sound.chain (none_decided new.trail new.starts (stay.2 ∙ base))
+    (contains_at new.clauses clause ended.1) ended.2)
 
 -- where all clauses are settled unit propagation ends
 pub open_end : (cs : List (List ℤ)) (made : List ℤ) → IsConsistent made → All (Settled made) cs → IsSome (propagated cs)
 open_end cs made consistent settled = ap is_some (settled-propagated (length cs) made cs consistent settled).1
 
-pub end_open : (next new : Search) (end : Option ℕ) (none : Bool) → is_some end ≡ not none → IsSound new → IsEnd next new end → none ≡ true → IsSome (propagated new.clauses)
+pub end_open : (next new : Search) (end : Option ℕ) (none : Bool) → is_some end ≡ not none → IsSound new → IsEnd next new end → none ≡ true
+    → IsSome (propagated new.clauses)
 end_open next new None none e sound ended is_none = open_end new.clauses new.trail sound.consistent ended.1
 end_open next new (Some clause) none e sound ended is_none = absurd (true≢false (e ∙ ap not is_none))
 

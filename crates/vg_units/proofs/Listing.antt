@@ -1,5 +1,6 @@
 -- Lists of numbers: entries that stay when one is added or taken out.
-use Rattle.std.proofs.Common.{◌≡◌, ℕ, ◌+◌, ◌-◌, ◌<◌, ◌≤◌, List, [], ◌∷◌, ◌++◌, length, get_or, refl, sym, ap, ◌∙◌, inl, inr, ◌⊎◌, subst, arith, length-append, length-take}
+use Rattle.std.proofs.Common.{◌≡◌, ℕ, ◌+◌, ◌-◌, ◌<◌, ◌≤◌, List, [], ◌∷◌, ◌++◌, length, get_or, refl, sym, ap, ◌∙◌, inl, inr, ◌⊎◌, subst, arith}
+use Rattle.std.proofs.Common.{length-append, length-take}
 use Rattle.std.specs.Prelude.{◌≢◌, set}
 use Rattle.std.specs.List.{swap_remove}
 use Rattle.std.proofs.Math.Dec.{eqb}

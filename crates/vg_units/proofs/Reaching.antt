@@ -1,5 +1,6 @@
 -- An empty clause that is reached from a trail is reached from its decisions.
-use Rattle.std.proofs.Common.{◌≡◌, ℕ, zero, suc, ◌+◌, ◌<◌, ◌≤◌, List, [], ◌∷◌, ◌++◌, length, take, get_or, true, false, refl, sym, ap, ◌∙◌, inl, inr, ◌⊎◌, subst, arith, length-append}
+use Rattle.std.proofs.Common.{◌≡◌, ℕ, zero, suc, ◌+◌, ◌<◌, ◌≤◌, List, [], ◌∷◌, ◌++◌, length, take, get_or, true, false, refl, sym, ap, ◌∙◌, inl, inr}
+use Rattle.std.proofs.Common.{◌⊎◌, subst, arith, length-append}
 use Rattle.std.specs.Prelude.{ℤ, pos, neg_ℤ, Contains, All}
 use Rattle.std.specs.Ordering.{int_eq}
 use Rattle.std.proofs.Math.ListN.{get_or-append}
@@ -78,7 +79,8 @@ next_within trail made n inside k e =
     ]
 
 -- what is reached with the first literals of the trail is reached without them
-back_to_made : (cs : List (List ℤ)) (trail : List ℤ) (starts : List ℕ) (made : List ℤ) → IsChain cs trail starts → AreDecided made trail starts → (n : ℕ) → n ≤ length trail →
+back_to_made : (cs : List (List ℤ)) (trail : List ℤ) (starts : List ℕ) (made : List ℤ) → IsChain cs trail starts → AreDecided made trail starts
+    → (n : ℕ) → n ≤ length trail →
     Reaches cs (take n trail ++ made) → Reaches cs made
 back_to_made cs trail starts made chain decided zero inside reaches = reaches
 back_to_made cs trail starts made chain decided (suc n) inside reaches =
@@ -108,15 +110,18 @@ back_to_made cs trail starts made chain decided (suc n) inside reaches =
     ])
 
 -- a false clause
-pub chain_conflict : (cs : List (List ℤ)) (trail : List ℤ) (starts : List ℕ) (made c : List ℤ) → IsChain cs trail starts → AreDecided made trail starts → Contains cs c → AreFalse trail c →
+pub chain_conflict : (cs : List (List ℤ)) (trail : List ℤ) (starts : List ℕ) (made c : List ℤ) → IsChain cs trail starts
+    → AreDecided made trail starts → Contains cs c → AreFalse trail c →
     Reaches cs made
 chain_conflict cs trail starts made c chain decided at falses =
     back_to_made cs trail starts made chain decided (length trail) (omega arith)
     (conflict c at
-    (λ k held. both_left (take (length trail) trail) made (neg_ℤ k) (subst (λ xs. holds xs (neg_ℤ k) ≡ true) (sym (take_all (length trail) trail (omega arith))) (falses k held))))
+    (λ k held. both_left (take (length trail) trail) made (neg_ℤ k) (subst (λ xs. holds xs (neg_ℤ k) ≡ true)
+    (sym (take_all (length trail) trail (omega arith))) (falses k held))))
 
 -- a literal whose negation was assumed
-pub chain_clash : (cs : List (List ℤ)) (trail : List ℤ) (starts : List ℕ) (made : List ℤ) (l : ℤ) → IsChain cs trail starts → AreDecided made trail starts → IsConsistent made →
+pub chain_clash : (cs : List (List ℤ)) (trail : List ℤ) (starts : List ℕ) (made : List ℤ) (l : ℤ) → IsChain cs trail starts
+    → AreDecided made trail starts → IsConsistent made →
     holds trail l ≡ true → holds made (neg_ℤ l) ≡ true → Reaches cs made
 chain_clash cs trail starts made l chain decided consistent of_trail assumed =
     let at = place trail l of_trail in
@@ -147,4 +152,5 @@ chain_clash cs trail starts made l chain decided consistent of_trail assumed =
 pub over-nonzero : (v : ℕ) (cs : List (List ℤ)) → All (IsClauseOver v) cs → occurs cs (pos 0) ≡ false
 over-nonzero v [] all = refl
 over-nonzero v (c ∷ cs) all =
-    or_from (holds c (pos 0)) (occurs cs (pos 0)) (clause-nonzero c (All-head (IsClauseOver v) c cs all).clause) (over-nonzero v cs (All-tail (IsClauseOver v) c cs all))
+    or_from (holds c (pos 0)) (occurs cs (pos 0)) (clause-nonzero c (All-head (IsClauseOver v) c cs all).clause)
+    (over-nonzero v cs (All-tail (IsClauseOver v) c cs all))

@@ -80,8 +80,10 @@ each_added P cs ps c p paired before here at within =
           (subst (λ q. P (clause_in cs at) q at) (sym (pair_before ps p at (omega (arith, inside, paired)))) (before at inside))
     ]
 
-pub listed_added : (v : ℕ) (cs : List (List ℤ)) (ps : List Pair) (ls ms : List (List ℕ)) (c : List ℤ) (p : Pair) → IsClauseOver v c → holds c p.first ≡ true → holds c p.second ≡ true →
-    Lengthens ls ms → IsListedFrom (list_in ms p.first) 0 (length cs) → IsListedFrom (list_in ms p.second) 0 (length cs) → IsListed v cs ps ls → IsListed v (cs ++ c ∷ []) (ps ++ p ∷ []) ms
+pub listed_added : (v : ℕ) (cs : List (List ℤ)) (ps : List Pair) (ls ms : List (List ℕ)) (c : List ℤ) (p : Pair) → IsClauseOver v c
+    → holds c p.first ≡ true → holds c p.second ≡ true →
+    Lengthens ls ms → IsListedFrom (list_in ms p.first) 0 (length cs) → IsListedFrom (list_in ms p.second) 0 (length cs) → IsListed v cs ps ls
+    → IsListed v (cs ++ c ∷ []) (ps ++ p ∷ []) ms
 listed_added v cs ps ls ms c p over first second more in_first in_second h =
     let before = listed_lengthened v cs ps ls ms more h in
     record {
@@ -119,7 +121,8 @@ kept_elsewhere ls l w at from entry within in_list before other h =
       | inl same ↦
           let is_l = code-injective w l same in
           subst (λ list. IsListedFrom list from entry)
-          (sym (ap (λ i. get_or (set ls (code l) (swap_remove (list_in ls l) at 0)) i []) same ∙ get_or-set_same ls (code l) (swap_remove (list_in ls l) at 0) [] within))
+          (sym (ap (λ i. get_or (set ls (code l) (swap_remove (list_in ls l) at 0)) i []) same
+          ∙ get_or-set_same ls (code l) (swap_remove (list_in ls l) at 0) [] within))
           (listed_swapped (list_in ls l) at from entry in_list before (other is_l) (subst (λ k. IsListedFrom (list_in ls k) from entry) is_l h))
       | inr apart ↦
           subst (λ list. IsListedFrom list from entry) (sym (get_or-set_other ls (code l) (code w) (swap_remove (list_in ls l) at 0) [] apart)) h
@@ -170,7 +173,8 @@ each_set P cs ps j p paired inside before here at within =
           subst (λ q. P (clause_in cs at) q at) (sym (get_or-set_other ps j at p no_pair other)) (before at within other)
     ]
 
-pub listed_exchanged : (v : ℕ) (cs : List (List ℤ)) (ps : List Pair) (ls : List (List ℕ)) (l : ℤ) (at j : ℕ) (p : Pair) → unsigned_abs l ≤ v → unsigned_abs p.second ≤ v →
+pub listed_exchanged : (v : ℕ) (cs : List (List ℤ)) (ps : List Pair) (ls : List (List ℕ)) (l : ℤ) (at j : ℕ) (p : Pair) → unsigned_abs l ≤ v
+    → unsigned_abs p.second ≤ v →
     at < length (list_in ls l) → get_or (list_in ls l) at 0 ≡ j → j < length cs → IsOneOf (pair_in ps j) p.first → holds (clause_in cs j) p.second ≡ true →
     p.first ≢ l → p.second ≢ l → IsListed v cs ps ls →
     let more = set ls (code p.second) (list_in ls p.second ++ j ∷ []) in
@@ -201,7 +205,8 @@ listed_exchanged v cs ps ls l at j p over_l over_second in_list entry inside kep
         held_second = each_set (λ d q n. holds d q.second ≡ true) cs ps j p h.paired inside (λ n n_in other. h.held_second n n_in) held;
         listed_first =
             each_set (λ d q n. IsListedFrom (list_in (set more (code l) (swap_remove (list_in more l) at 0)) q.first) 0 n) cs ps j p h.paired inside
-            (λ n n_in other. kept_elsewhere more l (pair_in ps n).first at 0 n l_in in_more (omega arith) (λ is_l e. other (e ∙ entry_more)) (before.listed_first n n_in))
+            (λ n n_in other. kept_elsewhere more l (pair_in ps n).first at 0 n l_in in_more (omega arith) (λ is_l e. other (e ∙ entry_more))
+            (before.listed_first n n_in))
             (kept_elsewhere more l p.first at 0 j l_in in_more (omega arith) (λ is_l. absurd (first is_l))
             (elim kept [
               | inl e ↦ subst (λ k. IsListedFrom (list_in more k) 0 j) e (before.listed_first j inside)
@@ -209,7 +214,8 @@ listed_exchanged v cs ps ls l at j p over_l over_second in_list entry inside kep
             ]));
         listed_second =
             each_set (λ d q n. IsListedFrom (list_in (set more (code l) (swap_remove (list_in more l) at 0)) q.second) 0 n) cs ps j p h.paired inside
-            (λ n n_in other. kept_elsewhere more l (pair_in ps n).second at 0 n l_in in_more (omega arith) (λ is_l e. other (e ∙ entry_more)) (before.listed_second n n_in))
+            (λ n n_in other. kept_elsewhere more l (pair_in ps n).second at 0 n l_in in_more (omega arith) (λ is_l e. other (e ∙ entry_more))
+            (before.listed_second n n_in))
             (kept_elsewhere more l p.second at 0 j l_in in_more (omega arith) (λ is_l. absurd (second is_l)) (listed_inserted ls (code p.second) j second_in));
       },
       record {
@@ -232,28 +238,34 @@ pair_read ps at p within e = get_or_default ps at no_pair p within ∙ sym e
 
 -- ---- what the calls leave
 
-pub listed_same : (v : ℕ) (cs ds : List (List ℤ)) (ps qs : List Pair) (ls ms : List (List ℕ)) → ds ≡ cs → qs ≡ ps → ms ≡ ls → IsListed v cs ps ls → IsListed v ds qs ms
+pub listed_same : (v : ℕ) (cs ds : List (List ℤ)) (ps qs : List Pair) (ls ms : List (List ℕ)) → ds ≡ cs → qs ≡ ps → ms ≡ ls → IsListed v cs ps ls
+    → IsListed v ds qs ms
 listed_same v cs ds ps qs ls ms clauses pairs lists h =
     subst (λ xs. IsListed v xs qs ms) (sym clauses) (subst (λ xs. IsListed v cs xs ms) (sym pairs) (subst (λ xs. IsListed v cs ps xs) (sym lists) h))
 
-pub lengthens_inserted : (v : ℕ) (ls more : List (List ℕ)) (k : ℤ) (n : ℕ) → length ls ≡ 2 * v + 2 → unsigned_abs k ≤ v → more ≡ set ls (code k) (list_in ls k ++ n ∷ []) →
+pub lengthens_inserted : (v : ℕ) (ls more : List (List ℕ)) (k : ℤ) (n : ℕ) → length ls ≡ 2 * v + 2 → unsigned_abs k ≤ v
+    → more ≡ set ls (code k) (list_in ls k ++ n ∷ []) →
     Lengthens ls more × IsListedFrom (list_in more k) 0 n
 lengthens_inserted v ls more k n places over e =
     let k_in : code k < length ls = omega (arith, places, code_within v k over) in
     subst (λ xs. Lengthens ls xs × IsListedFrom (list_in xs k) 0 n) (sym e) (lengthens_set ls (code k) n k_in, listed_inserted ls (code k) n k_in)
 
-pub exchanged_requires : (v : ℕ) (cs : List (List ℤ)) (ps : List Pair) (ls : List (List ℕ)) (j : ℕ) (p : Pair) → j < length cs → holds (clause_in cs j) p.second ≡ true →
+pub exchanged_requires : (v : ℕ) (cs : List (List ℤ)) (ps : List Pair) (ls : List (List ℕ)) (j : ℕ) (p : Pair) → j < length cs
+    → holds (clause_in cs j) p.second ≡ true →
     IsListed v cs ps ls → code p.second < length ls
 exchanged_requires v cs ps ls j p inside held h =
     let over = held_in_over v cs j p.second inside h.over held in
     omega (arith, h.places, code_within v p.second over.1)
 
 -- the lists after both calls
-pub exchanged : (v : ℕ) (cs : List (List ℤ)) (ps : List Pair) (ls more ms : List (List ℕ)) (l : ℤ) (at j : ℕ) (p : Pair) → more ≡ set ls (code p.second) (list_in ls p.second ++ j ∷ []) →
-    ms ≡ set more (code l) (swap_remove (list_in more l) at 0) → unsigned_abs l ≤ v → at < length (list_in ls l) → get_or (list_in ls l) at 0 ≡ j → j < length cs →
+pub exchanged : (v : ℕ) (cs : List (List ℤ)) (ps : List Pair) (ls more ms : List (List ℕ)) (l : ℤ) (at j : ℕ) (p : Pair)
+    → more ≡ set ls (code p.second) (list_in ls p.second ++ j ∷ []) →
+    ms ≡ set more (code l) (swap_remove (list_in more l) at 0) → unsigned_abs l ≤ v → at < length (list_in ls l) → get_or (list_in ls l) at 0 ≡ j
+    → j < length cs →
     IsOneOf (pair_in ps j) p.first → holds (clause_in cs j) p.second ≡ true → p.first ≢ l → p.second ≢ l → IsListed v cs ps ls →
     IsListed v cs (set ps j p) ms × IsLeftOut ls ms l at j
 exchanged v cs ps ls more ms l at j p more_is ms_is over in_list entry inside kept held first second h =
     let over_second = held_in_over v cs j p.second inside h.over held in
     let both = listed_exchanged v cs ps ls l at j p over over_second.1 in_list entry inside kept held first second h in
-    subst (λ xs. IsListed v cs (set ps j p) xs × IsLeftOut ls xs l at j) (sym (ms_is ∙ ap (λ xs. set xs (code l) (swap_remove (list_in xs l) at 0)) more_is)) (both.1, both.2)
+    subst (λ xs. IsListed v cs (set ps j p) xs × IsLeftOut ls xs l at j)
+    (sym (ms_is ∙ ap (λ xs. set xs (code l) (swap_remove (list_in xs l) at 0)) more_is)) (both.1, both.2)

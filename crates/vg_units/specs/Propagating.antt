@@ -1,4 +1,5 @@
--- What unit propagation does, step by step, where two literals of each clause are watched. Public clauses use only AreFalse, IsForced, Grown and AreWithin of this file.
+-- What unit propagation does, step by step, where two literals of each clause are watched. Public clauses use only AreFalse, IsForced, Grown and
+-- AreWithin of this file.
 use Rattle.std.specs.Prelude.{◌≡◌, ℕ, ◌<◌, ℤ, neg_ℤ, true, false, Option, Some, None, List, [], ◌∷◌, ◌++◌, length, Contains, ◌⊎◌}
 use Rattle.std.specs.Ordering.{int_eq}
 use Rattle.vg_cnf.specs.Clauses.{holds, IsOver}
@@ -22,7 +23,8 @@ pub record IsForced (clauses : List (List ℤ)) (made : List ℤ) (literal : ℤ
 -- literals that clauses force were made true one by one
 pub data Grown (clauses : List (List ℤ)) (old : List ℤ) : List ℤ → Type 0 where
   same : Grown clauses old old
-  more : (made : List ℤ) (literal : ℤ) → Grown clauses old made → IsForced clauses made literal → holds made literal ≡ false → holds made (neg_ℤ literal) ≡ false →
+  more : (made : List ℤ) (literal : ℤ) → Grown clauses old made → IsForced clauses made literal → holds made literal ≡ false
+      → holds made (neg_ℤ literal) ≡ false →
       Grown clauses old (made ++ literal ∷ [])
 
 -- ---- watched literals
@@ -49,7 +51,8 @@ pub record Advances (old new : Watching) (before after : Made) : Type 0 where
   pub variables : new.variables ≡ old.variables
   pub trail_variables : after.variables ≡ before.variables
   pub clauses : new.clauses ≡ old.clauses
-  pub watched : (trues falses : List ℤ) → AreWithin falses before.literals → (at : ℕ) → at < length old.clauses → IsWatchedAt old at trues falses → IsWatchedAt new at trues falses
+  pub watched : (trues falses : List ℤ) → AreWithin falses before.literals → (at : ℕ) → at < length old.clauses → IsWatchedAt old at trues falses
+      → IsWatchedAt new at trues falses
   pub grown : Grown old.clauses before.literals after.literals
 
 -- ---- one clause
@@ -59,7 +62,8 @@ pub record IsOther (w : Watching) (clause : ℕ) (literal other : ℤ) : Type 0 
   pub within : clause < length w.clauses
   pub over : IsOver w.variables other
   pub held : holds (clause_of w clause) other ≡ true
-  pub pair : (((pair_of w clause).first ≡ literal) × ((pair_of w clause).second ≡ other)) ⊎ (((pair_of w clause).second ≡ literal) × ((pair_of w clause).first ≡ other))
+  pub pair : (((pair_of w clause).first ≡ literal) × ((pair_of w clause).second ≡ other)) ⊎
+      (((pair_of w clause).second ≡ literal) × ((pair_of w clause).first ≡ other))
 
 -- a literal of the clause that is not false, but for one
 abbrev pub IsOpenBeside : List ℤ → List ℤ → ℤ → ℤ → Type 0
@@ -76,7 +80,8 @@ Settles old new before made literal clause =
 
 -- the literal was made true, or is false, as the clause is then
 abbrev pub Forces : Made → Made → ℕ → ℤ → Visit → Type 0
-Forces before after clause literal Kept = (holds before.literals (neg_ℤ literal) ≡ false) × (after ≡ record before { literals = before.literals ++ literal ∷ [] })
+Forces before after clause literal Kept = (holds before.literals (neg_ℤ literal) ≡ false) ×
+    (after ≡ record before { literals = before.literals ++ literal ∷ [] })
 Forces before after clause literal Moved = ⊥
 Forces before after clause literal (Conflict at) = (at ≡ clause) × (holds before.literals (neg_ℤ literal) ≡ true) × (after ≡ before)
 

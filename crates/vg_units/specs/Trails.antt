@@ -1,5 +1,6 @@
 -- The literals that are true, in the order in which they were made so. No public clause rests on this file.
-use Rattle.std.specs.Prelude.{◌≡◌, ℕ, ◌+◌, ◌*◌, ◌<◌, ◌≤◌, ◌^◌, ℤ, pos, unsigned_abs, Bool, true, false, List, [], ◌∷◌, ◌++◌, length, take, slice_index_or, All, count_by, ◌⊎◌}
+use Rattle.std.specs.Prelude.{◌≡◌, ℕ, ◌+◌, ◌*◌, ◌<◌, ◌≤◌, ◌^◌, ℤ, pos, unsigned_abs, Bool, true, false, List, [], ◌∷◌, ◌++◌, length, take}
+use Rattle.std.specs.Prelude.{slice_index_or, All, count_by, ◌⊎◌}
 use Rattle.vg_cnf.specs.Clauses.{holds, IsOver}
 use Rattle.vg_units.specs.Codes.{code}
 
@@ -19,4 +20,5 @@ pub record IsMarked (variables : ℕ) (literals : List ℤ) (marks : List Bool) 
 
 -- a literal is true, and was before or is new
 abbrev pub IsMadeTrue : Made → Made → ℤ → Type 0
-IsMadeTrue old new literal = (new ≡ old) × (holds old.literals literal ≡ true) ⊎ (new ≡ record old { literals = old.literals ++ literal ∷ [] }) × (holds old.literals literal ≡ false)
+IsMadeTrue old new literal = (new ≡ old) × (holds old.literals literal ≡ true) ⊎ (new ≡ record old { literals = old.literals ++ literal ∷ [] })
+    × (holds old.literals literal ≡ false)

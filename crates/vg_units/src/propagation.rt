@@ -81,7 +81,8 @@ fn look_at(
     requires is_false { holds trail.old.literals (neg_ℤ literal) ≡ true }
     requires within { at < length (list_of watches.old literal) }
     ensures advances { Advances watches.old watches.new trail.old trail.new }
-    ensures visits { IfOk result (Visits watches.old watches.new trail.old.literals trail.new.literals literal at (slice_index_or (list_of watches.old literal) at 0)) }
+    ensures visits { IfOk result (Visits watches.old watches.new trail.old.literals trail.new.literals literal at
+        (slice_index_or (list_of watches.old literal) at 0)) }
 {
     let clause = watches.entry(literal, at);
     let Some(other) = other_watched(watches, clause, literal) else {

@@ -1,6 +1,7 @@
 // Clauses with a trail of true literals that is propagated and taken back.
 
-ghost use Rattle.std.specs.Prelude.{◌≡◌, ◌<◌, ◌≤◌, ◌+◌, ◌*◌, ◌^◌, ℤ, pos, neg_ℤ, true, false, [], ◌∷◌, ◌++◌, length, take, slice_index_or, unsigned_abs, OnOk, OnErr, IfOk, IsOk, IsSome, MatchBool, MatchOption, All};
+ghost use Rattle.std.specs.Prelude.{◌≡◌, ◌<◌, ◌≤◌, ◌+◌, ◌*◌, ◌^◌, ℤ, pos, neg_ℤ, true, false, [], ◌∷◌, ◌++◌, length, take, slice_index_or};
+ghost use Rattle.std.specs.Prelude.{unsigned_abs, OnOk, OnErr, IfOk, IsOk, IsSome, MatchBool, MatchOption, All};
 ghost use Rattle.vg_cnf.specs.Clauses.{holds, IsOver, IsClauseOver};
 ghost use Rattle.vg_cnf.specs.Orders.{Reaches, Settled};
 ghost use Rattle.vg_cnf.specs.Propagation.{follows as list_follows, propagated};
@@ -34,7 +35,14 @@ impl Model for Propagator {
 
     ghost Value = { Search };
 
-    ghost view = { λ a. record { variables = a.watches.variables; clauses = a.watches.clauses; trail = a.trail.literals; starts = a.starts.items; head = a.head } };
+    ghost view = { λ a. record {
+      variables = a.watches.variables;
+      clauses = a.watches.clauses;
+      trail = a.trail.literals;
+      starts =
+          a.starts.items;
+      head = a.head;
+    } };
 
     ghost invariant = { λ a. IsKept a.watches a.trail a.starts.items a.head };
 }
@@ -161,7 +169,12 @@ impl Propagator {
     /// Takes back all decisions but the first ones, and what was made true with them.
     pub fn back_to(&mut self, level: usize)
         requires { level < length self.old.starts }
-        ensures taken_back { self.new ≡ record self.old { trail = take (start_in self.old.starts level) self.old.trail; starts = take level self.old.starts; head = start_in self.old.starts level } }
+        ensures taken_back { self.new ≡ record self.old {
+          trail = take (start_in self.old.starts level) self.old.trail;
+          starts =
+              take level self.old.starts;
+          head = start_in self.old.starts level;
+        } }
         ensures sound { IsSound self.new }
         ensures propagated { self.new.head ≡ length self.new.trail }
     {
@@ -195,7 +208,12 @@ impl Propagator {
     /// Takes back all decisions but the first ones, if there are more.
     pub fn return_to(&mut self, level: usize)
         ensures returned { IsReturned level self.old self.new }
-        ensures taken_back { level < length self.old.starts → self.new ≡ record self.old { trail = take (start_in self.old.starts level) self.old.trail; starts = take level self.old.starts; head = start_in self.old.starts level } }
+        ensures taken_back { level < length self.old.starts → self.new ≡ record self.old {
+          trail =
+              take (start_in self.old.starts level) self.old.trail;
+          starts = take level self.old.starts;
+          head = start_in self.old.starts level;
+        } }
         ensures unchanged { length self.old.starts ≤ level → self.new ≡ self.old }
     {
         if self.level() > level {
@@ -261,7 +279,8 @@ impl Propagator {
         requires over { IsClauseOver self.old.variables clause.now }
         ensures variables { self.new.variables ≡ self.old.variables }
         ensures open { IfOk result (λ open_end. open_end ≡ true → IsSome (propagated self.new.clauses)) }
-        ensures added { IfOk result (λ open_end. MatchBool open_end (IsAtRest self.new × (self.new.clauses ≡ self.old.clauses ++ clause.now ∷ [])) (Reaches (self.old.clauses ++ clause.now ∷ []) [])) }
+        ensures added { IfOk result (λ open_end. MatchBool open_end (IsAtRest self.new × (self.new.clauses ≡ self.old.clauses ++ clause.now ∷ []))
+            (Reaches (self.old.clauses ++ clause.now ∷ []) [])) }
     {
         self.facts();
         let Some(first) = open_literal(clause, &self.trail) else {

@@ -1,6 +1,7 @@
 // The literals that are true, in the order in which they were made so.
 
-ghost use Rattle.std.specs.Prelude.{◌≡◌, ◌<◌, ◌≤◌, ◌+◌, ◌-◌, ◌*◌, ◌^◌, ℤ, pos, neg_ℤ, false, [], ◌∷◌, ◌++◌, length, take, OnOk, OnErr, IfOk, slice_index_or, unsigned_abs};
+ghost use Rattle.std.specs.Prelude.{◌≡◌, ◌<◌, ◌≤◌, ◌+◌, ◌-◌, ◌*◌, ◌^◌, ℤ, pos, neg_ℤ, false, [], ◌∷◌, ◌++◌, length, take, OnOk, OnErr, IfOk};
+ghost use Rattle.std.specs.Prelude.{slice_index_or, unsigned_abs};
 ghost use Rattle.vg_cnf.specs.Clauses.{holds, IsOver};
 
 use crate::codes::code_of;

@@ -1,6 +1,7 @@
 // Clauses, and of each the two literals that are watched: it is looked at only when one of them becomes false.
 
-ghost use Rattle.std.specs.Prelude.{◌≡◌, ◌≢◌, ◌<◌, ◌≤◌, ◌+◌, ◌^◌, ℕ, ℤ, false, true, List, [], ◌∷◌, ◌++◌, length, OnOk, OnErr, IfOk, slice_index_or, slice_set, unsigned_abs, All};
+ghost use Rattle.std.specs.Prelude.{◌≡◌, ◌≢◌, ◌<◌, ◌≤◌, ◌+◌, ◌^◌, ℕ, ℤ, false, true, List, [], ◌∷◌, ◌++◌, length, OnOk, OnErr, IfOk, slice_index_or};
+ghost use Rattle.std.specs.Prelude.{slice_set, unsigned_abs, All};
 ghost use Rattle.vg_cnf.specs.Clauses.{holds, IsOver, IsClauseOver};
 ghost use Rattle.vg_units.specs.Lists.{IsListedFrom};
 ghost use Rattle.vg_units.specs.Watching.{list_of, pair_of, clause_of, IsOneOf, IsMoved, IsLeftOut, IsAdded, IsSame, IsUnwatched};
@@ -85,7 +86,8 @@ impl Watches {
     pub fn count(&self, literal: Lit) -> usize
         requires { unsigned_abs literal ≤ self.now.variables }
         ensures count { result ≡ length (list_of self.now literal) }
-        ensures listed { (clause : ℕ) → clause < length self.now.clauses → IsOneOf (pair_of self.now clause) literal → IsListedFrom (list_of self.now literal) 0 clause }
+        ensures listed { (clause : ℕ) → clause < length self.now.clauses → IsOneOf (pair_of self.now clause) literal
+            → IsListedFrom (list_of self.now literal) 0 clause }
     {
         self.lists.count(literal)
     }

@@ -1,7 +1,9 @@
 -- Cells in a block: what stands at one, and what a write to one leaves.
 use Rattle.std.specs.Prelude.{◌==◌, if◌then◌else◌}
-use Rattle.std.proofs.Common.{Bool, inl, inr, ℕ, zero, suc, ◌+◌, ◌-◌, ◌*◌, ◌<◌, ◌≤◌, List, ◌++◌, Some, length, take, drop, set, replicate, slice_get, sym, refl, ap, ◌∙◌, ◌≡◌, arith}
-use Rattle.std.proofs.lemmas.List.{take_at, drop_at, take-take, drop-drop, take-replicate, drop-replicate, length-drop, length-take-le, take_all, drop-take, take-append-le, drop-append-le, length-append, take-append-drop, nil_from_length}
+use Rattle.std.proofs.Common.{Bool, inl, inr, ℕ, zero, suc, ◌+◌, ◌-◌, ◌*◌, ◌<◌, ◌≤◌, List, ◌++◌, Some, length, take, drop, set, replicate, slice_get}
+use Rattle.std.proofs.Common.{sym, refl, ap, ◌∙◌, ◌≡◌, arith}
+use Rattle.std.proofs.lemmas.List.{take_at, drop_at, take-take, drop-drop, take-replicate, drop-replicate, length-drop, length-take-le, take_all}
+use Rattle.std.proofs.lemmas.List.{drop-take, take-append-le, drop-append-le, length-append, take-append-drop, nil_from_length}
 use Rattle.std.proofs.Math.Nat.{suc-mul}
 use Rattle.std.proofs.lemmas.Bool.{cases_eq, eq-eqb, ne_eqb}
 use Rattle.std.specs.List.{concat}
@@ -40,25 +42,30 @@ cells_of-zeros (suc n) size =
     let total : suc n * size ≡ n * size + size = suc-mul n size in
     let left : suc n * size - size ≡ n * size = omega arith in
     let front : take size (replicate {A = ℕ} (suc n * size) 0) ≡ replicate {A = ℕ} size 0 = take-replicate size (suc n * size) 0 (omega arith) in
-    let rest : drop size (replicate {A = ℕ} (suc n * size) 0) ≡ replicate {A = ℕ} (n * size) 0 = drop-replicate size (suc n * size) 0 ∙ ap (λ (k : ℕ). replicate {A = ℕ} k 0) left in
+    let rest : drop size (replicate {A = ℕ} (suc n * size) 0) ≡ replicate {A = ℕ} (n * size) 0 = drop-replicate size (suc n * size) 0
+    ∙ ap (λ (k : ℕ). replicate {A = ℕ} k 0) left in
     rw (front, rest, cells_of-zeros n size) refl
 
 -- what a write of as many bytes to a cell leaves
-pub cells_of-put : (i n size start : ℕ) (block bytes : List ℕ) → start ≡ i * size → i < n → length bytes ≡ size → n * size ≤ length block → cells_of n size (take start block ++ (bytes ++ drop (length bytes) (drop start block))) ≡ set (cells_of n size block) i bytes
+pub cells_of-put : (i n size start : ℕ) (block bytes : List ℕ) → start ≡ i * size → i < n → length bytes ≡ size → n * size ≤ length block
+    → cells_of n size (take start block ++ (bytes ++ drop (length bytes) (drop start block))) ≡ set (cells_of n size block) i bytes
 cells_of-put zero zero size start block bytes e h l b = absurd (omega arith)
 cells_of-put (suc i) zero size start block bytes e h l b = absurd (omega arith)
 cells_of-put zero (suc n) size start block bytes e h l b =
     let first : start ≡ 0 = omega arith in
     let front : take size (bytes ++ drop (length bytes) block) ≡ bytes = take_at bytes (drop (length bytes) block) size l in
-    let rest : drop size (bytes ++ drop (length bytes) block) ≡ drop size block = drop_at bytes (drop (length bytes) block) size l ∙ ap (λ (k : ℕ). drop k block) l in
+    let rest : drop size (bytes ++ drop (length bytes) block) ≡ drop size block = drop_at bytes (drop (length bytes) block) size l
+    ∙ ap (λ (k : ℕ). drop k block) l in
     rw first (rw (front, rest) refl)
 cells_of-put (suc i) (suc n) size start block bytes e h l b =
     let one_more : start ≡ size + i * size = omega (arith, suc-mul i size) in
     let fits : size + i * size ≤ length block = omega (arith, cell_end i n size (omega arith), suc-mul n size) in
     let front_len : length (take (size + i * size) block) ≡ size + i * size = length-take-le (size + i * size) block fits in
     let tail : List ℕ = bytes ++ drop (length bytes) (drop (size + i * size) block) in
-    let front : take size (take (size + i * size) block ++ tail) ≡ take size block = take-append-le size (take (size + i * size) block) tail (omega arith) ∙ take-take size (size + i * size) block (omega arith) in
-    let rest : drop size (take (size + i * size) block ++ tail) ≡ take (i * size) (drop size block) ++ (bytes ++ drop (length bytes) (drop (i * size) (drop size block)))
+    let front : take size (take (size + i * size) block ++ tail) ≡ take size block = take-append-le size (take (size + i * size) block) tail
+    (omega arith) ∙ take-take size (size + i * size) block (omega arith) in
+    let rest : drop size (take (size + i * size) block ++ tail) ≡ take (i * size) (drop size block)
+    ++ (bytes ++ drop (length bytes) (drop (i * size) (drop size block)))
     = drop-append-le size (take (size + i * size) block) tail (omega arith)
     ∙ ap (λ (xs : List ℕ). xs ++ tail) (drop-take size (i * size) block)
     ∙ ap (λ (xs : List ℕ). take (i * size) (drop size block) ++ (bytes ++ drop (length bytes) xs)) (sym (drop-drop (i * size) size block)) in
@@ -66,12 +73,20 @@ cells_of-put (suc i) (suc n) size start block bytes e h l b =
     rw one_more (rw (front, rest, cells_of-put i n size (i * size) (drop size block) bytes refl (omega arith) l below) refl)
 
 -- the same in a block that is cut where it ended
-pub cells_of-write : (i n size total : ℕ) (block bytes : List ℕ) → i < n → length bytes ≡ size → n * size ≡ length block → length block ≡ total → cells_of n size (take total (take (i * size) block ++ (bytes ++ drop (length bytes) (drop (i * size) block)))) ≡ set (cells_of n size block) i bytes
+pub cells_of-write : (i n size total : ℕ) (block bytes : List ℕ) → i < n → length bytes ≡ size → n * size ≡ length block → length block ≡ total
+    → cells_of n size (take total (take (i * size) block ++ (bytes ++ drop (length bytes) (drop (i * size) block)))) ≡ set (cells_of n size block) i
+    bytes
 cells_of-write i n size total block bytes h l b t =
     let fits : i * size + size ≤ length block = omega (arith, cell_end i n size h) in
     let front : length (take (i * size) block) ≡ i * size = length-take-le (i * size) block (omega arith) in
     let whole : length (take (i * size) block ++ (bytes ++ drop (length bytes) (drop (i * size) block))) ≤ total =
-    omega (arith, length-append (take (i * size) block) (bytes ++ drop (length bytes) (drop (i * size) block)), length-append bytes (drop (length bytes) (drop (i * size) block)), length-drop (length bytes) (drop (i * size) block), length-drop (i * size) block) in
+    omega (
+      arith,
+      length-append (take (i * size) block) (bytes ++ drop (length bytes) (drop (i * size) block)),
+      length-append bytes (drop (length bytes) (drop (i * size) block)),
+      length-drop (length bytes) (drop (i * size) block),
+      length-drop (i * size) block,
+    ) in
     ap (cells_of n size) (take_all total (take (i * size) block ++ (bytes ++ drop (length bytes) (drop (i * size) block))) whole)
     ∙ cells_of-put i n size (i * size) block bytes refl h l (omega arith)
 
@@ -99,15 +114,25 @@ over start block bytes = take start block ++ (bytes ++ drop (length bytes) (drop
 -- a block written over is no shorter
 over_covers : (start : ℕ) (block bytes : List ℕ) → start ≤ length block → length block ≤ length (over start block bytes)
 over_covers start block bytes h =
-    omega (arith, length-append (take start block) (bytes ++ drop (length bytes) (drop start block)), length-append bytes (drop (length bytes) (drop start block)), length-take-le start block h, length-drop (length bytes) (drop start block), length-drop start block)
+    omega (
+      arith,
+      length-append (take start block) (bytes ++ drop (length bytes) (drop start block)),
+      length-append bytes (drop (length bytes) (drop start block)),
+      length-take-le start block h,
+      length-drop (length bytes) (drop start block),
+      length-drop start block,
+    )
 
 -- what any write at a cell leaves in a Vec
-pub cells_of-lent : (i n size total : ℕ) (block bytes : List ℕ) (lent : List Bool) (all : CellList) → told size lent (cells_of n size block) ≡ all → i < n → length block ≡ n * size → length block ≡ total
-    → told size lent (cells_of n size (take total (over (i * size) block bytes ++ drop (length (over (i * size) block bytes)) block))) ≡ (if length bytes == all.size then with_cell all i bytes else with_spill all i bytes)
+pub cells_of-lent : (i n size total : ℕ) (block bytes : List ℕ) (lent : List Bool) (all : CellList) → told size lent (cells_of n size block) ≡ all
+    → i < n → length block ≡ n * size → length block ≡ total
+    → told size lent (cells_of n size (take total (over (i * size) block bytes ++ drop (length (over (i * size) block bytes)) block))) ≡
+    (if length bytes == all.size then with_cell all i bytes else with_spill all i bytes)
 cells_of-lent i n size total block bytes lent all e h b t =
     let within : i * size ≤ length block = omega (arith, cell_end i n size h) in
     let cut : take total (over (i * size) block bytes ++ drop (length (over (i * size) block bytes)) block) ≡ take total (over (i * size) block bytes) =
-    take-append-le total (over (i * size) block bytes) (drop (length (over (i * size) block bytes)) block) (omega (arith, over_covers (i * size) block bytes within)) in
+    take-append-le total (over (i * size) block bytes) (drop (length (over (i * size) block bytes)) block)
+    (omega (arith, over_covers (i * size) block bytes within)) in
     rw (cut, ← e) (
     elim (cases_eq (length bytes) size) [
       | inl l ↦ rw (eq-eqb (length bytes) size l) (ap (told size lent) (cells_of-write i n size total block bytes h l (sym b) t))

@@ -9,7 +9,10 @@ use Rattle.vg_vector.specs.contracts.cells.Cells.{the_row}
 abbrev pub with_spill : CellList → ℕ → List ℕ → CellList
 with_spill all i bytes =
     let block = concat all.cells in
-    record all { cells = cells_of (length all.cells) all.size (take (length all.cells * all.size) (take (i * all.size) block ++ (bytes ++ drop (length bytes) (drop (i * all.size) block)))) }
+    record all {
+      cells = cells_of (length all.cells) all.size (take (length all.cells * all.size)
+          (take (i * all.size) block ++ (bytes ++ drop (length bytes) (drop (i * all.size) block))));
+    }
 
 -- the cells end with cell i holding the bytes last written through r, and nothing else has changed. (A slice keeps its length, so nothing spills.)
 abbrev pub LendsCell : MutBor CellList → ℕ → MutBor (List ℕ) → Fml

@@ -9,7 +9,13 @@ returns-then-n-eq0 g c =
     let read = c.in-Ok.ensures in
     let got = c.loop-chunk.got in
     record {
-      cause = record { fault = λ is. cc; same = read.faults.same ∙ before.read_faults; same_else = tt; rises = omega (arith, read.faults.same, before.read_faults) };
+      cause = record {
+        fault = λ is. cc;
+        same = read.faults.same ∙ before.read_faults;
+        same_else = tt;
+        rises =
+            omega (arith, read.faults.same, before.read_faults);
+      };
       keeps = ReadKeeps-trans before.keeps (ReadsNext-keeps read);
       shut_faults = read.shut_faults ∙ before.shut_faults;
       reads = read.reads;

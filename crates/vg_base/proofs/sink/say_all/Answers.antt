@@ -21,6 +21,7 @@ returns g c =
     record {
       faults = record { failed = tt; same = before.faults; rises = omega (arith, before.faults) };
       tells_made = before.tells_made;
-      whole = λ told. before.made told ∙ ap (λ (l : List _). (g.O.Sink.flow c.args.out.now).made ++ l) (take_all c.loop-done.done c.args.piece.now c.loop-done-test.false);
+      whole = λ told. before.made told ∙ ap (λ (l : List _). (g.O.Sink.flow c.args.out.now).made ++ l)
+          (take_all c.loop-done.done c.args.piece.now c.loop-done-test.false);
       prefix = tt;
     }

@@ -15,9 +15,13 @@ loop-k-preserved c =
     let k = c.loop-k.k in
     let name : BitName = c.index-names-k.result in
     let first : get_or names k name ≡ name = sym c.index-names-k.is in
-    let second : get_or names k c.index-names-k-in-loop-k.result ≡ name = get_or_default names k c.index-names-k-in-loop-k.result name c.loop-k-test.true ∙ first in
-    let third : get_or names k c.index-names-k-in-loop-k-2.result ≡ name = get_or_default names k c.index-names-k-in-loop-k-2.result name c.loop-k-test.true ∙ first in
-    filled_more c.args.values.now c.args.terms.now c.loop-k.words.items c.set_bit.new.words.items names (length c.args.values.now) k name c.makes_literal_true.result c.requires.names c.loop-k-test.true
+    let second : get_or names k c.index-names-k-in-loop-k.result ≡ name = get_or_default names k c.index-names-k-in-loop-k.result name
+    c.loop-k-test.true ∙ first in
+    let third : get_or names k c.index-names-k-in-loop-k-2.result ≡ name = get_or_default names k c.index-names-k-in-loop-k-2.result name
+    c.loop-k-test.true ∙ first in
+    filled_more c.args.values.now c.args.terms.now c.loop-k.words.items c.set_bit.new.words.items names (length c.args.values.now) k name
+    c.makes_literal_true.result c.requires.names c.loop-k-test.true
     c.index-names-k.is (c.makes_literal_true.ensures ∙ ap (λ (b : BitName). truth c.args.values.now b.2) third) c.loop-k.invariant
     (subst (λ (b : BitName). SetsBit c.args.terms.now c.loop-k.words.items c.set_bit.new.words.items b.0 name.1 c.makes_literal_true.result) first
-    (subst (λ (b : BitName). SetsBit c.args.terms.now c.loop-k.words.items c.set_bit.new.words.items (get_or names k name).0 b.1 c.makes_literal_true.result) second c.set_bit.ensures))
+    (subst (λ (b : BitName). SetsBit c.args.terms.now c.loop-k.words.items c.set_bit.new.words.items (get_or names k name).0 b.1
+    c.makes_literal_true.result) second c.set_bit.ensures))

@@ -13,5 +13,6 @@ pub loop-done-preserved : goal.loop-done-preserved
 loop-done-preserved c =
     let id : TermId = record { 0 = c.len-count.result - 1 - c.loop-done.done } in
     subst (λ n. AreMarks c.args.follow c.args.terms.now c.args.from.now n c.mark_next.new.marks.items) (omega (arith, c.loop-done-test.true))
-    (marks_more c.len-count.ensures.made c.args.follow c.args.from.now id (c.len-count.result - c.loop-done.done) c.loop-done.marks.items c.mark_next.new.marks.items
+    (marks_more c.len-count.ensures.made c.args.follow c.args.from.now id (c.len-count.result - c.loop-done.done) c.loop-done.marks.items
+    c.mark_next.new.marks.items
     (omega (arith, c.loop-done-test.true)) (omega (arith, c.loop-done-test.true, c.len-count.ensures.len)) c.loop-done.invariant c.mark_next.ensures.marks)

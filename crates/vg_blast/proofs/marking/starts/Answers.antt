@@ -8,7 +8,8 @@ use Rattle.vg_blast.proofs.marking.starts.Goals as goal
 pub loop-id-preserved : goal.loop-id-preserved
 loop-id-preserved c =
     let id : TermId = get_or c.args.from.now c.loop-id.id-index (record { 0 = 0 }) in
-    marked_next c.loop-id.marks.items c.args.from.now c.loop-id.id-index id c.loop-id-test.true (get_or_default c.args.from.now c.loop-id.id-index (record { 0 = 0 }) id c.loop-id-test.true)
+    marked_next c.loop-id.marks.items c.args.from.now c.loop-id.id-index id c.loop-id-test.true
+    (get_or_default c.args.from.now c.loop-id.id-index (record { 0 = 0 }) id c.loop-id-test.true)
     (replicate (length c.args.terms.now) false) c.loop-id.invariant
 
 pub returns : goal.returns

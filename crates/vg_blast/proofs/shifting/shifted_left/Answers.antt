@@ -8,20 +8,24 @@ loop-step-init c = left_none c.args.gates.now c.args.a.now c.args.by.now c.in_ok
 
 pub step_left-requires-clause-within : goal.step_left-requires-clause-within
 step_left-requires-clause-within c =
-    let within : 2 ^ c.loop-step.step ≤ length c.args.a.now = power_within (length c.args.a.now) c.steps-steps.result c.loop-step.step c.steps-steps.ensures c.loop-step-test.true in
+    let within : 2 ^ c.loop-step.step ≤ length c.args.a.now = power_within (length c.args.a.now) c.steps-steps.result c.loop-step.step
+    c.steps-steps.ensures c.loop-step-test.true in
     omega (arith, within, c.power.ensures, c.deref.ensures.len, c.deref.ensures.value, ap length c.deref.ensures.value, c.loop-step.invariant.width)
 
 pub loop-step-preserved : goal.loop-step-preserved
 loop-step-preserved c =
     let lt : c.loop-step.step < length c.args.by.now = omega (arith, c.loop-step-test.true, c.steps-steps.ensures.within, c.requires.same) in
-    left_more c.args.gates.now c.loop-step.gates c.step_left.new.gates c.args.a.now c.args.by.now c.deref.result.now c.in_ok-moved-2.moved.items c.index-by-step.result c.loop-step.step (length c.args.a.now) c.power.result
+    left_more c.args.gates.now c.loop-step.gates c.step_left.new.gates c.args.a.now c.args.by.now c.deref.result.now c.in_ok-moved-2.moved.items
+    c.index-by-step.result c.loop-step.step (length c.args.a.now) c.power.result
     c.power.ensures lt c.index-by-step.is
-    (subst (λ ls. MakesWord c.args.gates.now c.loop-step.gates (36 * length c.args.a.now * c.loop-step.step) ls (length c.args.a.now) (λ v. (number v c.args.a.now * 2 ^ number v (take c.loop-step.step c.args.by.now)) % 2 ^ length c.args.a.now))
+    (subst (λ ls. MakesWord c.args.gates.now c.loop-step.gates (36 * length c.args.a.now * c.loop-step.step) ls (length c.args.a.now)
+    (λ v. (number v c.args.a.now * 2 ^ number v (take c.loop-step.step c.args.by.now)) % 2 ^ length c.args.a.now))
     (sym c.deref.ensures.value) c.loop-step.invariant)
     c.in_ok-moved-2.ensures
 
 pub returns : goal.returns
 returns c =
-    left_result c.args.gates.now c.loop-step.gates c.unless_past.new.gates c.args.a.now c.args.by.now c.loop-step.moved.items c.deref-2.result.now c.split_at.result.1.now c.falsity-falsity.result c.loop-step.step c.steps-steps.result c.unless_past.result
+    left_result c.args.gates.now c.loop-step.gates c.unless_past.new.gates c.args.a.now c.args.by.now c.loop-step.moved.items c.deref-2.result.now
+    c.split_at.result.1.now c.falsity-falsity.result c.loop-step.step c.steps-steps.result c.unless_past.result
     c.falsity-falsity.ensures.stood c.falsity-falsity.ensures.literal c.steps-steps.ensures c.requires.same c.loop-step-test.false c.loop-step.auto.step-end
     c.loop-step.invariant c.deref-2.ensures.value c.split_at.ensures.back c.unless_past.ensures

@@ -8,24 +8,29 @@ use Rattle.vg_cfront.proofs.front.read_c.Goals as goal
 
 pub returns-in_err-toks-clause-only_unit : goal.returns-in_err-toks-clause-only_unit
 returns-in_err-toks-clause-only_unit c =
-    tokens_only c.args.text.now c.from_residual.result c.in_err-toks.field-0.0 (err_is c.from_residual.result (of_tokens c.in_err-toks.field-0.0) c.from_residual.ensures) c.in_err-toks.ensures.only_tokens
+    tokens_only c.args.text.now c.from_residual.result c.in_err-toks.field-0.0 (err_is c.from_residual.result (of_tokens c.in_err-toks.field-0.0)
+    c.from_residual.ensures) c.in_err-toks.ensures.only_tokens
 
 pub returns-in_err-tree-clause-only_unit : goal.returns-in_err-tree-clause-only_unit
 returns-in_err-tree-clause-only_unit c =
-    tree_only c.args.text.now c.deref.result.now (λ ts are. c.deref.ensures.value ∙ c.in_ok-toks.ensures.only_tokens ts are) c.from_residual-in_err-tree.result c.in_err-tree.field-0.0
+    tree_only c.args.text.now c.deref.result.now (λ ts are. c.deref.ensures.value ∙ c.in_ok-toks.ensures.only_tokens ts are)
+    c.from_residual-in_err-tree.result c.in_err-tree.field-0.0
     (err_is c.from_residual-in_err-tree.result (of_tree c.in_err-tree.field-0.0) c.from_residual-in_err-tree.ensures) c.in_err-tree.ensures.only_tree
 
 pub returns-in_err-type_unit-clause-fault : goal.returns-in_err-type_unit-clause-fault
 returns-in_err-type_unit-clause-fault c =
     types_fault c.args.text.now c.in_ok-toks.toks.items c.in_ok-tree.tree c.from_residual-in_err-type_unit.result c.in_err-type_unit.field-0.0
-    (err_is c.from_residual-in_err-type_unit.result (of_types c.in_err-type_unit.field-0.0) c.from_residual-in_err-type_unit.ensures) c.in_ok-toks.ensures.tokens
+    (err_is c.from_residual-in_err-type_unit.result (of_types c.in_err-type_unit.field-0.0) c.from_residual-in_err-type_unit.ensures)
+    c.in_ok-toks.ensures.tokens
     (subst (λ (ts : List Token). Spells 64 ts c.in_ok-tree.tree) c.deref.ensures.value c.in_ok-tree.ensures.tree) c.in_err-type_unit.ensures.fault
 
 pub returns-in_err-type_unit-clause-only_unit : goal.returns-in_err-type_unit-clause-only_unit
 returns-in_err-type_unit-clause-only_unit c =
-    type_only c.args.text.now c.deref.result.now (λ ts are. c.deref.ensures.value ∙ c.in_ok-toks.ensures.only_tokens ts are) c.in_ok-tree.tree c.in_ok-tree.ensures.only_tree
+    type_only c.args.text.now c.deref.result.now (λ ts are. c.deref.ensures.value ∙ c.in_ok-toks.ensures.only_tokens ts are) c.in_ok-tree.tree
+    c.in_ok-tree.ensures.only_tree
     c.from_residual-in_err-type_unit.result c.in_err-type_unit.field-0.0
-    (err_is c.from_residual-in_err-type_unit.result (of_types c.in_err-type_unit.field-0.0) c.from_residual-in_err-type_unit.ensures) c.in_err-type_unit.ensures.only_typed
+    (err_is c.from_residual-in_err-type_unit.result (of_types c.in_err-type_unit.field-0.0) c.from_residual-in_err-type_unit.ensures)
+    c.in_err-type_unit.ensures.only_typed
 
 pub returns-clause-unit : goal.returns-clause-unit
 returns-clause-unit c = record {
@@ -40,17 +45,20 @@ returns-clause-unit c = record {
 
 pub returns-clause-only_unit : goal.returns-clause-only_unit
 returns-clause-only_unit c =
-    unit_only c.args.text.now c.deref.result.now (λ ts are. c.deref.ensures.value ∙ c.in_ok-toks.ensures.only_tokens ts are) c.in_ok-tree.tree c.in_ok-tree.ensures.only_tree
+    unit_only c.args.text.now c.deref.result.now (λ ts are. c.deref.ensures.value ∙ c.in_ok-toks.ensures.only_tokens ts are) c.in_ok-tree.tree
+    c.in_ok-tree.ensures.only_tree
     c.in_ok-type_unit.field-0 c.in_ok-type_unit.ensures.text c.in_ok-type_unit.ensures.tree c.in_ok-type_unit.ensures.only_typed
 
 pub returns-clause-only_fault : goal.returns-clause-only_fault
 returns-clause-only_fault c = λ e is.
-    not_refused c.args.text.now c.deref.result.now (λ ts are. c.deref.ensures.value ∙ c.in_ok-toks.ensures.only_tokens ts are) c.in_ok-tree.tree c.in_ok-tree.ensures.only_tree
+    not_refused c.args.text.now c.deref.result.now (λ ts are. c.deref.ensures.value ∙ c.in_ok-toks.ensures.only_tokens ts are) c.in_ok-tree.tree
+    c.in_ok-tree.ensures.only_tree
     c.in_ok-toks.ensures.first_fault c.in_ok-tree.ensures.only_fault c.in_ok-type_unit.ensures.only_fault e is
 
 pub returns-in_err-toks-clause-only_fault : goal.returns-in_err-toks-clause-only_fault
 returns-in_err-toks-clause-only_fault c = λ e is.
-    told c.from_residual.result (of_tokens c.in_err-toks.field-0.0) e (err_is c.from_residual.result (of_tokens c.in_err-toks.field-0.0) c.from_residual.ensures)
+    told c.from_residual.result (of_tokens c.in_err-toks.field-0.0) e (err_is c.from_residual.result (of_tokens c.in_err-toks.field-0.0)
+    c.from_residual.ensures)
     (bytes_told c.args.text.now c.in_err-toks.field-0.0 c.in_err-toks.ensures.first_fault c.in_err-toks.ensures.only_tokens e is)
 
 pub returns-in_err-tree-clause-only_fault : goal.returns-in_err-tree-clause-only_fault

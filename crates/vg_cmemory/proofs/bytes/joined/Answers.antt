@@ -8,4 +8,5 @@ overflow_mul-result c =
 
 pub overflow_add-result : goal.overflow_add-result
 overflow_add-result c =
-    let fits : c.args.byte + 256 * c.args.rest < 2 ^ 64 = fits_word c.args.byte c.args.rest c.args.size c.requires.some c.requires.at_most_a_word c.ranges.byte.fits c.requires.below in search rules
+    let fits : c.args.byte + 256 * c.args.rest < 2 ^ 64 = fits_word c.args.byte c.args.rest c.args.size c.requires.some c.requires.at_most_a_word
+    c.ranges.byte.fits c.requires.below in search rules

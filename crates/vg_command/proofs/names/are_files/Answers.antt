@@ -3,7 +3,8 @@ use Rattle.std.proofs.lemmas.Bool.{false≢true, eqb-false}
 use Rattle.vg_command.specs.Commands.{words_in}
 use Rattle.vg_command.proofs.WordLists.{length-words_in, none_of-outs, none_of-front, none_of-back, refuted}
 use Rattle.vg_command.proofs.names.are_files.Goals as goal
-use Rattle.vg_command.proofs.names.are_files.Goals.{then-not-is_no_input-via-then-not-is_no_input, then-not-is_no_input-via-else-not-is_no_input+then-not-is_none_of}
+use Rattle.vg_command.proofs.names.are_files.Goals.{then-not-is_no_input-via-then-not-is_no_input}
+use Rattle.vg_command.proofs.names.are_files.Goals.{then-not-is_no_input-via-else-not-is_no_input+then-not-is_none_of}
 
 pub returns-then-not-is_no_input : goal.returns-then-not-is_no_input
 returns-then-not-is_no_input c =
@@ -11,9 +12,11 @@ returns-then-not-is_no_input c =
       (λ is. absurd (false≢true is)),
       (λ all. absurd (elim c.then-not-is_no_input.branch [
         | then-not-is_no_input-via-then-not-is_no_input w ↦
-            refuted c.is_no_input.ensures.1 w.if-not-is_no_input.true (none_of-front n.c.now n.spec.now n.conf.now (words_in n.ins.now) (words_in n.outs.now) n.log.now all.own_log)
+            refuted c.is_no_input.ensures.1 w.if-not-is_no_input.true (none_of-front n.c.now n.spec.now n.conf.now (words_in n.ins.now)
+            (words_in n.outs.now) n.log.now all.own_log)
         | then-not-is_no_input-via-else-not-is_no_input+then-not-is_none_of w ↦
-            refuted w.is_none_of.ensures.1 w.if-not-is_none_of.true (none_of-back n.c.now n.spec.now n.conf.now (words_in n.ins.now) (words_in n.outs.now) n.log.now all.own_log)
+            refuted w.is_none_of.ensures.1 w.if-not-is_none_of.true (none_of-back n.c.now n.spec.now n.conf.now (words_in n.ins.now)
+            (words_in n.outs.now) n.log.now all.own_log)
       ])),
     )
 
@@ -31,7 +34,8 @@ returns-then-are_outputs c =
         spec = named.1;
         log = named.2;
         outs = outs.0;
-        own_log = none_of-outs n.c.now n.spec.now n.conf.now (words_in n.ins.now) (words_in n.outs.now) n.log.now (c.is_no_input.ensures.0 c.if-not-is_no_input.false) (c.is_none_of.ensures.0 c.if-not-is_none_of.false);
+        own_log = none_of-outs n.c.now n.spec.now n.conf.now (words_in n.ins.now) (words_in n.outs.now) n.log.now
+            (c.is_no_input.ensures.0 c.if-not-is_no_input.false) (c.is_none_of.ensures.0 c.if-not-is_none_of.false);
         own_outs = outs.1;
         apart = c.are_apart.ensures.0 is;
       }),

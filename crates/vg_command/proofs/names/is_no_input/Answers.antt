@@ -2,7 +2,8 @@ use Rattle.std.proofs.lemmas.Bool.{false≢true}
 use Rattle.vg_command.specs.Commands.{words_in}
 use Rattle.vg_command.proofs.WordLists.{none_of-inputs, none_of-parts, refuted}
 use Rattle.vg_command.proofs.names.is_no_input.Goals as goal
-use Rattle.vg_command.proofs.names.is_no_input.Goals.{then-is_same-via-then-is_same, then-is_same-via-else-is_same+then-is_same-2, then-is_same-via-else-is_same+else-is_same-2+then-is_same-3}
+use Rattle.vg_command.proofs.names.is_no_input.Goals.{then-is_same-via-then-is_same, then-is_same-via-else-is_same+then-is_same-2}
+use Rattle.vg_command.proofs.names.is_no_input.Goals.{then-is_same-via-else-is_same+else-is_same-2+then-is_same-3}
 
 pub returns-then-is_same : goal.returns-then-is_same
 returns-then-is_same c =

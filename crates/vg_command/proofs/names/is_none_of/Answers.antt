@@ -7,7 +7,8 @@ use Rattle.vg_command.proofs.names.is_none_of.Goals as goal
 pub returns-then-is_same : goal.returns-then-is_same
 returns-then-is_same c =
     let at = text_at c.args.words.now c.loop-word.word-index c.word-item.result c.as_str.result.now (omega arith) c.word-item.is c.as_str.ensures.value in
-    let found = none_of-at c.args.words.now c.loop-word.word-index c.args.name.now c.as_str.result.now (omega arith) at (c.is_same.ensures.0 c.if-is_same.true) in
+    let found = none_of-at c.args.words.now c.loop-word.word-index c.args.name.now c.as_str.result.now (omega arith) at
+    (c.is_same.ensures.0 c.if-is_same.true) in
     ((λ is. absurd (false≢true is)), (λ none. absurd (found none)))
 
 pub loop-word-preserved : goal.loop-word-preserved

@@ -5,4 +5,5 @@ use Rattle.vg_core.proofs.library.number_of.Given as goal
 abbrev pub invariant-loop-row : goal.invariant-loop-row
 invariant-loop-row l =
     (l.number ≡ l.row-index + 1)
-    × (number_from (l.row-index + 1) (map (λ row. (row.0.now, row.1, row.2.now)) (drop l.row-index l.table)) l.name ≡ number_from 1 (map (λ row. (row.0.now, row.1, row.2.now)) l.table) l.name)
+    × (number_from (l.row-index + 1) (map (λ row. (row.0.now, row.1, row.2.now)) (drop l.row-index l.table)) l.name ≡ number_from 1
+    (map (λ row. (row.0.now, row.1, row.2.now)) l.table) l.name)

@@ -12,6 +12,8 @@ loop-n-preserved c =
       table = c.in_ok-move_to.ensures;
       names_count = one_longer c.loop-n.names.items _ c.answer_at.result c.loop-n.n c.in_ok-push.ensures.items before.names_count;
       tags_count = one_longer c.loop-n.tags.items _ c.answer_at-in-loop-n.result c.loop-n.n c.in_ok-push-2.ensures.items before.tags_count;
-      names = subst (AreAnswers s) (sym c.in_ok-push.ensures.items) (one_more s c.loop-n.names.items c.answer_at.result c.loop-n.n before.names before.names_count c.answer_at.ensures);
-      tags = subst (AreAnswers s) (sym c.in_ok-push-2.ensures.items) (one_more s c.loop-n.tags.items c.answer_at-in-loop-n.result c.loop-n.n before.tags before.tags_count c.answer_at-in-loop-n.ensures);
+      names = subst (AreAnswers s) (sym c.in_ok-push.ensures.items) (one_more s c.loop-n.names.items c.answer_at.result c.loop-n.n before.names
+          before.names_count c.answer_at.ensures);
+      tags = subst (AreAnswers s) (sym c.in_ok-push-2.ensures.items) (one_more s c.loop-n.tags.items c.answer_at-in-loop-n.result c.loop-n.n
+          before.tags before.tags_count c.answer_at-in-loop-n.ensures);
     }

@@ -43,14 +43,16 @@ loop-at-preserved c =
     record {
       within = omega (arith, here.within, length-drop c.loop-at.at text);
       cut = one_more text c.loop-at.at c.loop-at.fresh c.fresh_after-fresh.result defines (shown c.add_define.new.defines.entries) c.loop-at.tokens.items
-          c.add_token.new.tokens.items c.in_ok-piece.piece c.loop-at.invariant.cut stands c.in_ok-add_token.ensures.added (cc c.in_ok-add_define.ensures.added) c.fresh_after-fresh.ensures;
+          c.add_token.new.tokens.items c.in_ok-piece.piece c.loop-at.invariant.cut stands c.in_ok-add_token.ensures.added
+          (cc c.in_ok-add_define.ensures.added) c.fresh_after-fresh.ensures;
     }
 
 pub returns-in_err-piece-clause-fault : goal.returns-in_err-piece-clause-fault
 returns-in_err-piece-clause-fault c =
     let back : c.split_at.result.1.now ≡ drop c.loop-at.at c.args.text.now = cc in
     let held : shown c.loop-at.defines.entries ≡ shown c.loop-at.defines.entries = cc in
-    let cause = refusal_at c.args.text.now c.loop-at.at c.loop-at.fresh (shown c.loop-at.defines.entries) (shown c.loop-at.defines.entries) c.split_at.result.1.now c.loop-at.tokens.items
+    let cause = refusal_at c.args.text.now c.loop-at.at c.loop-at.fresh (shown c.loop-at.defines.entries) (shown c.loop-at.defines.entries)
+    c.split_at.result.1.now c.loop-at.tokens.items
     c.in_err-piece.field-0.0 back held c.loop-at-test.true c.loop-at.invariant.cut c.in_err-piece.ensures in
     let p = err_from_is_err_and c.from_residual.result c.from_residual.ensures.1 in
     rw (p.1, p.2) cause
@@ -59,7 +61,8 @@ pub returns-in_err-piece-clause-only_tokens : goal.returns-in_err-piece-clause-o
 returns-in_err-piece-clause-only_tokens c =
     let back : c.split_at.result.1.now ≡ drop c.loop-at.at c.args.text.now = cc in
     let held : shown c.loop-at.defines.entries ≡ shown c.loop-at.defines.entries = cc in
-    let cause = refusal_at c.args.text.now c.loop-at.at c.loop-at.fresh (shown c.loop-at.defines.entries) (shown c.loop-at.defines.entries) c.split_at.result.1.now c.loop-at.tokens.items
+    let cause = refusal_at c.args.text.now c.loop-at.at c.loop-at.fresh (shown c.loop-at.defines.entries) (shown c.loop-at.defines.entries)
+    c.split_at.result.1.now c.loop-at.tokens.items
     c.in_err-piece.field-0.0 back held c.loop-at-test.true c.loop-at.invariant.cut c.in_err-piece.ensures in
     let p = err_from_is_err_and c.from_residual.result c.from_residual.ensures.1 in
     rw (p.1, p.2) (tokens-alone c.args.text.now c.in_err-piece.field-0.0 cause)
@@ -68,7 +71,8 @@ pub returns-in_err-piece-clause-first_fault : goal.returns-in_err-piece-clause-f
 returns-in_err-piece-clause-first_fault c =
     let back : c.split_at.result.1.now ≡ drop c.loop-at.at c.args.text.now = cc in
     let held : shown c.loop-at.defines.entries ≡ shown c.loop-at.defines.entries = cc in
-    let cause = refusal_at c.args.text.now c.loop-at.at c.loop-at.fresh (shown c.loop-at.defines.entries) (shown c.loop-at.defines.entries) c.split_at.result.1.now c.loop-at.tokens.items
+    let cause = refusal_at c.args.text.now c.loop-at.at c.loop-at.fresh (shown c.loop-at.defines.entries) (shown c.loop-at.defines.entries)
+    c.split_at.result.1.now c.loop-at.tokens.items
     c.in_err-piece.field-0.0 back held c.loop-at-test.true c.loop-at.invariant.cut c.in_err-piece.ensures in
     let p = err_from_is_err_and c.from_residual.result c.from_residual.ensures.1 in
     rw (p.1, p.2) (fault-alone c.args.text.now c.in_err-piece.field-0.0 cause)

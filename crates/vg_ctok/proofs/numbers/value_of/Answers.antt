@@ -13,7 +13,8 @@ pub returns-in_err-value : goal.returns-in_err-value
 returns-in_err-value c =
     let later = later-le c.args.base c.loop-b.value c.args.digits.now c.loop-b.b-index c.requires c.loop-b-test.true in
     let shifted = rw c.from.ensures at c.in_ok-shifted.ensures in
-    rw c.from_residual-in_err-value.ensures (too_great _ (omega (arith, later, shifted, c.digit_of.ensures, c.from-in-loop-b.ensures, c.in_err-value.ensures, c.loop-b.invariant.rest)))
+    rw c.from_residual-in_err-value.ensures
+    (too_great _ (omega (arith, later, shifted, c.digit_of.ensures, c.from-in-loop-b.ensures, c.in_err-value.ensures, c.loop-b.invariant.rest)))
 
 pub returns : goal.returns
 returns c =

@@ -16,7 +16,8 @@ returns-clause-empties c = λ name first.
 pub returns-clause-roles : goal.returns-clause-roles
 returns-clause-roles c =
     let x = c.index_mut-page.result.now in
-    set-same_roles c.args.pages.now.items c.args.i x (record { name = x.name; bytes = c.clear.new.self; role = x.role }) (omega (arith, c.requires)) c.index_mut-page.ensures.value refl refl
+    set-same_roles c.args.pages.now.items c.args.i x (record { name = x.name; bytes = c.clear.new.self; role = x.role }) (omega (arith, c.requires))
+    c.index_mut-page.ensures.value refl refl
 
 pub returns-clause-fit : goal.returns-clause-fit
 returns-clause-fit c =

@@ -11,7 +11,8 @@ use Rattle.vg_doubles.proofs.making.name_page.Goals as goal
 pub unreachable-requires : goal.unreachable-requires
 unreachable-requires c =
     let x = c.index_mut-page.result.now in
-    let fit = rw (← c.index_mut-page.ensures.value) at (All-get_or (HasMemory c.args.room) c.args.pages.now.items c.args.i x (omega (arith, c.requires.within)) c.requires.memory) in
+    let fit = rw (← c.index_mut-page.ensures.value) at (All-get_or (HasMemory c.args.room) c.args.pages.now.items c.args.i x
+    (omega (arith, c.requires.within)) c.requires.memory) in
     omega (arith, fit.name, c.requires.short, c.clear.ensures.capacity, c.clear.ensures.len, c.in_default.ensures.full)
 
 pub returns-clause-empties : goal.returns-clause-empties
@@ -35,7 +36,8 @@ returns-clause-fit c =
     let y : Page = record { name = c.push_str.new.self; bytes = c.clear-2.new.self; role = Writing } in
     record {
       memory = λ room all.
-          let was = rw (← c.index_mut-page.ensures.value) at (All-get_or (HasMemory room) c.args.pages.now.items c.args.i x (omega (arith, c.requires.within)) all) in
+          let was = rw (← c.index_mut-page.ensures.value) at (All-get_or (HasMemory room) c.args.pages.now.items c.args.i x
+          (omega (arith, c.requires.within)) all) in
           All-set (HasMemory room) c.args.pages.now.items c.args.i y (record {
             name = omega (arith, was.name, c.clear.ensures.capacity, c.in-Ok.ensures.capacity);
             reserved = omega (arith, was.reserved, c.clear-2.ensures.capacity);

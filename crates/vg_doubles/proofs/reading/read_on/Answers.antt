@@ -10,7 +10,8 @@ bytes_of-requires c =
 pub copy_next-n-requires : goal.copy_next-n-requires
 copy_next-n-requires c =
     let is = rw c.as_slice.ensures.value at c.place_of-place.ensures in
-    rw c.bytes_of.ensures (readable-within c.args.held.now c.args.pages.now.items c.args.id c.place_of-place.result (omega (arith, c.requires.within)) c.requires.readable is)
+    rw c.bytes_of.ensures (readable-within c.args.held.now c.args.pages.now.items c.args.id c.place_of-place.result (omega (arith, c.requires.within))
+    c.requires.readable is)
 
 pub returns-clause-reads : goal.returns-clause-reads
 returns-clause-reads c =

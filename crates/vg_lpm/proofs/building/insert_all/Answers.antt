@@ -15,15 +15,18 @@ loop-route-preserved c =
             table = now.table;
             second_room = omega (arith, now.second_room, before.second_room);
             third_room = omega (arith, now.third_room, before.third_room);
-            ahead = λ a fits. passed-matched c.args.len c.args.routes.now c.loop-route.route-index none a _ _ _ c.loop-route-test.true w.if-route-len.true (now.taken a fits) (before.ahead a fits);
+            ahead = λ a fits. passed-matched c.args.len c.args.routes.now c.loop-route.route-index none a _ _ _ c.loop-route-test.true
+                w.if-route-len.true (now.taken a fits) (before.ahead a fits);
           })
       | else-route-len w ↦ rw w.levels-is (record {
         table = before.table;
         second_room = omega (arith, before.second_room);
         third_room = omega (arith, before.third_room);
-        ahead = λ a fits. passed-other c.args.len c.args.routes.now c.loop-route.route-index none a _ _ c.loop-route-test.true w.if-route-len.false (before.ahead a fits);
+        ahead = λ a fits. passed-other c.args.len c.args.routes.now c.loop-route.route-index none a _ _ c.loop-route-test.true w.if-route-len.false
+            (before.ahead a fits);
       })
     ]
 
 pub returns-clause-passed : goal.returns-clause-passed
-returns-clause-passed c = λ a fits. passed-done c.args.len c.args.routes.now c.loop-route.route-index a c.loop-route-test.false (c.loop-route.invariant.ahead a fits)
+returns-clause-passed c = λ a fits. passed-done c.args.len c.args.routes.now c.loop-route.route-index a c.loop-route-test.false
+    (c.loop-route.invariant.ahead a fits)

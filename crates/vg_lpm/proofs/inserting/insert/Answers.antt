@@ -10,17 +10,20 @@ fill-requires-clause-within c =
 
 pub returns-then-len-le16-clause-taken : goal.returns-then-len-le16-clause-taken
 returns-then-len-le16-clause-taken c =
-    taken_first c.args.route.now c.from-len.result c.leaf_with-word.result c.requires.table (omega arith) c.from-len.ensures c.if-len-le16.true c.leaf_with-word.ensures.value c.leaf_with-word.ensures.below c.fill.ensures
+    taken_first c.args.route.now c.from-len.result c.leaf_with-word.result c.requires.table (omega arith) c.from-len.ensures c.if-len-le16.true
+    c.leaf_with-word.ensures.value c.leaf_with-word.ensures.below c.fill.ensures
 
 pub fill-requires-then-len-le24-clause-within : goal.fill-requires-then-len-le24-clause-within
 fill-requires-then-len-le24-clause-within c =
     let lower = c.open.new.lower in
-    let run = fits_block c.place-at.result (c.args.route.now.address / 256) (24 - c.from-len.result) c.in_ok-block.ensures (omega (arith, c.requires.table.all_addresses)) c.place-at.ensures (omega arith) in
+    let run = fits_block c.place-at.result (c.args.route.now.address / 256) (24 - c.from-len.result) c.in_ok-block.ensures
+    (omega (arith, c.requires.table.all_addresses)) c.place-at.ensures (omega arith) in
     omega (arith, lower.ok.0)
 
 pub returns-then-len-le24-clause-taken : goal.returns-then-len-le24-clause-taken
 returns-then-len-le24-clause-taken c =
-    taken_second c.args.route.now c.from-len.result c.leaf_with-word.result c.place-at.result c.requires.table (omega arith) c.from-len.ensures c.if-len-le16.false c.if-len-le24.true
+    taken_second c.args.route.now c.from-len.result c.leaf_with-word.result c.place-at.result c.requires.table (omega arith) c.from-len.ensures
+    c.if-len-le16.false c.if-len-le24.true
     c.leaf_with-word.ensures.value c.leaf_with-word.ensures.below c.place-at.ensures c.in_ok-block.ensures c.fill-then-len-le24.ensures
 
 pub fill-requires-2-clause-within : goal.fill-requires-2-clause-within
@@ -36,5 +39,7 @@ returns-clause-table c = table_third c.requires.table c.in_ok-block.ensures c.in
 
 pub returns-clause-taken : goal.returns-clause-taken
 returns-clause-taken c =
-    taken_third c.args.route.now c.from-len.result c.leaf_with-word.result c.place-at.result c.place.result c.requires.table (omega arith) c.from-len.ensures c.if-len-le24.false (omega arith)
-    c.leaf_with-word.ensures.value c.leaf_with-word.ensures.below c.place-at.ensures c.place.ensures c.in_ok-block.ensures c.in_ok-block-2.ensures c.fill-2.ensures
+    taken_third c.args.route.now c.from-len.result c.leaf_with-word.result c.place-at.result c.place.result c.requires.table (omega arith)
+    c.from-len.ensures c.if-len-le24.false (omega arith)
+    c.leaf_with-word.ensures.value c.leaf_with-word.ensures.below c.place-at.ensures c.place.ensures c.in_ok-block.ensures c.in_ok-block-2.ensures
+    c.fill-2.ensures

@@ -21,4 +21,5 @@ returns-then-not-has_link-clause-bad c = (
 
 pub returns-clause-good : goal.returns-clause-good
 returns-clause-good c =
-    HasHeader-whole (encoding_view c.in-Some.encoding) c.args.header.now c.requires c.in-Some.ensures.some (c.if-not-has_version.ensures.0 refl) (c.if-not-has_link.ensures.0 refl)
+    HasHeader-whole (encoding_view c.in-Some.encoding) c.args.header.now c.requires c.in-Some.ensures.some (c.if-not-has_version.ensures.0 refl)
+    (c.if-not-has_link.ensures.0 refl)

@@ -31,7 +31,8 @@ returns-then-got-size g c =
     let read = c.in-Ok-read_into.ensures in
     let all : c.in-Ok.got ≡ 16 = omega (arith, first.within, c.read_into.auto.into) in
     let size = c.in-Ok-read_head.head.size in
-    let room : length c.read_into-2.new.into ≡ size = c.read_into-2.auto.into ∙ length-take-le size c.args.frame.now (omega (arith, c.in-Ok-read_head.ensures.good.size, c.requires.room)) in
+    let room : length c.read_into-2.new.into ≡ size = c.read_into-2.auto.into ∙ length-take-le size c.args.frame.now
+    (omega (arith, c.in-Ok-read_head.ensures.good.size, c.requires.room)) in
     record {
       cause = cause_else _ _ _ (λ e. cc) (read.faults.same ∙ first.faults.same);
       stays = Stays-trans first.stays read.stays;
@@ -44,7 +45,8 @@ returns-then-got-size g c =
             let gives = rw all at (first.gives told bytes is) in
             let whole = Gives-whole (omega (arith, c.read_into.auto.into)) gives in
             let few = read.end (told_before first.stays.keeps told) (drop 16 bytes) gives.after (omega (arith, c.if-got-size.true, room)) in
-            cut_body (encoding_view c.args.encoding) (head_view c.in-Ok-read_head.head) c.read_into.new.into bytes (drop 16 bytes) c.in-Ok-read_into.got whole c.in-Ok-read_head.ensures.good c.if-got-size.true few,
+            cut_body (encoding_view c.args.encoding) (head_view c.in-Ok-read_head.head) c.read_into.new.into bytes (drop 16 bytes)
+            c.in-Ok-read_into.got whole c.in-Ok-read_head.ensures.good c.if-got-size.true few,
       );
     }
 
@@ -55,7 +57,8 @@ returns g c =
     let good = c.in-Ok-read_head.ensures.good in
     let all : c.in-Ok.got ≡ 16 = omega (arith, first.within, c.read_into.auto.into) in
     let size = c.in-Ok-read_head.head.size in
-    let room : length c.read_into-2.new.into ≡ size = c.read_into-2.auto.into ∙ length-take-le size c.args.frame.now (omega (arith, good.size, c.requires.room)) in
+    let room : length c.read_into-2.new.into ≡ size = c.read_into-2.auto.into ∙ length-take-le size c.args.frame.now
+    (omega (arith, good.size, c.requires.room)) in
     let both : c.in-Ok-read_into.got ≡ size = omega (arith, read.within, room, c.if-got-size.false) in
     record {
       cause = cause_ok _ (read.faults.same ∙ first.faults.same);

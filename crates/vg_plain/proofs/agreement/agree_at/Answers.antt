@@ -12,18 +12,26 @@ use Rattle.vg_plain.proofs.agreement.agree_at.Goals as goal
 pub returns-in-Keys-default : goal.returns-in-Keys-default
 returns-in-Keys-default c =
     let here = stands c.args.objects.now c.args.i c.index-objects-i.result _ c.requires.inside c.index-objects-i.is c.in-Keys-default.is-0 in
-    keys_same c.args.objects.now c.args.state.now c.args.i _ c.keys_agree.result c.requires.shape here c.saturating_sub-in-Keys-default.ensures c.keys_agree.ensures
+    keys_same c.args.objects.now c.args.state.now c.args.i _ c.keys_agree.result c.requires.shape here c.saturating_sub-in-Keys-default.ensures
+    c.keys_agree.ensures
 
 pub returns-in-Cells-Cells : goal.returns-in-Cells-Cells
 returns-in-Cells-Cells c =
     let here = stands c.args.objects.now c.args.i c.index-objects-i.result _ c.requires.inside c.index-objects-i.is c.in-Cells-Cells.is-0 in
     let listed = ap (λ s. s.objects) c.state.view_is in
-    let inside : c.args.i < length c.args.state.now.objects = omega (arith, c.requires.inside, c.requires.shape.as_many, length-map c.args.objects.now object_of) in
+    let inside : c.args.i < length c.args.state.now.objects = omega (
+      arith,
+      c.requires.inside,
+      c.requires.shape.as_many,
+      length-map c.args.objects.now object_of,
+    ) in
     let read = c.index.ensures ∙ ap (λ (os : List Object). get_or os c.args.i c.index.result.now) listed in
     let there = slice_get-get_or c.args.state.now.objects c.args.i c.index.result.now inside ∙ ap Some (sym read ∙ c.in-Cells-Cells.is-1) in
     let cells = ap (λ v. v.cells) c.other.view_is in
-    cells_same c.args.objects.now c.args.state.now c.args.i c.in-Cells-Cells.vector c.in-Cells-Cells.other c.agrees.result here there
-    (λ yes. subst (λ t. CellsAgree (cell_table 0 c.in-Cells-Cells.vector.cells) t) cells (c.agrees.ensures.0 yes), λ agree. c.agrees.ensures.1 (subst (λ t. CellsAgree (cell_table 0 c.in-Cells-Cells.vector.cells) t) (sym cells) agree))
+    cells_same c.args.objects.now c.args.state.now c.args.i c.in-Cells-Cells.vector c.in-Cells-Cells.other c.agrees.result here there (
+      λ yes. subst (λ t. CellsAgree (cell_table 0 c.in-Cells-Cells.vector.cells) t) cells (c.agrees.ensures.0 yes),
+      λ agree. c.agrees.ensures.1 (subst (λ t. CellsAgree (cell_table 0 c.in-Cells-Cells.vector.cells) t) (sym cells) agree),
+    )
 
 pub returns-in_default : goal.returns-in_default
 returns-in_default c =

@@ -7,11 +7,13 @@ use Rattle.vg_plain.proofs.expiry.expire_places.Goals as goal
 pub loop-i-preserved : goal.loop-i-preserved
 loop-i-preserved c = elim c.if-is_early.branch [
   | then-is_early w ↦ (
-      let here = slice_get-get_or c.loop-i.times.items c.loop-i.i c.index.result.now (omega (arith, c.loop-i-test.true, c.len-i-end.ensures, c.loop-i.invariant.places)) ∙ ap Some (sym c.index.ensures) in
+      let here = slice_get-get_or c.loop-i.times.items c.loop-i.i c.index.result.now (omega
+      (arith, c.loop-i-test.true, c.len-i-end.ensures, c.loop-i.invariant.places)) ∙ ap Some (sym c.index.ensures) in
       expired_next _ _ _ _ _ _ _ _ _ _ _ _ (sym (ap (λ v. v.items) w.indices-is ∙ w.clear_key.ensures)) (sym (ap (λ v. v.items) w.times-is)) (sym w.freed-is)
       (expire_one _ _ _ _ _ _ _ _ _ _ _ c.requires.tied c.loop-i.invariant here (sym c.is_early.ensures ∙ w.if-is_early.true) w.cell.ensures.value))
   | else-is_early w ↦ (
-      let here = slice_get-get_or c.loop-i.times.items c.loop-i.i c.index.result.now (omega (arith, c.loop-i-test.true, c.len-i-end.ensures, c.loop-i.invariant.places)) ∙ ap Some (sym c.index.ensures) in
+      let here = slice_get-get_or c.loop-i.times.items c.loop-i.i c.index.result.now (omega
+      (arith, c.loop-i-test.true, c.len-i-end.ensures, c.loop-i.invariant.places)) ∙ ap Some (sym c.index.ensures) in
       expired_next _ _ _ _ _ _ _ _ _ _ _ _ (sym (ap (λ v. v.items) w.indices-is)) (sym (ap (λ v. v.items) w.times-is)) (sym w.freed-is)
       (expire_none _ _ _ _ _ _ _ _ _ _ c.loop-i.invariant here (sym c.is_early.ensures ∙ w.if-is_early.false)))
 ]

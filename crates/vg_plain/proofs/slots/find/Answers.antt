@@ -5,7 +5,8 @@ use Rattle.vg_plain.proofs.slots.find.Goals.{else-is_some-via-then-is_some+else-
 use Rattle.vg_plain.proofs.slots.find.Goals as goal
 
 pub returns-then-eq : goal.returns-then-eq
-returns-then-eq c = found_at _ _ _ _ _ (omega arith) c.loop-i.invariant c.cell.ensures.value (sym c.eq.ensures ∙ c.if-eq.true) (sym c.is_some.ensures ∙ c.if-is_some.true)
+returns-then-eq c = found_at _ _ _ _ _ (omega arith) c.loop-i.invariant c.cell.ensures.value (sym c.eq.ensures ∙ c.if-eq.true)
+    (sym c.is_some.ensures ∙ c.if-is_some.true)
 
 pub loop-i-preserved : goal.loop-i-preserved
 loop-i-preserved c = elim c.else-is_some.branch [

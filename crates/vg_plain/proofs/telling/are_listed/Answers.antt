@@ -15,20 +15,33 @@ loop-key-init c key none = told_none _ _ (get-entries c.args.table.now key ∙ s
 pub loop-key-preserved : goal.loop-key-preserved
 loop-key-preserved c key none =
     let yes : c.is_index_told.result ≡ true = search rules in
-    let step = subst (λ (i : Option ℕ). BothTell (Some i) c.get.result) (c.find.ensures ∙ ap (λ (k : List ℕ). joined (get (key_table c.args.indices.now c.args.keys.now.cells) k)) c.deref.ensures.value) (c.is_index_told.ensures.0 yes) in
-    let here = subst (λ (l : Option (Option ℕ)). BothTell (Some (joined (get (key_table c.args.indices.now c.args.keys.now.cells) c.in-Some.key.now.items))) l) (c.get.ensures ∙ ap (λ (k : List ℕ). get c.args.table.now k) c.deref-in-loop-key.ensures.value) step in
-    told_more c.args.table.now (λ k. joined (get (key_table c.args.indices.now c.args.keys.now.cells) k)) c.in-Some.key.now.items c.in-Some._answer.now (map (λ entry. (entry.0.items, entry.1)) c.next.new.self)
-    (λ k absent. c.loop-key.invariant k (ap (λ es. find (slice_cmp nat_cmp) k (map (λ entry. (entry.0.items, entry.1)) es)) c.in-Some.ensures.steps ∙ absent)) here key none
+    let step = subst (λ (i : Option ℕ). BothTell (Some i) c.get.result) (c.find.ensures ∙ ap
+    (λ (k : List ℕ). joined (get (key_table c.args.indices.now c.args.keys.now.cells) k)) c.deref.ensures.value) (c.is_index_told.ensures.0 yes)
+    in
+    let here = subst (λ (l : Option (Option ℕ)). BothTell
+    (Some (joined (get (key_table c.args.indices.now c.args.keys.now.cells) c.in-Some.key.now.items))) l)
+    (c.get.ensures ∙ ap (λ (k : List ℕ). get c.args.table.now k) c.deref-in-loop-key.ensures.value) step in
+    told_more c.args.table.now (λ k. joined (get (key_table c.args.indices.now c.args.keys.now.cells) k)) c.in-Some.key.now.items
+    c.in-Some._answer.now (map (λ entry. (entry.0.items, entry.1)) c.next.new.self)
+    (λ k absent. c.loop-key.invariant k (ap (λ es. find (slice_cmp nat_cmp) k (map (λ entry. (entry.0.items, entry.1)) es)) c.in-Some.ensures.steps
+    ∙ absent)) here key none
 
 pub returns-then-not-is_index_told : goal.returns-then-not-is_index_told
 returns-then-not-is_index_told c = (
   λ no. not_missed no,
   λ all. absurd (
       let no : c.is_index_told.result ≡ false = search rules in
-      let step = subst (λ (l : Option (Option ℕ)). BothTell (Some (joined (get (key_table c.args.indices.now c.args.keys.now.cells) c.in-Some.key.now.items))) l) (sym (c.get.ensures ∙ ap (λ (k : List ℕ). get c.args.table.now k) c.deref-in-loop-key.ensures.value)) (all c.in-Some.key.now.items) in
-      let here = subst (λ (i : Option ℕ). BothTell (Some i) c.get.result) (sym (c.find.ensures ∙ ap (λ (k : List ℕ). joined (get (key_table c.args.indices.now c.args.keys.now.cells) k)) c.deref.ensures.value)) step in
+      let step = subst (λ (l : Option (Option ℕ)). BothTell
+      (Some (joined (get (key_table c.args.indices.now c.args.keys.now.cells) c.in-Some.key.now.items))) l)
+      (sym (c.get.ensures ∙ ap (λ (k : List ℕ). get c.args.table.now k) c.deref-in-loop-key.ensures.value)) (all c.in-Some.key.now.items) in
+      let here = subst (λ (i : Option ℕ). BothTell (Some i) c.get.result) (sym (c.find.ensures
+      ∙ ap (λ (k : List ℕ). joined (get (key_table c.args.indices.now c.args.keys.now.cells) k)) c.deref.ensures.value)) step in
       let yes : c.is_index_told.result ≡ true = c.is_index_told.ensures.1 here in cc),
 )
 
 pub returns : goal.returns
-returns c = (λ _ key. c.loop-key.invariant key (ap (λ es. find (slice_cmp nat_cmp) key (map (λ entry. (entry.0.items, entry.1)) es)) c.in-None.ensures.steps.0), λ _. refl)
+returns c = (
+  λ _ key. c.loop-key.invariant key (ap (λ es. find (slice_cmp nat_cmp) key (map (λ entry. (entry.0.items, entry.1)) es))
+      c.in-None.ensures.steps.0),
+  λ _. refl,
+)

@@ -11,7 +11,9 @@ pub returns : goal.returns
 returns c =
     let yes : c.are_listed.result ≡ true = search rules in
     let full : c.args.full ≡ true = search rules in (
-      λ all key. told_all c.args.full (joined (get (key_table c.args.indices.now c.args.keys.now.cells) key)) (get c.args.table.now key) (c.are_listed.ensures.0 yes key) (λ _ none. ap joined (c.list_all.ensures.0 all key none)),
+      λ all key. told_all c.args.full (joined (get (key_table c.args.indices.now c.args.keys.now.cells) key)) (get c.args.table.now key)
+          (c.are_listed.ensures.0 yes key) (λ _ none. ap joined (c.list_all.ensures.0 all key none)),
       λ told. c.list_all.ensures.1 (λ key none. none_listed c.args.indices.now c.args.keys.now.cells key (told_full _ (get c.args.table.now key)
-          (subst (λ (f : Bool). BothTell (Some (joined (get (key_table c.args.indices.now c.args.keys.now.cells) key))) (listed_or_none f (get c.args.table.now key))) full (told key)) none)),
+          (subst (λ (f : Bool). BothTell (Some (joined (get (key_table c.args.indices.now c.args.keys.now.cells) key)))
+          (listed_or_none f (get c.args.table.now key))) full (told key)) none)),
     )

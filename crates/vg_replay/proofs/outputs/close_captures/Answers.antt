@@ -12,8 +12,12 @@ loop-capture-preserved-then-is_err g c =
     let items = c.in-Some.ensures.items in
     let writable : AreWritable _ (left ++ c.in-Some.capture ∷ []) = rw (← items) before.2 in
     let failed : IsErr c.close.result = search rules in
-    let closes = rw (failed_is c.close.result failed) at c.close.ensures in
-    (c.in-Some.capture ∷ before.0, popped _ _ left before.0 c.in-Some.capture items before.1, AreWritable-pop left writable closes.closes, ClosesWritten-fails c.loop-capture.result _ before.3 (last_open left c.in-Some.capture writable) closes)
+    let closes = rw (failed_is c.close.result failed) at c.close.ensures in (
+      c.in-Some.capture ∷ before.0,
+      popped _ _ left before.0 c.in-Some.capture items before.1,
+      AreWritable-pop left writable closes.closes,
+      ClosesWritten-fails c.loop-capture.result _ before.3 (last_open left c.in-Some.capture writable) closes,
+    )
 
 pub loop-capture-preserved : goal.loop-capture-preserved
 loop-capture-preserved g c =
@@ -21,5 +25,9 @@ loop-capture-preserved g c =
     let left = c.pop.new.self.items in
     let items = c.in-Some.ensures.items in
     let writable : AreWritable _ (left ++ c.in-Some.capture ∷ []) = rw (← items) before.2 in
-    let closes = rw (ok_is c.close.result (search rules)) at c.close.ensures in
-    (c.in-Some.capture ∷ before.0, popped _ _ left before.0 c.in-Some.capture items before.1, AreWritable-pop left writable closes.closes, ClosesWritten-next c.loop-capture.result before.3 (last_open left c.in-Some.capture writable) closes)
+    let closes = rw (ok_is c.close.result (search rules)) at c.close.ensures in (
+      c.in-Some.capture ∷ before.0,
+      popped _ _ left before.0 c.in-Some.capture items before.1,
+      AreWritable-pop left writable closes.closes,
+      ClosesWritten-next c.loop-capture.result before.3 (last_open left c.in-Some.capture writable) closes,
+    )

@@ -9,4 +9,5 @@ returns g c =
 
 pub returns-in_err-replay : goal.returns-in_err-replay
 returns-in_err-replay g c =
-    not_begun g.H.Handler.handles g.H.Handler.stops_at _ _ _ c.args.handler c.in_err-replay.field-0.0 c.from_residual.result c.from_residual.ensures.1 c.in_err-replay.ensures
+    not_begun g.H.Handler.handles g.H.Handler.stops_at _ _ _ c.args.handler c.in_err-replay.field-0.0 c.from_residual.result c.from_residual.ensures.1
+    c.in_err-replay.ensures

@@ -5,7 +5,8 @@ use Rattle.vg_rup.proofs.checker.check_refutation.Goals as goal
 
 pub loop-at-init : goal.loop-at-init
 loop-at-init c =
-    ap (λ clauses. first_unfollowed clauses c.args.proof.now) (sym c.in_ok-known.ensures) ∙ counted_from-zero (first_unfollowed c.in_ok-known.known c.args.proof.now)
+    ap (λ clauses. first_unfollowed clauses c.args.proof.now) (sym c.in_ok-known.ensures) ∙ counted_from-zero
+    (first_unfollowed c.in_ok-known.known c.args.proof.now)
 
 pub push-requires : goal.push-requires
 push-requires c = follows-clause c.loop-at.known c.get-step.result.now (sym c.in_ok-follows.ensures.answer ∙ c.if-not-branch.false)
@@ -19,5 +20,6 @@ loop-at-preserved c =
 
 pub returns-then-not-branch-clause-fault : goal.returns-then-not-branch-clause-fault
 returns-then-not-branch-clause-fault c =
-    step_fails c.loop-at.known c.args.proof.now c.loop-at.at c.get-step.result.now (first_unfollowed c.args.clauses.now.clauses c.args.proof.now) c.get-step.ensures
+    step_fails c.loop-at.known c.args.proof.now c.loop-at.at c.get-step.result.now (first_unfollowed c.args.clauses.now.clauses c.args.proof.now)
+    c.get-step.ensures
     (sym c.in_ok-follows.ensures.answer ∙ c.if-not-branch.true) c.loop-at.invariant

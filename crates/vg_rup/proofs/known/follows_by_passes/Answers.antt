@@ -6,5 +6,6 @@ propagate-requires-clause-consistent c = negations-consistent c.in_ok-made.made 
 
 pub returns : goal.returns
 returns c =
-    propagates-follows c.args.clauses.now c.args.clause.now c.in_ok-made.made c.propagate.new.made c.in_ok-conflict.conflict c.requires.nonzero c.requires.clause
+    propagates-follows c.args.clauses.now c.args.clause.now c.in_ok-made.made c.propagate.new.made c.in_ok-conflict.conflict c.requires.nonzero
+    c.requires.clause
     c.in_ok-made.ensures c.in_ok-conflict.ensures

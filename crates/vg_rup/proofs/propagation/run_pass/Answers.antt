@@ -5,7 +5,8 @@ use Rattle.vg_rup.proofs.propagation.run_pass.Goals.{in-Nothing, in-Literal+in_o
 
 pub returns-in-Conflict : goal.returns-in-Conflict
 returns-in-Conflict c =
-    pass_conflict c.args.clauses.now c.args.made.now c.loop-at.at c.loop-at.made c.loop-at.grew c.get.result.now c.get.ensures c.in-Conflict.ensures c.loop-at.invariant
+    pass_conflict c.args.clauses.now c.args.made.now c.loop-at.at c.loop-at.made c.loop-at.grew c.get.result.now c.get.ensures c.in-Conflict.ensures
+    c.loop-at.invariant
 
 pub loop-at-init : goal.loop-at-init
 loop-at-init c = pass_begins c.args.clauses.now c.args.made.now c.requires.consistent
@@ -16,10 +17,12 @@ loop-at-preserved c =
     let initial = c.args.made.now in
     elim c.match-forced_by.branch [
       | in-Nothing w ↦
-          pass_nothing clauses initial c.loop-at.at c.loop-at.made c.loop-at.grew c.get.result.now c.match-forced_by.made c.match-forced_by.grew w.made-is w.grew-is c.get.ensures w.in-Nothing.ensures
+          pass_nothing clauses initial c.loop-at.at c.loop-at.made c.loop-at.grew c.get.result.now c.match-forced_by.made c.match-forced_by.grew
+          w.made-is w.grew-is c.get.ensures w.in-Nothing.ensures
           c.loop-at.invariant
       | in-Literal+in_ok-make_true-in-Literal w ↦
-          pass_forced clauses initial c.loop-at.at c.loop-at.made c.loop-at.grew c.get.result.now w.in-Literal.literal w.make_true.new.self c.match-forced_by.made c.match-forced_by.grew w.made-is w.grew-is
+          pass_forced clauses initial c.loop-at.at c.loop-at.made c.loop-at.grew c.get.result.now w.in-Literal.literal w.make_true.new.self
+          c.match-forced_by.made c.match-forced_by.grew w.made-is w.grew-is
           c.requires.nonzero c.get.ensures w.in-Literal.ensures w.in_ok-make_true-in-Literal.ensures c.loop-at.invariant
     ]
 

@@ -5,7 +5,8 @@ use Rattle.vg_cnf.specs.Propagation.{follows}
 use Rattle.vg_units.specs.Propagating.{AreWithin}
 use Rattle.vg_units.proofs.Assuming.{further_variables, further_clauses, left_within, right_within}
 use Rattle.vg_sat.specs.Learned.{IsReduced, AreNeededBeside}
-use Rattle.vg_sat.proofs.Shortening.{part_over, parts_joined, few_over, assumed_open, one_reduced, none_reduced, front_over, front_follows, back_over, back_follows, halves_reduced}
+use Rattle.vg_sat.proofs.Shortening.{part_over, parts_joined, few_over, assumed_open, one_reduced, none_reduced, front_over, front_follows, back_over}
+use Rattle.vg_sat.proofs.Shortening.{back_follows, halves_reduced}
 use Rattle.vg_sat.proofs.halving.+halving.Goals as goal
 use Rattle.vg_sat.proofs.halving.+halving.Goals.{needed_beside-then-follows, needed_beside-else-follows+in_ok-kept}
 
@@ -16,7 +17,8 @@ needed-returns-then-list-le1-clause-needed t c =
     let list = c.args.list.now in
     let is : c.extend_from_slice.new.self.items ≡ list = c.in_ok-extend_from_slice.ensures.items ∙ ap (λ (xs : List ℤ). xs ++ list) c.new-kept.ensures.items in
     subst (IsReduced s.clauses assumed) (sym is)
-    (one_reduced s.clauses assumed list c.if-list-le1.true (assumed_open s assumed c.facts.ensures.sound (c.facts.ensures.settled c.requires.at_end) assumes) follows_it)
+    (one_reduced s.clauses assumed list c.if-list-le1.true (assumed_open s assumed c.facts.ensures.sound (c.facts.ensures.settled c.requires.at_end)
+    assumes) follows_it)
 
 pub needed-needed_beside-requires-2 : goal.needed-needed_beside-requires-2
 needed-needed_beside-requires-2 t c =
@@ -55,12 +57,14 @@ needed-returns-clause-needed t c =
     let both : IsClauseOver s.variables (assumed ++ (front ++ back)) = subst (λ xs. IsClauseOver s.variables (assumed ++ xs)) joined over in
     let both_follow : follows s.clauses (assumed ++ (front ++ back)) ≡ true = subst (λ xs. follows s.clauses (assumed ++ xs) ≡ true) joined follows_it in
     let front_half : IsReduced s.clauses (assumed ++ back) few =
-    c.in_ok-kept.ensures.needed assumed assumes (front_over s.variables assumed front back both) (front_follows s.variables s.clauses assumed front back all both both_follow) in
+    c.in_ok-kept.ensures.needed assumed assumes (front_over s.variables assumed front back both)
+    (front_follows s.variables s.clauses assumed front back all both both_follow) in
     let beside : AreNeededBeside s few back more =
     subst (λ x. AreNeededBeside x few back more) (c.in_ok-kept.ensures.back refl)
     (subst (λ (xs : List ℤ). AreNeededBeside mid xs back more) c.deref.ensures.value c.in_ok-more.ensures.needed) in
     let back_half : IsReduced s.clauses (assumed ++ few) more =
-    beside assumed assumes (back_over s.variables assumed front back few within both) (back_follows s.variables s.clauses assumed front back few all within both front_half) in
+    beside assumed assumes (back_over s.variables assumed front back few within both) (back_follows s.variables s.clauses assumed front back few all
+    within both front_half) in
     let more_is : c.deref-2.result.now ≡ more = c.deref-2.ensures.value in
     let is : c.extend_from_slice-2.new.self.items ≡ few ++ more = c.in_ok-extend_from_slice-2.ensures.items ∙ ap (λ (xs : List ℤ). few ++ xs) more_is in
     subst (IsReduced s.clauses assumed) (sym is)
@@ -85,6 +89,7 @@ needed_beside-returns-clause-needed t c =
           let few = w.in_ok-kept.kept.items in
           subst (IsReduced s.clauses some) (sym (ap (λ v. v.items) w.kept-is))
           (subst (λ cs. IsReduced cs some few) clauses
-          (w.in_ok-kept.ensures.needed some (c.in_ok-follows.ensures.assumed w.if-follows.false assumed assumes) (subst (λ n. IsClauseOver n (some ++ list)) (sym variables) over)
+          (w.in_ok-kept.ensures.needed some (c.in_ok-follows.ensures.assumed w.if-follows.false assumed assumes)
+          (subst (λ n. IsClauseOver n (some ++ list)) (sym variables) over)
           (subst (λ cs. follows cs (some ++ list) ≡ true) (sym clauses) follows_it)))
     ]

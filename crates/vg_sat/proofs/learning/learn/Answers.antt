@@ -11,7 +11,8 @@ shorten-requires-clause-learnable c =
     let new = c.assume_in_turn.new.search in
     let learnable : IsLearnable s.variables s.clauses c.in-Some.clause.items =
     subst (λ (o : Option (Vec Lit Global)). IfSome o (λ v. IsLearnable s.variables s.clauses v.items)) c.in-Some.is c.in_ok-clause.ensures.learnable in
-    subst (IsLearnable new.variables new.clauses) (sym c.deref.ensures.value) (learnable_there s new c.in-Some.clause.items (c.in_ok-clause.ensures.same refl) learnable)
+    subst (IsLearnable new.variables new.clauses) (sym c.deref.ensures.value) (learnable_there s new c.in-Some.clause.items
+    (c.in_ok-clause.ensures.same refl) learnable)
 
 pub shorten-requires-in-None-clause-learnable : goal.shorten-requires-in-None-clause-learnable
 shorten-requires-in-None-clause-learnable c =

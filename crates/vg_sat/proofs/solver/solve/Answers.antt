@@ -9,5 +9,7 @@ use Rattle.vg_sat.proofs.solver.solve.Goals as goal
 pub returns-in_default-clause-answer : goal.returns-in_default-clause-answer
 returns-in_default-clause-answer c =
     let set = c.args.clauses.now in
-    let reaches : Reaches set.clauses [] = subst (λ (o : Option Propagator). MatchOption o (Reaches set.clauses []) (IsLoaded set)) c.in_default.is c.in_ok-search.ensures in
-    refuted_at_once set.variables set.clauses c.push.new.self (c.in_ok-push.ensures.ok ∙ ap (λ (xs : List (List ℤ)). xs ++ [] ∷ []) c.new-learned.ensures) c.each_is_over.ensures reaches
+    let reaches : Reaches set.clauses [] = subst (λ (o : Option Propagator). MatchOption o (Reaches set.clauses []) (IsLoaded set)) c.in_default.is
+    c.in_ok-search.ensures in
+    refuted_at_once set.variables set.clauses c.push.new.self (c.in_ok-push.ensures.ok ∙ ap (λ (xs : List (List ℤ)). xs ++ [] ∷ [])
+    c.new-learned.ensures) c.each_is_over.ensures reaches

@@ -8,7 +8,8 @@ use Rattle.vg_sat.proofs.walking.assume_in_turn.Goals.{then-is_open+in_ok-confli
 pub loop-literal-init : goal.loop-literal-init
 loop-literal-init c =
     let s = c.args.search.now in
-    going_starts s c.new-clause.result.items (subst (Walked s) (sym c.new-clause.ensures.items) (walk_starts s c.requires c.facts.ensures.sound (c.facts.ensures.settled c.requires.1)))
+    going_starts s c.new-clause.result.items (subst (Walked s) (sym c.new-clause.ensures.items)
+    (walk_starts s c.requires c.facts.ensures.sound (c.facts.ensures.settled c.requires.1)))
 
 pub loop-literal-preserved : goal.loop-literal-preserved
 loop-literal-preserved c =
@@ -22,7 +23,8 @@ loop-literal-preserved c =
           going_at start c.if-is_open.search new c.if-is_open.clause.items more w.search-is (ap (λ v. v.items) w.clause-is)
           (going_on start s new items more w.in_ok-conflict.conflict (λ at. IsLearnable s.variables s.clauses more) (sym w.is_some.ensures ∙ w.if-is_some.false)
           (w.in_ok-conflict.ensures.same refl) w.in_ok-conflict.ensures.led c.loop-literal.invariant)
-      | else-is_open w ↦ going_at start c.if-is_open.search s c.if-is_open.clause.items items w.search-is (ap (λ v. v.items) w.clause-is) c.loop-literal.invariant
+      | else-is_open w ↦ going_at start c.if-is_open.search s c.if-is_open.clause.items items w.search-is (ap (λ v. v.items) w.clause-is)
+          c.loop-literal.invariant
     ]
 
 pub returns-then-is_some-clause-learnable : goal.returns-then-is_some-clause-learnable
@@ -30,4 +32,5 @@ returns-then-is_some-clause-learnable c =
     let s = c.loop-literal.search in
     let more = c.decide.new.clause.items in
     going_learnable c.args.search.now s c.loop-literal.clause.items more c.loop-literal.invariant
-    (led_here c.in_ok-conflict.conflict (Walked c.decide.new.search more) (IsLearnable s.variables s.clauses more) (sym c.is_some.ensures ∙ c.if-is_some.true) c.in_ok-conflict.ensures.led)
+    (led_here c.in_ok-conflict.conflict (Walked c.decide.new.search more) (IsLearnable s.variables s.clauses more)
+    (sym c.is_some.ensures ∙ c.if-is_some.true) c.in_ok-conflict.ensures.led)

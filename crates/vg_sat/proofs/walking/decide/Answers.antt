@@ -9,8 +9,10 @@ step c = record { decision = c.in_ok-decide.ensures; stay = c.propagate.ensures.
 
 pub returns-clause-same : goal.returns-clause-same
 returns-clause-same c =
-    λ ok.
-    (same_variables c.args.search.now c.decide.new.self c.propagate.new.self c.args.decision (step c), same_clauses c.args.search.now c.decide.new.self c.propagate.new.self c.args.decision (step c))
+    λ ok. (
+      same_variables c.args.search.now c.decide.new.self c.propagate.new.self c.args.decision (step c),
+      same_clauses c.args.search.now c.decide.new.self c.propagate.new.self c.args.decision (step c),
+    )
 
 pub returns-clause-led : goal.returns-clause-led
 returns-clause-led c =
@@ -18,7 +20,8 @@ returns-clause-led c =
     let d = c.args.decision in
     let clause = c.args.clause.now.items in
     let items : c.insert.new.self.items ≡ neg_ℤ d ∷ clause = c.in_ok-insert.ensures.items ∙ ap (λ (x : ℤ). x ∷ clause) c.negated.ensures in
-    walk_led c.propagate.result s c.decide.new.self c.propagate.new.self clause c.insert.new.self.items d c.facts.ensures.over c.requires.undecided items (step c) c.propagate.ensures.ends
+    walk_led c.propagate.result s c.decide.new.self c.propagate.new.self clause c.insert.new.self.items d c.facts.ensures.over c.requires.undecided
+    items (step c) c.propagate.ensures.ends
     c.requires.walked
 
 pub returns-clause-level : goal.returns-clause-level

@@ -17,7 +17,8 @@ returns-in_default-clause-led c =
     let new = c.decide_each.new.search in
     let items = c.decide_each.new.clause.items in
     let both : Walked new items × AreAssigned new =
-    subst (λ (o : Option ℕ). MatchOption o (Walked new items × AreAssigned new) (λ at. IsLearnable start.variables start.clauses items × (0 < length new.starts))) c.in_default.is
+    subst (λ (o : Option ℕ). MatchOption o (Walked new items × AreAssigned new) (λ at. IsLearnable start.variables start.clauses items
+    × (0 < length new.starts))) c.in_default.is
     c.in_ok-conflict.ensures.led in
     let same = c.in_ok-conflict.ensures.same refl in
     walk_model start new items c.in_ok-values.values same.0 same.1 c.facts.ensures.over both.1 c.in_ok-values.ensures both.0

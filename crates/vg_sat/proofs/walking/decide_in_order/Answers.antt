@@ -13,7 +13,8 @@ decide-requires-clause-walked c = c.loop-turn.invariant.walked
 pub loop-turn-preserved : goal.loop-turn-preserved
 loop-turn-preserved c =
     let s = c.loop-turn.search in
-    going_on c.args.search.now s c.decide.new.search c.loop-turn.clause.items c.decide.new.clause.items c.in_ok-conflict.conflict (λ at. IsLearnable s.variables s.clauses c.decide.new.clause.items)
+    going_on c.args.search.now s c.decide.new.search c.loop-turn.clause.items c.decide.new.clause.items c.in_ok-conflict.conflict
+    (λ at. IsLearnable s.variables s.clauses c.decide.new.clause.items)
     (sym c.is_some.ensures ∙ c.if-is_some.false) (c.in_ok-conflict.ensures.same refl) c.in_ok-conflict.ensures.led c.loop-turn.invariant
 
 pub returns-then-is_some-clause-same : goal.returns-then-is_some-clause-same

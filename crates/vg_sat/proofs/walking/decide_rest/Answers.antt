@@ -30,15 +30,18 @@ loop-before-preserved c =
           record {
             going =
                 going_at start c.if-is_undecided.search new c.if-is_undecided.clause.items more w.search-is (ap (λ v. v.items) w.clause-is)
-                (going_on start s new items more w.in_ok-conflict.conflict (λ at. IsLearnable s.variables s.clauses more) (sym w.is_some.ensures ∙ w.if-is_some.false)
+                (going_on start s new items more w.in_ok-conflict.conflict (λ at. IsLearnable s.variables s.clauses more)
+                (sym w.is_some.ensures ∙ w.if-is_some.false)
                 (w.in_ok-conflict.ensures.same refl) w.in_ok-conflict.ensures.led c.loop-before.invariant.going);
             assigned =
                 subst (λ x. AreAssignedTo x.trail (n + 1)) (sym w.search-is)
-                (assigned_decided s.trail new.trail d n d_is (w.in_ok-conflict.ensures.kept refl) (w.in_ok-conflict.ensures.decided refl) c.loop-before.invariant.assigned);
+                (assigned_decided s.trail new.trail d n d_is (w.in_ok-conflict.ensures.kept refl) (w.in_ok-conflict.ensures.decided refl)
+                c.loop-before.invariant.assigned);
           }
       | else-is_undecided w ↦
           record {
-            going = going_at start c.if-is_undecided.search s c.if-is_undecided.clause.items items w.search-is (ap (λ v. v.items) w.clause-is) c.loop-before.invariant.going;
+            going = going_at start c.if-is_undecided.search s c.if-is_undecided.clause.items items w.search-is (ap (λ v. v.items) w.clause-is)
+                c.loop-before.invariant.going;
             assigned =
                 subst (λ x. AreAssignedTo x.trail (n + 1)) (sym w.search-is)
                 (assigned_found s.trail d n d_is (c.is_undecided.ensures.decided w.if-is_undecided.false) c.loop-before.invariant.assigned);
@@ -55,12 +58,16 @@ pub returns-then-is_some-clause-led : goal.returns-then-is_some-clause-led
 returns-then-is_some-clause-led c =
     let new = c.decide.new.search in
     let items = c.decide.new.clause.items in
-    going_ends c.args.search.now c.loop-before.search new c.loop-before.clause.items items c.in_ok-conflict.conflict (Walked new items) (Walked new items × AreAssigned new)
+    going_ends c.args.search.now c.loop-before.search new c.loop-before.clause.items items c.in_ok-conflict.conflict (Walked new items)
+    (Walked new items × AreAssigned new)
     (sym c.is_some.ensures ∙ c.if-is_some.true) c.in_ok-conflict.ensures.led (c.in_ok-conflict.ensures.level refl) c.loop-before.invariant.going
 
 pub returns-clause-same : goal.returns-clause-same
 returns-clause-same c = λ ok. (c.loop-before.invariant.going.variables, c.loop-before.invariant.going.clauses)
 
 pub returns-clause-led : goal.returns-clause-led
-returns-clause-led c =
-    (c.loop-before.invariant.going.walked, λ v some inside. c.loop-before.invariant.assigned v some (omega (arith, inside, c.variables-before-end.ensures.count, c.loop-before.invariant.going.variables, c.loop-before-test.false)))
+returns-clause-led c = (
+  c.loop-before.invariant.going.walked,
+  λ v some inside. c.loop-before.invariant.assigned v some
+      (omega (arith, inside, c.variables-before-end.ensures.count, c.loop-before.invariant.going.variables, c.loop-before-test.false)),
+)

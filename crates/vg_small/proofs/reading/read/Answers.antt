@@ -14,5 +14,6 @@ returns-in_err-tests c =
 pub returns : goal.returns
 returns c =
     let is = rw c.value_bound_of-bound.ensures at c.in_ok-tests.ensures in
-    let read = small_of-some c.args.lang c.args.words.now c.in-Some.ports c.in-Some.rest.now (sym c.in-Some.ensures) c.in_ok-tests.tests c.in_ok-tests.last is in
+    let read = small_of-some c.args.lang c.args.words.now c.in-Some.ports c.in-Some.rest.now (sym c.in-Some.ensures) c.in_ok-tests.tests
+    c.in_ok-tests.last is in
     rw c.place.ensures read

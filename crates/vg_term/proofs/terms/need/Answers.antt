@@ -12,7 +12,13 @@ returns-in-Some c =
 pub returns-then-number-ge-MOST_TERMS : goal.returns-then-number-ge-MOST_TERMS
 returns-then-number-ge-MOST_TERMS c =
     let no = absent c.args.nodes.now.entries c.args.node c.args.width (sym c.get_index_of.ensures.index ∙ c.in_default.is) in
-    record { term = tt; either = tt; kept = refl; full = ((λ _. (no, omega (arith, c.requires.most, c.if-number-ge-MOST_TERMS.true, c.len-number.ensures.len))), (λ _. refl)) }
+    record {
+      term = tt;
+      either = tt;
+      kept = refl;
+      full =
+          ((λ _. (no, omega (arith, c.requires.most, c.if-number-ge-MOST_TERMS.true, c.len-number.ensures.len))), (λ _. refl));
+    }
 
 pub returns-in-Ok : goal.returns-in-Ok
 returns-in-Ok c =
@@ -26,5 +32,9 @@ returns-in-Ok c =
       term = ap (λ (es : List Term). slice_get es c.len-number.result) grown ∙ last;
       either = inr (no, grown);
       kept = tt;
-      full = ((λ e. absurd (answered e)), (λ most. let none : ⊥ = omega (arith, most.1, c.if-number-ge-MOST_TERMS.false, c.len-number.ensures.len) in absurd none));
+      full = (
+        (λ e. absurd (answered e)),
+        (λ most. let none : ⊥ = omega (arith, most.1, c.if-number-ge-MOST_TERMS.false, c.len-number.ensures.len) in
+            absurd none),
+      );
     }

@@ -13,5 +13,6 @@ loop-at-preserved c =
       i.1,
       i.2,
       wide,
-      fixed_more c.args.wires.now c.args.from c.loop-at.at (Fixed false) c.is_set-in-loop-at.result c.loop-at.word c.from_bool.result c.concat-word.result (omega (arith, below, i.2)) i.3 c.from_bool.ensures.value c.concat-word.ensures.value c.is_set-in-loop-at.ensures i.4,
+      fixed_more c.args.wires.now c.args.from c.loop-at.at (Fixed false) c.is_set-in-loop-at.result c.loop-at.word c.from_bool.result
+          c.concat-word.result (omega (arith, below, i.2)) i.3 c.from_bool.ensures.value c.concat-word.ensures.value c.is_set-in-loop-at.ensures i.4,
     )

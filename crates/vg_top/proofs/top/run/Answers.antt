@@ -14,7 +14,8 @@ returns-in-Err-clause-exactly g c = exactly_words _ c.in-Err.stop c.in-Err.ensur
 
 pub returns-in-Ok-run_files-clause-answers : goal.returns-in-Ok-run_files-clause-answers
 returns-in-Ok-run_files-clause-answers g c =
-    answers_done _ _ c.in-Ok-run_files.report c.in-Ok.ensures.run c.in-Ok-run_files.ensures.done (rw (c.as_str.ensures.value, c.report_text.ensures) at c.print.ensures.prints)
+    answers_done _ _ c.in-Ok-run_files.report c.in-Ok.ensures.run c.in-Ok-run_files.ensures.done
+    (rw (c.as_str.ensures.value, c.report_text.ensures) at c.print.ensures.prints)
 
 pub returns-in-Ok-run_files-clause-exactly : goal.returns-in-Ok-run_files-clause-exactly
 returns-in-Ok-run_files-clause-exactly g c = exactly_done _ _ c.in-Ok-run_files.report c.in-Ok.ensures.run c.in-Ok-run_files.ensures.done c.print.ensures.prints
@@ -29,7 +30,8 @@ returns-in-Err-run_files-clause-answers g c =
     answers_stopped _ _ c.in-Err-run_files.stop (inr (_, c.in-Ok.ensures.run, c.in-Err-run_files.ensures.stops)) c.refuse-in-Err-run_files.ensures.prints
 
 pub returns-in-Err-run_files-clause-exactly : goal.returns-in-Err-run_files-clause-exactly
-returns-in-Err-run_files-clause-exactly g c = exactly_stopped _ _ c.in-Err-run_files.stop c.in-Ok.ensures.run c.in-Err-run_files.ensures.stops c.refuse-in-Err-run_files.ensures.prints
+returns-in-Err-run_files-clause-exactly g c = exactly_stopped _ _ c.in-Err-run_files.stop c.in-Ok.ensures.run c.in-Err-run_files.ensures.stops
+    c.refuse-in-Err-run_files.ensures.prints
 
 pub returns-in-Err-run_files-clause-outputs : goal.returns-in-Err-run_files-clause-outputs
 returns-in-Err-run_files-clause-outputs g c = outputs_after _ _ c.in-Err-run_files.stop c.in-Ok.ensures.run c.in-Err-run_files.ensures.stops

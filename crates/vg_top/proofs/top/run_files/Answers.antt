@@ -15,7 +15,8 @@ returns-in-Ok g c =
     record {
       held = held_after _ c.in_ok-functions.functions c.in_ok-functions.ensures replays;
       ids = ids_after _ c.in_ok-functions.functions c.in_ok-functions.ensures replays;
-      done = replay_done _ c.in_ok-functions.functions c.in_ok-functions.ensures report c.path_count-paths.ensures c.most_steps-steps.ensures replays.others replays.done;
+      done = replay_done _ c.in_ok-functions.functions c.in_ok-functions.ensures report c.path_count-paths.ensures c.most_steps-steps.ensures
+          replays.others replays.done;
       stops = tt;
     }
 

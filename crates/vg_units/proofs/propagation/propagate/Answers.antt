@@ -9,11 +9,13 @@ loop-at-init c = record { advances = advances_refl c.args.watches.now c.args.tra
 
 pub returns-in_err-conflict-clause-advances : goal.returns-in_err-conflict-clause-advances
 returns-in_err-conflict-clause-advances c =
-    advances_trans c.args.watches.now c.loop-at.watches c.settle.new.watches c.args.trail.now c.loop-at.trail c.settle.new.trail c.loop-at.invariant.advances c.settle.ensures.advances
+    advances_trans c.args.watches.now c.loop-at.watches c.settle.new.watches c.args.trail.now c.loop-at.trail c.settle.new.trail
+    c.loop-at.invariant.advances c.settle.ensures.advances
 
 pub returns-then-is_some-clause-advances : goal.returns-then-is_some-clause-advances
 returns-then-is_some-clause-advances c =
-    advances_trans c.args.watches.now c.loop-at.watches c.settle.new.watches c.args.trail.now c.loop-at.trail c.settle.new.trail c.loop-at.invariant.advances c.settle.ensures.advances
+    advances_trans c.args.watches.now c.loop-at.watches c.settle.new.watches c.args.trail.now c.loop-at.trail c.settle.new.trail
+    c.loop-at.invariant.advances c.settle.ensures.advances
 
 pub loop-at-preserved : goal.loop-at-preserved
 loop-at-preserved c =
@@ -27,7 +29,8 @@ loop-at-preserved c =
           advances_trans c.args.watches.now c.loop-at.watches w c.args.trail.now c.loop-at.trail t c.loop-at.invariant.advances c.settle.ensures.advances;
       within = omega (arith, longer, inside, count);
       watched =
-          ends_watched w t.literals (take (c.loop-at.at + 1) t.literals) c.in_ok-conflict.conflict (sym c.is_some.ensures ∙ c.if-is_some.false) c.in_ok-conflict.ensures.ends;
+          ends_watched w t.literals (take (c.loop-at.at + 1) t.literals) c.in_ok-conflict.conflict (sym c.is_some.ensures ∙ c.if-is_some.false)
+          c.in_ok-conflict.ensures.ends;
     }
 
 pub returns-clause-ends : goal.returns-clause-ends

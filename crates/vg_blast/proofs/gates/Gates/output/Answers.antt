@@ -6,7 +6,8 @@ use Rattle.vg_blast.proofs.gates.Gates.output.Goals as goal
 
 pub returns-in-Some : goal.returns-in-Some
 returns-in-Some c =
-    let is = looked_up c.self.inside.net c.args.gate c.in-Some.out c.self.inside.outputs.entries c.self.invariant.1 (sym c.get.ensures.value ∙ sym c.copied.ensures ∙ c.in-Some.is) in
+    let is = looked_up c.self.inside.net c.args.gate c.in-Some.out c.self.inside.outputs.entries c.self.invariant.1
+    (sym c.get.ensures.value ∙ sym c.copied.ensures ∙ c.in-Some.is) in
     subst (λ set. MakesBit set set 12 c.in-Some.out (λ v. gate_value v c.args.gate)) c.self.view_is (standing c.self.inside.net c.args.gate c.in-Some.out is)
 
 pub invariant_of-self-2 : goal.invariant_of-self-2

@@ -7,7 +7,8 @@ use Rattle.vg_blast.proofs.terms.Circuit.of_terms.Goals as goal
 pub loop-at-init : goal.loop-at-init
 loop-at-init c =
     let one : literals c.in_ok-circuit.circuit.gates ≡ 1 = ap literals c.in_ok-circuit.ensures.gates in (
-      first_state c.args.terms.now c.args.marks.now c.in_ok-circuit.circuit.gates c.in_ok-circuit.circuit.lists c.in_ok-circuit.circuit.names.items c.in_ok-circuit.ensures.gates c.in_ok-circuit.ensures.lists c.in_ok-circuit.ensures.names,
+      first_state c.args.terms.now c.args.marks.now c.in_ok-circuit.circuit.gates c.in_ok-circuit.circuit.lists c.in_ok-circuit.circuit.names.items
+          c.in_ok-circuit.ensures.gates c.in_ok-circuit.ensures.lists c.in_ok-circuit.ensures.names,
       omega (arith, one),
     )
 
@@ -27,4 +28,5 @@ returns-then-literal_count-gt-MOST_LITERALS-clause-refused c = λ _.
 pub returns-clause-state : goal.returns-clause-state
 returns-clause-state c =
     let e : c.loop-at.at ≡ length c.args.terms.now = omega (arith, c.loop-at-test.false, c.loop-at.auto.at-end, c.len-at-end.ensures.len) in
-    subst (λ n. IsState c.args.terms.now c.args.marks.now n c.loop-at.circuit.gates c.loop-at.circuit.lists c.loop-at.circuit.names.items) e c.loop-at.invariant.0
+    subst (λ n. IsState c.args.terms.now c.args.marks.now n c.loop-at.circuit.gates c.loop-at.circuit.lists c.loop-at.circuit.names.items) e
+    c.loop-at.invariant.0

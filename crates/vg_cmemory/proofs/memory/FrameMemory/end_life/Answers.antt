@@ -8,7 +8,14 @@ pub returns-then-node-len-clause-value : goal.returns-then-node-len-clause-value
 returns-then-node-len-clause-value c =
     let within : c.args.node < length c.self.inside.local_list.items = omega arith in
     rw (← c.self.view_is)
-    (ap (λ (slots : List Slot). record { slots = slots; chunks = c.self.inside.chunk_list.items; lent = c.self.inside.next; steps = c.self.inside.taken; born = c.self.inside.next_object })
+    (ap (λ (slots : List Slot). record {
+      slots = slots;
+      chunks = c.self.inside.chunk_list.items;
+      lent = c.self.inside.next;
+      steps =
+          c.self.inside.taken;
+      born = c.self.inside.next_object;
+    })
     (changed _ _ _ _ _ (ended) within c.index_mut.ensures.value c.end.ensures.value))
 
 pub returns-then-node-len-clause-sizes : goal.returns-then-node-len-clause-sizes

@@ -14,5 +14,6 @@ returns-then-not-makes_true c =
 
 pub loop-at-preserved : goal.loop-at-preserved
 loop-at-preserved c =
-    true_so_far c.args.values.now c.args.self.now.clauses c.loop-at.at c.get.result.now (makes_all_true c.args.values.now c.args.self.now.clauses) c.get.ensures.clause
+    true_so_far c.args.values.now c.args.self.now.clauses c.loop-at.at c.get.result.now (makes_all_true c.args.values.now c.args.self.now.clauses)
+    c.get.ensures.clause
     (sym c.makes_true.ensures ∙ c.if-not-makes_true.false) c.loop-at.invariant

@@ -53,7 +53,8 @@ abbrev pub decreases-postfix-loop-self : goal.decreases-postfix-loop-self
 decreases-postfix-loop-self l = length l.src.toks.now - l.self.at
 
 abbrev pub invariant-arguments-loop-self : goal.invariant-arguments-loop-self
-invariant-arguments-loop-self l = Listing l.src (is_sign signs.Comma) (sign signs.Comma ⊳ Inner Expression) l.parts.items l.self (reads l.fn.src arguments l.fn.self)
+invariant-arguments-loop-self l = Listing l.src (is_sign signs.Comma) (sign signs.Comma ⊳ Inner Expression) l.parts.items l.self
+    (reads l.fn.src arguments l.fn.self)
 
 abbrev pub decreases-arguments-loop-self : goal.decreases-arguments-loop-self
 decreases-arguments-loop-self l = length l.src.toks.now - l.self.at

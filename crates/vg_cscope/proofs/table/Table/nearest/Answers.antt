@@ -10,7 +10,8 @@ loop-height-init c =
     let heads = c.args.self.now.heads.items in
     let at : c.bucket.result ≡ tables.bucket (length heads) (names.spelling c.args.walk.now.text.now c.args.name) = search rules in
     let below : c.bucket.result < length heads = search rules in
-    let r = begin (walked c.args.walk.now) c.args.wanted c.args.name c.requires.name c.args.self.now.stack.items heads c.requires.table c.bucket.result c.index-height.result.now at below c.index-height.ensures in
+    let r = begin (walked c.args.walk.now) c.args.wanted c.args.name c.requires.name c.args.self.now.stack.items heads c.requires.table
+    c.bucket.result c.index-height.result.now at below c.index-height.ensures in
     record { within = r.0; head = r.1; same = r.2 }
 
 pub returns-then-is_wanted : goal.returns-then-is_wanted

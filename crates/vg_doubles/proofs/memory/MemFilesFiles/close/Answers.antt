@@ -36,7 +36,8 @@ invariant_of-self-else-reads c =
 
 pub returns-then-not-fails-clause-closes : goal.returns-then-not-fails-clause-closes
 returns-then-not-fails-clause-closes c =
-    let closes = closes-page c.args.self.now.held.items c.args.self.now.pages.items c.close_page-reads.new.pages.items c.args.id c.close_page-reads.ensures.now c.requires in
+    let closes = closes-page c.args.self.now.held.items c.args.self.now.pages.items c.close_page-reads.new.pages.items c.args.id
+    c.close_page-reads.ensures.now c.requires in
     record {
       of_read = λ is. (record { failed = tt; same = refl; rises = omega arith }, refl);
       of_write = λ is. (record { failed = tt; same = refl; rises = omega arith }, refl);
@@ -48,14 +49,17 @@ returns-then-not-fails-clause-closes c =
 
 pub returns-then-not-fails-clause-left : goal.returns-then-not-fails-clause-left
 returns-then-not-fails-clause-left c =
-    (closes-page c.args.self.now.held.items c.args.self.now.pages.items c.close_page-reads.new.pages.items c.args.id c.close_page-reads.ensures.now c.requires).free_pages
+    (closes-page c.args.self.now.held.items c.args.self.now.pages.items c.close_page-reads.new.pages.items c.args.id c.close_page-reads.ensures.now
+    c.requires).free_pages
 
 pub returns-then-reads-clause-closes : goal.returns-then-reads-clause-closes
 returns-then-reads-clause-closes c =
-    let closes = closes-page c.args.self.now.held.items c.args.self.now.pages.items c.close_page-reads.new.pages.items c.args.id c.close_page-reads.ensures.now c.requires in
+    let closes = closes-page c.args.self.now.held.items c.args.self.now.pages.items c.close_page-reads.new.pages.items c.args.id
+    c.close_page-reads.ensures.now c.requires in
     record {
       of_read = λ is. (record { failed = omega (arith, c.saturating_add-self.ensures); same = tt; rises = omega (arith, c.saturating_add-self.ensures) }, refl);
-      of_write = λ is. absurd (true≢false (c.if-reads.ensures.reads ∙ ap is_reading (writer-writing c.args.self.now.held.items c.args.self.now.pages.items c.args.id is)));
+      of_write = λ is. absurd (true≢false
+          (c.if-reads.ensures.reads ∙ ap is_reading (writer-writing c.args.self.now.held.items c.args.self.now.pages.items c.args.id is)));
       read_faults = refl;
       held = record { tells_held = refl; held = refl; tells_made = refl };
       made = closes.made;
@@ -64,14 +68,24 @@ returns-then-reads-clause-closes c =
 
 pub returns-then-reads-clause-left : goal.returns-then-reads-clause-left
 returns-then-reads-clause-left c =
-    (closes-page c.args.self.now.held.items c.args.self.now.pages.items c.close_page-reads.new.pages.items c.args.id c.close_page-reads.ensures.now c.requires).free_pages
+    (closes-page c.args.self.now.held.items c.args.self.now.pages.items c.close_page-reads.new.pages.items c.args.id c.close_page-reads.ensures.now
+    c.requires).free_pages
 
 pub returns-else-reads-clause-closes : goal.returns-else-reads-clause-closes
 returns-else-reads-clause-closes c =
-    let closes = closes-page c.args.self.now.held.items c.args.self.now.pages.items c.close_page-reads.new.pages.items c.args.id c.close_page-reads.ensures.now c.requires in
+    let closes = closes-page c.args.self.now.held.items c.args.self.now.pages.items c.close_page-reads.new.pages.items c.args.id
+    c.close_page-reads.ensures.now c.requires in
     record {
       of_read = λ is. absurd (false≢true (c.if-reads.ensures.reads ∙ reader-reading c.args.self.now.held.items c.args.self.now.pages.items c.args.id is));
-      of_write = λ is. (record { failed = omega (arith, c.saturating_add-self-else-reads.ensures); same = tt; rises = omega (arith, c.saturating_add-self-else-reads.ensures) }, refl);
+      of_write = λ is. (
+        record {
+          failed = omega (arith, c.saturating_add-self-else-reads.ensures);
+          same = tt;
+          rises =
+              omega (arith, c.saturating_add-self-else-reads.ensures);
+        },
+        refl,
+      );
       read_faults = refl;
       held = record { tells_held = refl; held = refl; tells_made = refl };
       made = closes.made;
@@ -80,4 +94,5 @@ returns-else-reads-clause-closes c =
 
 pub returns-else-reads-clause-left : goal.returns-else-reads-clause-left
 returns-else-reads-clause-left c =
-    (closes-page c.args.self.now.held.items c.args.self.now.pages.items c.close_page-reads.new.pages.items c.args.id c.close_page-reads.ensures.now c.requires).free_pages
+    (closes-page c.args.self.now.held.items c.args.self.now.pages.items c.close_page-reads.new.pages.items c.args.id c.close_page-reads.ensures.now
+    c.requires).free_pages

@@ -1,9 +1,14 @@
 use Rattle.std.proofs.Common.{refl, arith}
-use Rattle.vg_doubles.proofs.PageCalls.{reader-reading, reader-within, reads-bytes, reads-place, reads-open, reads-others, reads-open_pages, reads-free_pages, reads-made, reads-memory, reads-readable, reads-count}
+use Rattle.vg_doubles.proofs.PageCalls.{reader-reading, reader-within, reads-bytes, reads-place, reads-open, reads-others, reads-open_pages}
+use Rattle.vg_doubles.proofs.PageCalls.{reads-free_pages, reads-made, reads-memory, reads-readable, reads-count}
 use Rattle.vg_doubles.proofs.memory.MemFilesFiles.read.Goals as goal
 
 pub read_on-requires-clause-within : goal.read_on-requires-clause-within
-read_on-requires-clause-within c = omega (arith, reader-within c.args.self.now.held.items c.args.self.now.pages.items c.args.id c.requires, c.args.self.now.pages.ok.0)
+read_on-requires-clause-within c = omega (
+  arith,
+  reader-within c.args.self.now.held.items c.args.self.now.pages.items c.args.id c.requires,
+  c.args.self.now.pages.ok.0,
+)
 
 pub read_on-requires-clause-reads : goal.read_on-requires-clause-reads
 read_on-requires-clause-reads c = reader-reading c.args.self.now.held.items c.args.self.now.pages.items c.args.id c.requires

@@ -18,5 +18,7 @@ returns-in-Leaf-entry_of-clause-answer g c =
 pub returns-clause-answer : goal.returns-clause-answer
 returns-clause-answer g c =
     subst (λ (routes : List Route). IsLongestMatch routes c.args.address c.in-Leaf-entry_of-2.value) c.self.view_is
-    (ends_third c.args.address c.get.result c.in-Link.block c.place.result c.get-2.result c.in-Link-entry_of.block c.place-2.result c.get-3.result c.in-Leaf-entry_of-2.value c.self.invariant c.ranges.address.fits
-    c.get.ensures.value c.in-Link.ensures c.place.ensures c.get-2.ensures.value c.in-Link-entry_of.ensures c.place-2.ensures c.get-3.ensures.value c.in-Leaf-entry_of-2.ensures)
+    (ends_third c.args.address c.get.result c.in-Link.block c.place.result c.get-2.result c.in-Link-entry_of.block c.place-2.result c.get-3.result
+    c.in-Leaf-entry_of-2.value c.self.invariant c.ranges.address.fits
+    c.get.ensures.value c.in-Link.ensures c.place.ensures c.get-2.ensures.value c.in-Link-entry_of.ensures c.place-2.ensures c.get-3.ensures.value
+    c.in-Leaf-entry_of-2.ensures)

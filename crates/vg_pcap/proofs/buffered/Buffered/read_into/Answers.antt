@@ -17,7 +17,8 @@ returns-then-n-eq0 g c =
           Gives-more _ c.loop-done.done (omega (arith, c.if-n-eq0.true)) before.within read.within first more;
       end = λ told bytes is few.
           let first = before.gives told bytes is in
-          given_all bytes first.within (read.end (told_before before.stays.keeps told) _ first.after c.if-n-eq0.true (omega (arith, c.read_some.auto.into, length-part c.loop-done.done c.loop-done.into before.within)));
+          given_all bytes first.within (read.end (told_before before.stays.keeps told) _ first.after c.if-n-eq0.true
+          (omega (arith, c.read_some.auto.into, length-part c.loop-done.done c.loop-done.into before.within)));
     }
 
 pub loop-done-preserved : goal.loop-done-preserved

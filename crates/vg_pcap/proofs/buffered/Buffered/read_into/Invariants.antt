@@ -8,7 +8,8 @@ invariant-loop-done g l = record {
   within : l.done ≤ length l.into;
   read_faults : (g.F.Files.disk l.files).read_faults ≡ (g.F.Files.disk l.initial.files).read_faults;
   stays : Stays (g.F.Files.disk l.initial.files) (g.F.Files.disk l.files) l.initial.self l.self;
-  gives : IsTrue (g.F.Files.disk l.initial.files).tells_held → (bytes : List ℕ) → IsBefore (g.F.Files.disk l.initial.files) l.initial.self.id l.initial.self.ahead bytes →
+  gives : IsTrue (g.F.Files.disk l.initial.files).tells_held → (bytes : List ℕ) → IsBefore (g.F.Files.disk l.initial.files) l.initial.self.id
+      l.initial.self.ahead bytes →
       Gives (g.F.Files.disk l.files) l.self l.done l.into bytes;
 }
 

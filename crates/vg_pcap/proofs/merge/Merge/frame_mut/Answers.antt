@@ -8,7 +8,8 @@ invariant_of-self-lent c w =
     let items = c.self.inside.inputs.items in
     let next = (rw (← c.self.view_is) at c.requires).1 in
     let lt : c.args.port < length items = slice_get_within items c.args.port next.input next.at in
-    let at : slice_get items c.args.port ≡ Some c.index_mut-next.result.now = slice_get_read items (length items) c.args.port c.index_mut-next.result.now refl lt c.index_mut-next.ensures.value in
+    let at : slice_get items c.args.port ≡ Some c.index_mut-next.result.now = slice_get_read items (length items) c.args.port
+    c.index_mut-next.result.now refl lt c.index_mut-next.ensures.value in
     inputs-written c.index_mut-next.result.now w lt at c.self.invariant
 
 pub returns : goal.returns

@@ -14,34 +14,43 @@ loop-port-init g c = rw c.new-inputs.ensures.items (opening-none (g.F.Files.disk
 pub open_port-requires : goal.open_port-requires
 open_port-requires g c =
     let names = map (string_bytes {Z = Global}) c.args.ins.now in
-    let long : length c.loop-port.inputs.items ≡ min c.loop-port.port (length names) = c.loop-port.invariant.starts.ports ∙ length-take c.loop-port.port names in
+    let long : length c.loop-port.inputs.items ≡ min c.loop-port.port (length names) = c.loop-port.invariant.starts.ports
+    ∙ length-take c.loop-port.port names in
     omega (arith, c.requires, c.loop-port.invariant.starts.opens.0.count, few_ids c.loop-port.inputs.items)
 
 pub close_all-requires-clause-readable : goal.close_all-requires-clause-readable
-close_all-requires-clause-readable g c = (opening-stands c.as_str.result.now c.open_port.new.inputs.items c.in-Err.fault c.loop-port.invariant c.in-Err.ensures).0
+close_all-requires-clause-readable g c =
+    (opening-stands c.as_str.result.now c.open_port.new.inputs.items c.in-Err.fault c.loop-port.invariant c.in-Err.ensures).0
 
 pub close_all-requires-clause-apart : goal.close_all-requires-clause-apart
 close_all-requires-clause-apart g c = (opening-stands c.as_str.result.now c.open_port.new.inputs.items c.in-Err.fault c.loop-port.invariant c.in-Err.ensures).1
 
 pub returns-in-Err : goal.returns-in-Err
 returns-in-Err g c =
-    let lt : c.loop-port.port < length (map (string_bytes {Z = Global}) c.args.ins.now) = omega (arith, length-map c.args.ins.now (string_bytes {Z = Global})) in
-    let is = name_at c.args.ins.now c.loop-port.port c.index-ins-port.result c.as_str.result.now c.loop-port-test.true c.index-ins-port.is c.as_str.ensures.value in
+    let lt : c.loop-port.port < length (map (string_bytes {Z = Global}) c.args.ins.now) = omega
+    (arith, length-map c.args.ins.now (string_bytes {Z = Global})) in
+    let is = name_at c.args.ins.now c.loop-port.port c.index-ins-port.result c.as_str.result.now c.loop-port-test.true c.index-ins-port.is
+    c.as_str.ensures.value in
     opening-stops c.as_str.result.now c.in-Err.fault lt is c.loop-port.invariant c.in-Err.ensures c.close_all.ensures
 
 pub loop-port-preserved : goal.loop-port-preserved
 loop-port-preserved g c =
-    let lt : c.loop-port.port < length (map (string_bytes {Z = Global}) c.args.ins.now) = omega (arith, length-map c.args.ins.now (string_bytes {Z = Global})) in
-    let is = name_at c.args.ins.now c.loop-port.port c.index-ins-port.result c.as_str.result.now c.loop-port-test.true c.index-ins-port.is c.as_str.ensures.value in
-    opening-next (map (string_bytes {Z = Global}) c.args.ins.now) c.loop-port.port c.as_str.result.now c.open_port.new.inputs.items lt is c.loop-port.invariant c.in_default.ensures
+    let lt : c.loop-port.port < length (map (string_bytes {Z = Global}) c.args.ins.now) = omega
+    (arith, length-map c.args.ins.now (string_bytes {Z = Global})) in
+    let is = name_at c.args.ins.now c.loop-port.port c.index-ins-port.result c.as_str.result.now c.loop-port-test.true c.index-ins-port.is
+    c.as_str.ensures.value in
+    opening-next (map (string_bytes {Z = Global}) c.args.ins.now) c.loop-port.port c.as_str.result.now c.open_port.new.inputs.items lt is
+    c.loop-port.invariant c.in_default.ensures
 
 pub invariant_of-result : goal.invariant_of-result
 invariant_of-result g c =
-    let all : length (map (string_bytes {Z = Global}) c.args.ins.now) ≤ c.loop-port.port = omega (arith, length-map c.args.ins.now (string_bytes {Z = Global})) in
+    let all : length (map (string_bytes {Z = Global}) c.args.ins.now) ≤ c.loop-port.port =
+    omega (arith, length-map c.args.ins.now (string_bytes {Z = Global})) in
     let few : length (map (string_bytes {Z = Global}) c.args.ins.now) ≤ 64 = omega (arith, c.requires, length-map c.args.ins.now (string_bytes {Z = Global})) in
     opened_inputs few (opening-all all c.loop-port.invariant)
 
 pub returns : goal.returns
 returns g c =
-    let all : length (map (string_bytes {Z = Global}) c.args.ins.now) ≤ c.loop-port.port = omega (arith, length-map c.args.ins.now (string_bytes {Z = Global})) in
+    let all : length (map (string_bytes {Z = Global}) c.args.ins.now) ≤ c.loop-port.port =
+    omega (arith, length-map c.args.ins.now (string_bytes {Z = Global})) in
     (opening-all all c.loop-port.invariant).starts

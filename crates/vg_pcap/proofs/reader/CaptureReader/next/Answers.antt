@@ -18,4 +18,5 @@ returns g c =
     let room : length c.take_record.new.frame ≡ vec_len frame = c.take_record.auto.frame ∙ c.as_mut_slice-frame.ensures.len in
     let time = c.max-time.ensures ∙ ap (max c.self.inside.latest) c.time.ensures in
     let takes = rw c.in-Some.is at c.in_ok-found.ensures in
-    rw (← c.self.view_is) (reads_record _ _ _ _ _ _ c.in-Some.head takes c.saturating_add-number.ensures time (with_items_is frame c.take_record.new.frame room) c.self.invariant.0 (room ∙ c.self.invariant.1))
+    rw (← c.self.view_is) (reads_record _ _ _ _ _ _ c.in-Some.head takes c.saturating_add-number.ensures time
+    (with_items_is frame c.take_record.new.frame room) c.self.invariant.0 (room ∙ c.self.invariant.1))

@@ -19,7 +19,8 @@ pub returns-in-Ok-take_header : goal.returns-in-Ok-take_header
 returns-in-Ok-take_header g c =
     let at = c.at_start-in-Ok-take_header.ensures in
     let other : c.args.name.now ≢ codes "-" = λ is. false≢true (c.if-eq.ensures ∙ (bytes_eq-Decides c.args.name.now (codes "-")).1 is) in
-    starts_file c.at_start-in-Ok-take_header.result other c.in-Ok-open_read.ensures c.new-source.ensures.id c.new-source.ensures.ahead c.in-Ok-take_header.ensures (record {
+    starts_file c.at_start-in-Ok-take_header.result other c.in-Ok-open_read.ensures c.new-source.ensures.id c.new-source.ensures.ahead
+    c.in-Ok-take_header.ensures (record {
       id = at.source.0;
       ahead = at.source.1;
       encoding_is = at.encoding;

@@ -16,5 +16,7 @@ returns-clause-writes g c =
     let here = c.split_at.result.0.now in
     let rest = c.split_at.result.1.now in
     rw (← c.self.view_is)
-    (put_both c.args.time c.args.original c.args.frame.now here rest _ c.put_all-2.result (in_two _ c.args.frame.now here rest c.split_at.ensures.front c.split_at.ensures.back)
-    (first_piece _ _ here c.fill_head.new.bytes c.copy_from_slice.new.self _ c.fill_head.ensures c.copy_from_slice.ensures.after) c.in_ok-put_all.ensures c.put_all-2.ensures)
+    (put_both c.args.time c.args.original c.args.frame.now here rest _ c.put_all-2.result (in_two _ c.args.frame.now here rest
+    c.split_at.ensures.front c.split_at.ensures.back)
+    (first_piece _ _ here c.fill_head.new.bytes c.copy_from_slice.new.self _ c.fill_head.ensures c.copy_from_slice.ensures.after)
+    c.in_ok-put_all.ensures c.put_all-2.ensures)

@@ -8,7 +8,8 @@ use Rattle.vg_plain.proofs.link.PlainLink.cell.Goals as goal
 
 pub cell-requires : goal.cell-requires
 cell-requires c =
-    let below = lent_inside c.self.inside.cells.lent c.args.index (subst (λ (s : LinkState). unwrap_or (slice_get s.lent c.args.index) false ≡ true) (sym c.self.view_is) c.requires) in
+    let below = lent_inside c.self.inside.cells.lent c.args.index (subst (λ (s : LinkState). unwrap_or (slice_get s.lent c.args.index) false ≡ true)
+    (sym c.self.view_is) c.requires) in
     omega (arith, below, c.self.invariant.loans, c.self.invariant.cells)
 
 pub returns : goal.returns

@@ -15,7 +15,8 @@ overflow_sub-self c =
 pub invariant_of-self : goal.invariant_of-self
 invariant_of-self c =
     let some = subst (λ (s : LinkState). IsSome (joined (get s.link.keys c.args.key.now))) (sym c.self.view_is) c.requires in
-    let fewer : suc (used c.clear_key.new.indices.items) ≤ used c.self.inside.indices.items = rw c.clear_key.ensures (cleared_one c.self.inside.indices.items c.self.inside.keys.cells c.args.key.now some) in
+    let fewer : suc (used c.clear_key.new.indices.items) ≤ used c.self.inside.indices.items =
+    rw c.clear_key.ensures (cleared_one c.self.inside.indices.items c.self.inside.keys.cells c.args.key.now some) in
     record {
       few = c.self.invariant.few;
       slots = ap length c.clear_key.ensures ∙ length_cleared c.self.inside.indices.items c.self.inside.keys.cells c.args.key.now ∙ c.self.invariant.slots;

@@ -8,14 +8,16 @@ use Rattle.vg_plain.proofs.ExpiredLinks.{early_entries, used_kept, expired_table
 use Rattle.vg_plain.proofs.link.PlainLink.expire.Goals as goal
 
 pub expire_places-freed-requires-clause-tied : goal.expire_places-freed-requires-clause-tied
-expire_places-freed-requires-clause-tied c = tied_lists c.self.inside.indices.items c.self.inside.keys.cells c.self.inside.times.items c.self.inside.cells.cells (subst (λ (s : LinkState). IsKeyed s.link) (sym c.self.view_is) c.requires)
+expire_places-freed-requires-clause-tied c = tied_lists c.self.inside.indices.items c.self.inside.keys.cells c.self.inside.times.items
+    c.self.inside.cells.cells (subst (λ (s : LinkState). IsKeyed s.link) (sym c.self.view_is) c.requires)
 
 pub overflow_sub-self-2 : goal.overflow_sub-self-2
 overflow_sub-self-2 c = omega (arith, used_kept c.args.before c.self.inside.times.items, c.expire_places-freed.ensures.freed, c.self.invariant.allocated)
 
 pub invariant_of-self : goal.invariant_of-self
 invariant_of-self c =
-    let kept : used c.expire_places-freed.new.times.items ≡ used (map (kept_time c.args.before) c.self.inside.times.items) = ap (λ (ts : List (Option ℕ)). used ts) c.expire_places-freed.ensures.times in
+    let kept : used c.expire_places-freed.new.times.items ≡ used (map (kept_time c.args.before) c.self.inside.times.items) =
+    ap (λ (ts : List (Option ℕ)). used ts) c.expire_places-freed.ensures.times in
     record {
       few = c.self.invariant.few;
       slots = omega (arith, c.expire_places-freed.ensures.slots, c.self.invariant.slots);
@@ -35,9 +37,11 @@ returns-clause-freed c = rw (← c.self.view_is) (ap Some (c.expire_places-freed
 
 pub returns-clause-expired : goal.returns-clause-expired
 returns-clause-expired c =
-    let tied = tied_lists c.self.inside.indices.items c.self.inside.keys.cells c.self.inside.times.items c.self.inside.cells.cells (subst (λ (s : LinkState). IsKeyed s.link) (sym c.self.view_is) c.requires) in
+    let tied = tied_lists c.self.inside.indices.items c.self.inside.keys.cells c.self.inside.times.items c.self.inside.cells.cells
+    (subst (λ (s : LinkState). IsKeyed s.link) (sym c.self.view_is) c.requires) in
     rw (← c.self.view_is) (rw (
       c.expire_places-freed.ensures.times,
       expired_table (seen_link c.self.inside).link c.args.before c.self.inside.times.items refl (sym c.self.invariant.places),
-      expired_keys_are (seen_link c.self.inside).link c.args.before c.self.inside.indices.items c.expire_places-freed.new.indices.items c.self.inside.keys.cells c.self.inside.times.items c.self.inside.cells.cells tied refl refl c.expire_places-freed.ensures.keys,
+      expired_keys_are (seen_link c.self.inside).link c.args.before c.self.inside.indices.items c.expire_places-freed.new.indices.items
+          c.self.inside.keys.cells c.self.inside.times.items c.self.inside.cells.cells tied refl refl c.expire_places-freed.ensures.keys,
     ) refl)

@@ -27,4 +27,11 @@ pub returns : goal.returns
 returns c =
     let slots : c.in_ok-vec.field-0.items ≡ replicate c.args.capacity None = search rules in
     let places : c.in_ok-vec-2.field-0.items ≡ replicate c.args.capacity None = search rules in
-    rw (no_keys c.in_ok-vec.field-0.items c.args.capacity c.in_ok-new.field-0.cells slots, ap (λ (xs : List (Option ℕ)). time_table_of xs) places, c.in_ok-new-2.ensures.zeros, c.in_ok-new-2.ensures.free, all_free c.args.capacity, zeros c.args.capacity c.args.key_length) refl
+    rw (
+      no_keys c.in_ok-vec.field-0.items c.args.capacity c.in_ok-new.field-0.cells slots,
+      ap (λ (xs : List (Option ℕ)). time_table_of xs) places,
+      c.in_ok-new-2.ensures.zeros,
+      c.in_ok-new-2.ensures.free,
+      all_free c.args.capacity,
+      zeros c.args.capacity c.args.key_length,
+    ) refl

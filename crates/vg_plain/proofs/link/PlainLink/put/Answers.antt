@@ -10,7 +10,8 @@ use Rattle.vg_plain.proofs.link.PlainLink.put.Goals as goal
 
 pub invariant_of-self : goal.invariant_of-self
 invariant_of-self c =
-    let free : slice_get c.self.inside.indices.items c.in-Some.i ≡ Some None = subst (λ (places : List (Option ℕ)). slice_get places c.in-Some.i ≡ Some None) c.deref.ensures.value c.in-Some.ensures.free in
+    let free : slice_get c.self.inside.indices.items c.in-Some.i ≡ Some None =
+    subst (λ (places : List (Option ℕ)). slice_get places c.in-Some.i ≡ Some None) c.deref.ensures.value c.in-Some.ensures.free in
     let room : c.self.inside.size < c.self.inside.capacity = subst (λ (s : LinkState). s.link.size < s.link.capacity) (sym c.self.view_is) c.requires.room in
     record {
       few = c.self.invariant.few;
@@ -28,10 +29,13 @@ invariant_of-self c =
 
 pub returns-in-Some : goal.returns-in-Some
 returns-in-Some c =
-    let free : slice_get c.self.inside.indices.items c.in-Some.i ≡ Some None = subst (λ (places : List (Option ℕ)). slice_get places c.in-Some.i ≡ Some None) c.deref.ensures.value c.in-Some.ensures.free in
-    let absent = none_listed c.self.inside.indices.items c.self.inside.keys.cells c.args.key.now (subst (λ (s : LinkState). joined (get s.link.keys c.args.key.now) ≡ None) (sym c.self.view_is) c.requires.absent) in
+    let free : slice_get c.self.inside.indices.items c.in-Some.i ≡ Some None =
+    subst (λ (places : List (Option ℕ)). slice_get places c.in-Some.i ≡ Some None) c.deref.ensures.value c.in-Some.ensures.free in
+    let absent = none_listed c.self.inside.indices.items c.self.inside.keys.cells c.args.key.now
+    (subst (λ (s : LinkState). joined (get s.link.keys c.args.key.now) ≡ None) (sym c.self.view_is) c.requires.absent) in
     let inside = slice_get_within c.self.inside.indices.items c.in-Some.i None free in
     rw (← c.self.view_is) (rw (
       c.fill_cell.ensures,
-      put_in c.self.inside.indices.items c.self.inside.keys.cells c.args.key.now c.in-Some.i c.args.index free (omega (arith, inside, c.self.invariant.slots, c.self.invariant.keys)) absent,
+      put_in c.self.inside.indices.items c.self.inside.keys.cells c.args.key.now c.in-Some.i c.args.index free
+          (omega (arith, inside, c.self.invariant.slots, c.self.invariant.keys)) absent,
     ) refl)

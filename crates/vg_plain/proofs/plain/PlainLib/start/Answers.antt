@@ -11,7 +11,8 @@ pub begin-requires : goal.begin-requires
 begin-requires c =
     let declared = c.objects.ensures ∙ ap (λ s. s.objects) c.shape.ensures in
     let place : c.len.result ≡ c.loop-object.object-index = omega (arith, c.len.ensures, c.loop-object.invariant.counted, c.loop-object.objects.ok.0) in
-    rw (c.shape-in-loop-object.ensures, declared, place) (begins_at c.args.spec.now c.args.config.now c.deref-object-items.result.now c.loop-object.object-index _ c.object-item.result
+    rw (c.shape-in-loop-object.ensures, declared, place) (begins_at c.args.spec.now c.args.config.now c.deref-object-items.result.now
+    c.loop-object.object-index _ c.object-item.result
     c.an_opening_state_is_lawful.ensures c.requires c.loop-object.invariant.items c.loop-object-test.true c.object-item.is)
 
 pub loop-object-preserved : goal.loop-object-preserved
@@ -20,9 +21,12 @@ loop-object-preserved c =
     record {
       items = c.loop-object.invariant.items;
       counted = ap length items ∙ length-append c.loop-object.objects.items (c.in_ok-begin.field-0 ∷ []) ∙ ap (λ n. n + 1) c.loop-object.invariant.counted;
-      made = subst (λ (xs : List PlainObject). map object_of xs ++ drop (c.loop-object.object-index + 1) c.deref-object-items.result.now ≡ c.deref-object-items.result.now) (sym items)
-          (made_more c.loop-object.objects.items c.deref-object-items.result.now c.loop-object.object-index c.in_ok-begin.field-0 c.object-item.result c.loop-object-test.true c.object-item.is c.in_ok-begin.ensures.object c.loop-object.invariant.made);
-      free = subst (λ (xs : List PlainObject). All NoneIsLent xs) (sym items) (free_more c.loop-object.objects.items c.in_ok-begin.field-0 c.loop-object.invariant.free c.in_ok-begin.ensures.free);
+      made = subst (λ (xs : List PlainObject). map object_of xs ++ drop (c.loop-object.object-index + 1) c.deref-object-items.result.now ≡
+          c.deref-object-items.result.now) (sym items)
+          (made_more c.loop-object.objects.items c.deref-object-items.result.now c.loop-object.object-index c.in_ok-begin.field-0 c.object-item.result
+          c.loop-object-test.true c.object-item.is c.in_ok-begin.ensures.object c.loop-object.invariant.made);
+      free = subst (λ (xs : List PlainObject). All NoneIsLent xs) (sym items) (free_more c.loop-object.objects.items c.in_ok-begin.field-0
+          c.loop-object.invariant.free c.in_ok-begin.ensures.free);
     }
 
 pub returns-clause-free : goal.returns-clause-free

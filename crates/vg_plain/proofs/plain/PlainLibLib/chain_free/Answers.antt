@@ -8,4 +8,6 @@ use Rattle.vg_plain.proofs.plain.PlainLibLib.chain_free.Goals as goal
 pub returns : goal.returns
 returns c =
     let here = stands _ _ _ _ (map_within c.args.self.now.objects.items (c.args.chain - 1) c.requires.chain.map) c.index_mut.ensures.value c.in-Map.is in
-    does _ _ _ _ _ _ here c.free.ensures (sym (ap (λ (l : Link). with_link (state_of c.args.self.now.objects.items) (c.args.chain - 1) (without_index true l c.args.index)) (link_is c.args.self.now.objects.items (c.args.chain - 1) _ here)))
+    does _ _ _ _ _ _ here c.free.ensures
+    (sym (ap (λ (l : Link). with_link (state_of c.args.self.now.objects.items) (c.args.chain - 1) (without_index true l c.args.index))
+    (link_is c.args.self.now.objects.items (c.args.chain - 1) _ here)))

@@ -8,4 +8,6 @@ use Rattle.vg_plain.proofs.plain.PlainLibLib.map_erase.Goals as goal
 pub returns : goal.returns
 returns c =
     let here = stands _ _ _ _ (map_within c.args.self.now.objects.items c.args.map c.requires.map) c.index_mut.ensures.value c.in-Map.is in
-    does _ _ _ _ _ _ here c.erase.ensures (sym (ap (λ (l : Link). with_link (state_of c.args.self.now.objects.items) c.args.map (without_key true l c.args.key.now)) (link_is c.args.self.now.objects.items c.args.map _ here)))
+    does _ _ _ _ _ _ here c.erase.ensures
+    (sym (ap (λ (l : Link). with_link (state_of c.args.self.now.objects.items) c.args.map (without_key true l c.args.key.now))
+    (link_is c.args.self.now.objects.items c.args.map _ here)))

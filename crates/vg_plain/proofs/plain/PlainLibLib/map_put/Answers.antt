@@ -15,7 +15,8 @@ put-requires-clause-absent c =
     let here = stands _ _ _ _ (map_within c.args.self.now.objects.items c.args.map c.requires.map) c.index_mut.ensures.value c.in-Map.is in
     let needs : Meets (as_library c.args.self.now.objects.items) (MapPut c.args.map c.args.key.now c.args.index) = c.requires.needs in
     let absent = needs refl 2 (HasRoom 0) (omega arith) in
-    is_absent _ (subst (λ (l : Link). option_map (λ answer. is_none answer) (index_of true l c.args.key.now) ≡ Some true) (link_is c.args.self.now.objects.items c.args.map _ here) absent)
+    is_absent _ (subst (λ (l : Link). option_map (λ answer. is_none answer) (index_of true l c.args.key.now) ≡ Some true)
+    (link_is c.args.self.now.objects.items c.args.map _ here) absent)
 
 pub unreachable-requires : goal.unreachable-requires
 unreachable-requires c = no_map c.args.self.now.objects.items c.args.map c.index_mut.result.now c.requires.map c.index_mut.ensures.value c.in_default.not-Map
@@ -23,4 +24,6 @@ unreachable-requires c = no_map c.args.self.now.objects.items c.args.map c.index
 pub returns : goal.returns
 returns c =
     let here = stands _ _ _ _ (map_within c.args.self.now.objects.items c.args.map c.requires.map) c.index_mut.ensures.value c.in-Map.is in
-    does _ _ _ _ _ _ here c.put.ensures (sym (ap (λ (l : Link). with_link (state_of c.args.self.now.objects.items) c.args.map (with_key l c.args.key.now c.args.index)) (link_is c.args.self.now.objects.items c.args.map _ here)))
+    does _ _ _ _ _ _ here c.put.ensures
+    (sym (ap (λ (l : Link). with_link (state_of c.args.self.now.objects.items) c.args.map (with_key l c.args.key.now c.args.index))
+    (link_is c.args.self.now.objects.items c.args.map _ here)))

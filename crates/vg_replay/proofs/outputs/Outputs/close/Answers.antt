@@ -5,7 +5,8 @@ use Rattle.vg_replay.proofs.outputs.Outputs.close.Goals as goal
 pub returns-in_err-log : goal.returns-in_err-log
 returns-in_err-log g c =
     let writable = last_open c.args.self.captures.items c.args.self.log c.requires in
-    rw (failed_is c.from_residual.result c.from_residual.ensures.0) (closes_fails c.close_captures-captures.result _ writable c.in_err-log.ensures c.close_captures-captures.ensures)
+    rw (failed_is c.from_residual.result c.from_residual.ensures.0) (closes_fails c.close_captures-captures.result _ writable c.in_err-log.ensures
+    c.close_captures-captures.ensures)
 
 pub returns : goal.returns
 returns g c =

@@ -34,7 +34,12 @@ write-requires-clause-fits g c =
     let written = c.frame_mut.ensures.written a c.handle.new.frame asked.1 long in
     let bytes = c.frame.ensures (record a { frame = record asked.0 { bytes = c.handle.new.frame } }) written.next in
     let fits : Fits asked.0 = asked.2 in
-    rw (c.time.ensures a asked.1, c.original.ensures a asked.1, bytes) (record { early = fits.early; original = fits.original; short = omega (arith, long, fits.short) })
+    rw (c.time.ensures a asked.1, c.original.ensures a asked.1, bytes) (record {
+      early = fits.early;
+      original = fits.original;
+      short =
+          omega (arith, long, fits.short);
+    })
 
 pub returns-clause-changed : goal.returns-clause-changed
 returns-clause-changed g c =
@@ -52,8 +57,20 @@ returns-clause-handles g c =
     let bytes = c.frame.ensures (record a { frame = record frame { bytes = c.handle.new.frame } }) written.next in
     let handled = rw (c.time.ensures a next, c.original.ensures a next, c.frame_mut.ensures.value a next) at c.in-Ok.ensures.handled in
     elim c.match-write.branch [
-      | in-Ok-write w ↦ rw w.result-is (c.handle.new.frame, handled, c.in-Ok.ensures.few, rw (c.time.ensures a next, c.original.ensures a next, bytes) at (w.in-Ok-write.ensures.writes frame.bytes))
-      | in-Err-write w ↦ rw w.result-is (c.handle.new.frame, c.in-Ok.outcome, handled, rw (c.time.ensures a next, c.original.ensures a next, bytes) at (w.in-Err-write.ensures.writes frame.bytes))
+      | in-Ok-write w ↦ rw w.result-is (
+        c.handle.new.frame,
+        handled,
+        c.in-Ok.ensures.few,
+        rw (c.time.ensures a next, c.original.ensures a next, bytes)
+            at (w.in-Ok-write.ensures.writes frame.bytes),
+      )
+      | in-Err-write w ↦ rw w.result-is (
+        c.handle.new.frame,
+        c.in-Ok.outcome,
+        handled,
+        rw (c.time.ensures a next, c.original.ensures a next, bytes) at
+            (w.in-Err-write.ensures.writes frame.bytes),
+      )
     ])
 
 pub handle-requires : goal.handle-requires

@@ -28,12 +28,14 @@ pub returns-in-Ok : goal.returns-in-Ok
 returns-in-Ok g c = λ s n past x.
     let done = (rw c.in-Ok-false.field-0-test at c.in-Ok-false.ensures) s n past x in
     let totals = ap (λ (r : ReplayOf _). r.files.totals) c.replay.view_is in
-    rw totals (next_ends (after_none g.H.Handler.handles g.H.Handler.stops_at past c.args.self.handler) x (ap (λ (r : ReplayOf _). r.files) done.0) done.1 done.2 c.in-Ok.ensures)
+    rw totals (next_ends (after_none g.H.Handler.handles g.H.Handler.stops_at past c.args.self.handler) x (ap (λ (r : ReplayOf _). r.files) done.0)
+    done.1 done.2 c.in-Ok.ensures)
 
 pub returns-in-Err-close : goal.returns-in-Err-close
 returns-in-Err-close g c = λ s n past x.
     let done = (rw c.in-Ok-false.field-0-test at c.in-Ok-false.ensures) s n past x in
-    let failed = next_end_fails (next_none g.H.Handler.handles g.H.Handler.stops_at past c.args.self.handler) x (ap (λ (r : ReplayOf _). r.files) done.0) done.1 c.in-Err-close.ensures in
+    let failed = next_end_fails (next_none g.H.Handler.handles g.H.Handler.stops_at past c.args.self.handler) x
+    (ap (λ (r : ReplayOf _). r.files) done.0) done.1 c.in-Err-close.ensures in
     (failed.stops, failed)
 
 pub returns-in-Err : goal.returns-in-Err

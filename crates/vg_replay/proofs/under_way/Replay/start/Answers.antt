@@ -15,13 +15,15 @@ returns-in_default-create g c =
 
 pub returns-in-Ok-fill : goal.returns-in-Ok-fill
 returns-in-Ok-fill g c =
-    let few : length (map (string_bytes {Z = Global}) c.args.outs.now) ≤ 63 = let room = c.requires.room in omega (arith, room, length-map c.args.outs.now (string_bytes {Z = Global})) in
+    let few : length (map (string_bytes {Z = Global}) c.args.outs.now) ≤ 63 = let room = c.requires.room in
+    omega (arith, room, length-map c.args.outs.now (string_bytes {Z = Global})) in
     let zero = c.default.ensures in
     let counts = totals_of-none c.default.result zero.0 zero.1.0 zero.1.1.0 zero.1.1.1.0 zero.1.1.1.1 in
     (refl, filled c.default.result c.requires.names few c.in-Ok-start.ensures c.in-Ok-create.ensures.created c.in-Ok-fill.ensures counts)
 
 pub returns-in-Err-fill : goal.returns-in-Err-fill
 returns-in-Err-fill g c =
-    let few : length (map (string_bytes {Z = Global}) c.args.outs.now) ≤ 63 = let room = c.requires.room in omega (arith, room, length-map c.args.outs.now (string_bytes {Z = Global})) in
+    let few : length (map (string_bytes {Z = Global}) c.args.outs.now) ≤ 63 = let room = c.requires.room in
+    omega (arith, room, length-map c.args.outs.now (string_bytes {Z = Global})) in
     let halted = fill_refused c.default.result refl c.requires.names few c.in-Ok-start.ensures c.in-Ok-create.ensures.created c.in-Err-fill.ensures in
     rw c.stop_of-in-Err-fill.ensures (stopped c.close-in-Err-fill.result halted c.close-in-Err-fill.ensures)

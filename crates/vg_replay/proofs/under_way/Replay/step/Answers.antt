@@ -18,11 +18,20 @@ use Rattle.vg_replay.proofs.under_way.Replay.step.Goals.{in-Ok, in-Err}
 
 pub returns-in_default : goal.returns-in_default
 returns-in_default g c =
-    rw (← c.self.view_is) (λ s n past x. (refl, refl, record { none_waits = c.in_default.ensures.none; all = c.in_default.ensures.end (g.F.Files.disk c.args.files.now) }))
+    rw (← c.self.view_is) (λ s n past x. (
+      refl,
+      refl,
+      record {
+        none_waits = c.in_default.ensures.none;
+        all =
+            c.in_default.ensures.end (g.F.Files.disk c.args.files.now);
+      },
+    ))
 
 pub returns-then-self : goal.returns-then-self
 returns-then-self g c =
-    rw (← c.self.view_is) (λ s n past x. too_many (next_none g.H.Handler.handles g.H.Handler.stops_at past c.self.inside.handler) x c.if-self.true c.in-Some.ensures.next.1)
+    rw (← c.self.view_is) (λ s n past x. too_many (next_none g.H.Handler.handles g.H.Handler.stops_at past c.self.inside.handler) x c.if-self.true
+    c.in-Some.ensures.next.1)
 
 pub handle-requires-clause-next : goal.handle-requires-clause-next
 handle-requires-clause-next g c =
@@ -34,10 +43,12 @@ returns-in_err-outcome g c =
     let frame = c.in-Some.ensures.next.0 in
     let a : Arrival = record { port = c.in-Some.port; frame = frame } in
     let next : IsNext c.args.self.now.files.inputs a = subst (λ (r : ReplayOf _). IsNext r.files.inputs a) c.self.view_is c.in-Some.ensures.next.1 in
-    let first : IsFirstLeft c.args.self.now.files.inputs a = subst (λ (r : ReplayOf _). IsFirstLeft r.files.inputs a) c.self.view_is (c.in-Some.ensures.first a c.in-Some.ensures.next.1) in
+    let first : IsFirstLeft c.args.self.now.files.inputs a = subst (λ (r : ReplayOf _). IsFirstLeft r.files.inputs a) c.self.view_is
+    (c.in-Some.ensures.first a c.in-Some.ensures.next.1) in
     λ s n past x.
     went_wrong g.H.Handler.handles g.H.Handler.stops_at s _ _ n _ _ past a c.in_err-outcome.field-0.0 c.from_residual.result c.from_residual.ensures.1 x
-    (λ e. c.if-self.false (ap (λ (r : ReplayOf _). r.files.totals.frames) c.self.view_is ∙ e)) (c.handle.ensures.changed frame next) first (c.in_err-outcome.ensures.handles frame next)
+    (λ e. c.if-self.false (ap (λ (r : ReplayOf _). r.files.totals.frames) c.self.view_is ∙ e)) (c.handle.ensures.changed frame next) first
+    (c.in_err-outcome.ensures.handles frame next)
 
 pub counted-self-inside-requires : goal.counted-self-inside-requires
 counted-self-inside-requires g c =
@@ -45,7 +56,8 @@ counted-self-inside-requires g c =
     let a : Arrival = record { port = c.in-Some.port; frame = frame } in
     let next : IsNext c.args.self.now.files.inputs a = subst (λ (r : ReplayOf _). IsNext r.files.inputs a) c.self.view_is c.in-Some.ensures.next.1 in
     let totals = ap (λ (r : ReplayOf _). r.files.totals) c.self-2.view_is ∙ ap (λ (r : Replaying). r.totals) (c.handle.ensures.changed frame next).1 in
-    rw totals (few_more c.in_ok-outcome.outcome.steps c.requires.3 (λ e. c.if-self.false (ap (λ (r : ReplayOf _). r.files.totals.frames) c.self.view_is ∙ e)) (c.in_ok-outcome.ensures.handles frame next).2)
+    rw totals (few_more c.in_ok-outcome.outcome.steps c.requires.3
+    (λ e. c.if-self.false (ap (λ (r : ReplayOf _). r.files.totals.frames) c.self.view_is ∙ e)) (c.in_ok-outcome.ensures.handles frame next).2)
 
 pub advance-requires-clause-readable : goal.advance-requires-clause-readable
 advance-requires-clause-readable g c =
@@ -55,7 +67,8 @@ advance-requires-clause-readable g c =
     let keeps = frame_keeps (Ok tt) (c.in_ok-outcome.ensures.handles frame next).3 in
     let changed = c.handle.ensures.changed frame next in
     let inputs : c.self-2.inside.merge ≡ c.handle.new.self.files.inputs = ap (λ (r : ReplayOf _). r.files.inputs) c.self-2.view_is in
-    subst (λ (l : List Input). AreReadable (g.F.Files.disk c.handle.new.files) l) (sym inputs) (readable_changed (g.F.Files.disk c.handle.new.files) changed.0 (opened_writes c.requires.3.opened keeps).readable)
+    subst (λ (l : List Input). AreReadable (g.F.Files.disk c.handle.new.files) l) (sym inputs)
+    (readable_changed (g.F.Files.disk c.handle.new.files) changed.0 (opened_writes c.requires.3.opened keeps).readable)
 
 pub advance-requires-clause-next : goal.advance-requires-clause-next
 advance-requires-clause-next g c =
@@ -71,22 +84,34 @@ returns g c =
     let frame = c.in-Some.ensures.next.0 in
     let a : Arrival = record { port = c.in-Some.port; frame = frame } in
     let next : IsNext c.args.self.now.files.inputs a = subst (λ (r : ReplayOf _). IsNext r.files.inputs a) c.self.view_is c.in-Some.ensures.next.1 in
-    let first : IsFirstLeft c.args.self.now.files.inputs a = subst (λ (r : ReplayOf _). IsFirstLeft r.files.inputs a) c.self.view_is (c.in-Some.ensures.first a c.in-Some.ensures.next.1) in
+    let first : IsFirstLeft c.args.self.now.files.inputs a = subst (λ (r : ReplayOf _). IsFirstLeft r.files.inputs a) c.self.view_is
+    (c.in-Some.ensures.first a c.in-Some.ensures.next.1) in
     let not : c.args.self.now.files.totals.frames ≢ most_frames = λ e. c.if-self.false (ap (λ (r : ReplayOf _). r.files.totals.frames) c.self.view_is ∙ e) in
     let changed = c.handle.ensures.changed frame next in
     let handled = c.in_ok-outcome.ensures.handles frame next in
     let h : Handled = handled_with a handled.0 c.in_ok-outcome.outcome in
     let inputs : c.self-2.inside.merge ≡ c.handle.new.self.files.inputs = ap (λ (r : ReplayOf _). r.files.inputs) c.self-2.view_is in
-    let outs : c.self-2.inside.outputs.captures.items ≡ c.args.self.now.files.outs = ap (λ (r : ReplayOf _). r.files.outs) c.self-2.view_is ∙ ap (λ (r : Replaying). r.outs) changed.1 in
-    let log : c.self-2.inside.outputs.log ≡ c.args.self.now.files.log = ap (λ (r : ReplayOf _). r.files.log) c.self-2.view_is ∙ ap (λ (r : Replaying). r.log) changed.1 in
-    let totals : c.self-2.inside.totals ≡ c.args.self.now.files.totals = ap (λ (r : ReplayOf _). r.files.totals) c.self-2.view_is ∙ ap (λ (r : Replaying). r.totals) changed.1 in
-    let changed-2 : IsChanged c.args.self.now.files.inputs c.self-2.inside.merge a = subst (λ (l : List Input). IsChanged c.args.self.now.files.inputs l a) (sym inputs) changed.0 in
+    let outs : c.self-2.inside.outputs.captures.items ≡ c.args.self.now.files.outs = ap (λ (r : ReplayOf _). r.files.outs) c.self-2.view_is
+    ∙ ap (λ (r : Replaying). r.outs) changed.1 in
+    let log : c.self-2.inside.outputs.log ≡ c.args.self.now.files.log = ap (λ (r : ReplayOf _). r.files.log) c.self-2.view_is
+    ∙ ap (λ (r : Replaying). r.log) changed.1 in
+    let totals : c.self-2.inside.totals ≡ c.args.self.now.files.totals = ap (λ (r : ReplayOf _). r.files.totals) c.self-2.view_is
+    ∙ ap (λ (r : Replaying). r.totals) changed.1 in
+    let changed-2 : IsChanged c.args.self.now.files.inputs c.self-2.inside.merge a = subst
+    (λ (l : List Input). IsChanged c.args.self.now.files.inputs l a) (sym inputs) changed.0 in
     let handles : g.H.Handler.handles c.args.self.now.handler h c.self-2.inside.handler =
     subst (λ (r : ReplayOf _). g.H.Handler.handles c.args.self.now.handler h r.handler) (sym c.self-2.view_is) handled.1 in
     λ s n past x.
     elim c.match-advance.branch [
-      | in-Ok w ↦ rw w.result-is (h, handles, next, rw (outs, log, c.counted-self-inside.ensures, totals) (frame_handled h x not changed-2 first handled.2 handled.3 w.in-Ok.ensures))
+      | in-Ok w ↦ rw w.result-is (
+        h,
+        handles,
+        next,
+        rw (outs, log, c.counted-self-inside.ensures, totals)
+            (frame_handled h x not changed-2 first handled.2 handled.3 w.in-Ok.ensures),
+      )
       | in-Err w ↦
           let history = next_one g.H.Handler.handles g.H.Handler.stops_at past c.args.self.now.handler h c.self-2.inside.handler handles in
-          rw (w.result-is, w.stop_of.ensures, outs, log) (frame_last c.counted-self-inside.result h history x not changed-2 first handled.2 handled.3 w.in-Err.ensures)
+          rw (w.result-is, w.stop_of.ensures, outs, log) (frame_last c.counted-self-inside.result h history x not changed-2 first handled.2 handled.3
+          w.in-Err.ensures)
     ]

@@ -7,7 +7,8 @@ use Rattle.vg_rup.proofs.assignment.Assignment.falsifying.Goals as goal
 
 pub loop-literal-preserved : goal.loop-literal-preserved
 loop-literal-preserved c =
-    reads_negation c.loop-literal.made c.make_true.new.self c.args.clause.now c.loop-literal.literal-index c.literal-item.result c.loop-literal-test.true c.literal-item.is c.loop-literal.invariant
+    reads_negation c.loop-literal.made c.make_true.new.self c.args.clause.now c.loop-literal.literal-index c.literal-item.result
+    c.loop-literal-test.true c.literal-item.is c.loop-literal.invariant
     (λ k. c.in_ok-make_true.ensures k ∙ ap (λ l. holds (l ∷ c.loop-literal.made) k) c.negated.ensures)
 
 pub returns : goal.returns

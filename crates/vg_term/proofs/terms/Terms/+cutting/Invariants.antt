@@ -5,7 +5,8 @@ use Rattle.vg_term.proofs.terms.Terms.+cutting.Given as goal
 
 abbrev pub invariant-rebuild-loop-end : goal.invariant-rebuild-loop-end
 invariant-rebuild-loop-end l =
-    Grown l.fn.self l.self × IsWired l.self l.low l.wires 0 l.end × AllStand l.self l.wires l.width × (l.end ≤ l.width) × (l.width ≤ 64) × (l.width ≤ length l.wires) × Spends l.fn.self l.self l.fn.cuts l.cuts (2 * l.end)
+    Grown l.fn.self l.self × IsWired l.self l.low l.wires 0 l.end × AllStand l.self l.wires l.width × (l.end ≤ l.width) × (l.width ≤ 64)
+    × (l.width ≤ length l.wires) × Spends l.fn.self l.self l.fn.cuts l.cuts (2 * l.end)
 
 abbrev pub decreases-rebuild-loop-end : goal.decreases-rebuild-loop-end
 decreases-rebuild-loop-end l = l.width - l.end

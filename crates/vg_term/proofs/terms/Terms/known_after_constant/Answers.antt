@@ -5,10 +5,16 @@ use Rattle.vg_term.proofs.KnownLaws.{known_after, known_after_ones}
 use Rattle.vg_term.proofs.terms.Terms.known_after_constant.Goals as goal
 
 pub returns-then-word-eq0 : goal.returns-then-word-eq0
-returns-then-word-eq0 c = known_after c.placed.ensures.made c.args.op c.in_ok-simple.simple c.placed.result c.args.a c.args.b c.in_ok-word.word 0 (after_zero c.args.op) c.requires.second c.requires.alike c.in_ok-word.ensures.word c.if-word-eq0.true (sym c.after_zero.ensures ∙ c.in_ok-simple.was) (λ p _ r. after_zero_right c.args.op p r) c.placed.ensures.places
+returns-then-word-eq0 c = known_after c.placed.ensures.made c.args.op c.in_ok-simple.simple c.placed.result c.args.a c.args.b c.in_ok-word.word 0
+    (after_zero c.args.op) c.requires.second c.requires.alike c.in_ok-word.ensures.word c.if-word-eq0.true
+    (sym c.after_zero.ensures ∙ c.in_ok-simple.was) (λ p _ r. after_zero_right c.args.op p r) c.placed.ensures.places
 
 pub returns-in-Some : goal.returns-in-Some
-returns-in-Some c = known_after_ones c.placed-in-Some.ensures.made c.args.op c.in-Some.simple c.placed-in-Some.result c.args.a c.args.b c.in_ok-word.word c.all_ones.result.value c.requires.second c.requires.alike c.in_ok-word.ensures.word c.if-word-all_ones.true c.all_ones.ensures.value (sym c.after_ones.ensures ∙ c.in-Some.is) c.placed-in-Some.ensures.places
+returns-in-Some c = known_after_ones c.placed-in-Some.ensures.made c.args.op c.in-Some.simple c.placed-in-Some.result c.args.a c.args.b
+    c.in_ok-word.word c.all_ones.result.value c.requires.second c.requires.alike c.in_ok-word.ensures.word c.if-word-all_ones.true
+    c.all_ones.ensures.value (sym c.after_ones.ensures ∙ c.in-Some.is) c.placed-in-Some.ensures.places
 
 pub returns-then-word-eq1 : goal.returns-then-word-eq1
-returns-then-word-eq1 c = known_after c.placed-then-word-eq1.ensures.made c.args.op c.in_ok-simple-2.simple c.placed-then-word-eq1.result c.args.a c.args.b c.in_ok-word.word 1 (after_one c.args.op) c.requires.second c.requires.alike c.in_ok-word.ensures.word c.if-word-eq1.true (sym c.after_one.ensures ∙ c.in_ok-simple-2.was) (λ p _ r. after_one_right c.args.op p r) c.placed-then-word-eq1.ensures.places
+returns-then-word-eq1 c = known_after c.placed-then-word-eq1.ensures.made c.args.op c.in_ok-simple-2.simple c.placed-then-word-eq1.result c.args.a
+    c.args.b c.in_ok-word.word 1 (after_one c.args.op) c.requires.second c.requires.alike c.in_ok-word.ensures.word c.if-word-eq1.true
+    (sym c.after_one.ensures ∙ c.in_ok-simple-2.was) (λ p _ r. after_one_right c.args.op p r) c.placed-then-word-eq1.ensures.places

@@ -11,7 +11,8 @@ pub returns-in_default-clause-added : goal.returns-in_default-clause-added
 returns-in_default-clause-added c =
     let s = c.self.inside in
     subst (λ v. Reaches (v.clauses ++ c.args.clause.now ∷ []) []) c.self.view_is
-    (false_reaches s.watches.clauses s.trail.literals s.starts.items c.args.clause.now (ap (λ v. v.starts) c.self.view_is ∙ c.requires.at_rest.0) c.self.invariant.chain c.in_default.ensures)
+    (false_reaches s.watches.clauses s.trail.literals s.starts.items c.args.clause.now (ap (λ v. v.starts) c.self.view_is ∙ c.requires.at_rest.0)
+    c.self.invariant.chain c.in_default.ensures)
 
 pub invariant_of-self : goal.invariant_of-self
 invariant_of-self c =
@@ -23,7 +24,8 @@ invariant_of-self-in-Some-open_beside c =
     let s = c.self.inside in
     kept_open s.watches c.add.new.self s.trail s.starts.items s.head c.args.clause.now c.in-Some.first c.in-Some-open_beside.second
     (ap (λ v. v.starts) c.self.view_is ∙ c.requires.at_rest.0) c.in_ok-add-in-Some-open_beside.ensures.ok c.in_ok-add-in-Some-open_beside.ensures.paired
-    (subst (λ v. IsClauseOver v.variables c.args.clause.now) (sym c.self.view_is) c.requires.over) c.in-Some.ensures.0 c.in-Some.ensures.1 c.in-Some-open_beside.ensures c.self.invariant
+    (subst (λ v. IsClauseOver v.variables c.args.clause.now) (sym c.self.view_is) c.requires.over) c.in-Some.ensures.0 c.in-Some.ensures.1
+    c.in-Some-open_beside.ensures c.self.invariant
 
 pub add_single-requires-clause-literal : goal.add_single-requires-clause-literal
 add_single-requires-clause-literal c =
@@ -44,8 +46,10 @@ invariant_of-self-in-None c =
     let s = c.self.inside in
     let l = c.in-Some.first in
     let over = held_over c.args.self.now.variables c.args.clause.now l c.requires.over.over c.in-Some.ensures.0 in
-    kept_single s.watches c.add_single.new.watches s.trail c.add_single.new.trail s.starts.items s.head c.args.clause.now l (ap (λ v. v.starts) c.self.view_is ∙ c.requires.at_rest.0)
-    c.in_ok-add_single-in-None.ensures.ok.0 (c.in_ok-add_single-in-None.ensures.paired refl) (subst (λ v. IsClauseOver v.variables c.args.clause.now) (sym c.self.view_is) c.requires.over)
+    kept_single s.watches c.add_single.new.watches s.trail c.add_single.new.trail s.starts.items s.head c.args.clause.now l
+    (ap (λ v. v.starts) c.self.view_is ∙ c.requires.at_rest.0)
+    c.in_ok-add_single-in-None.ensures.ok.0 (c.in_ok-add_single-in-None.ensures.paired refl)
+    (subst (λ v. IsClauseOver v.variables c.args.clause.now) (sym c.self.view_is) c.requires.over)
     c.in-Some.ensures.0 over.0 c.in-Some.ensures.1 c.in-None.ensures c.in_ok-add_single-in-None.ensures.ok.1 c.self.invariant
 
 pub returns-in_ok-propagate-in-None-clause-added :
@@ -53,7 +57,14 @@ pub returns-in_ok-propagate-in-None-clause-added :
 returns-in_ok-propagate-in-None-clause-added c =
     let s = c.self.inside in
     end_reaches (c.args.self.now.clauses ++ c.args.clause.now ∷ [])
-    (record { variables = c.add_single.new.watches.variables; clauses = c.add_single.new.watches.clauses; trail = c.add_single.new.trail.literals; starts = s.starts.items; head = s.head })
+    (record {
+      variables = c.add_single.new.watches.variables;
+      clauses = c.add_single.new.watches.clauses;
+      trail =
+          c.add_single.new.trail.literals;
+      starts = s.starts.items;
+      head = s.head;
+    })
     c.propagate.new.self c.in_ok-propagate-in-None.field-0 c.is_none.result c.is_none.ensures (ap (λ v. v.starts) c.self.view_is ∙ c.requires.at_rest.0)
     (c.in_ok-add_single-in-None.ensures.ok.0.1 ∙ ap (λ v. v.clauses ++ c.args.clause.now ∷ []) c.self.view_is)
     c.propagate.ensures.same c.propagate.ensures.sound c.in_ok-propagate-in-None.ensures.ends
@@ -63,7 +74,8 @@ returns-in_ok-add-in-Some-open_beside-clause-open c asked =
     let s = c.self.inside in
     let kept = (kept_open s.watches c.add.new.self s.trail s.starts.items s.head c.args.clause.now c.in-Some.first c.in-Some-open_beside.second
     (ap (λ v. v.starts) c.self.view_is ∙ c.requires.at_rest.0) c.in_ok-add-in-Some-open_beside.ensures.ok c.in_ok-add-in-Some-open_beside.ensures.paired
-    (subst (λ v. IsClauseOver v.variables c.args.clause.now) (sym c.self.view_is) c.requires.over) c.in-Some.ensures.0 c.in-Some.ensures.1 c.in-Some-open_beside.ensures c.self.invariant) in
+    (subst (λ v. IsClauseOver v.variables c.args.clause.now) (sym c.self.view_is) c.requires.over) c.in-Some.ensures.0 c.in-Some.ensures.1
+    c.in-Some-open_beside.ensures c.self.invariant) in
     let whole : s.head ≡ length s.trail.literals = subst (λ v. v.head ≡ length v.trail) (sym c.self.view_is) c.requires.at_rest.1 in
     kept_ends c.add.new.self s.trail s.starts.items s.head kept whole
 
@@ -71,5 +83,13 @@ pub returns-in_ok-propagate-in-None-clause-open : goal.returns-in_ok-propagate-i
 returns-in_ok-propagate-in-None-clause-open c asked =
     let s = c.self.inside in
     end_open
-    (record { variables = c.add_single.new.watches.variables; clauses = c.add_single.new.watches.clauses; trail = c.add_single.new.trail.literals; starts = s.starts.items; head = s.head })
-    c.propagate.new.self c.in_ok-propagate-in-None.field-0 c.is_none.result c.is_none.ensures c.propagate.ensures.sound c.in_ok-propagate-in-None.ensures.ends asked
+    (record {
+      variables = c.add_single.new.watches.variables;
+      clauses = c.add_single.new.watches.clauses;
+      trail =
+          c.add_single.new.trail.literals;
+      starts = s.starts.items;
+      head = s.head;
+    })
+    c.propagate.new.self c.in_ok-propagate-in-None.field-0 c.is_none.result c.is_none.ensures c.propagate.ensures.sound
+    c.in_ok-propagate-in-None.ensures.ends asked

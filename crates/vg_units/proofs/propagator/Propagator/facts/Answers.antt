@@ -7,4 +7,5 @@ use Rattle.vg_units.proofs.propagator.Propagator.facts.Goals as goal
 pub returns-clause-settled : goal.returns-clause-settled
 returns-clause-settled c =
     let s = c.self.inside in
-    subst (λ v. v.head ≡ length v.trail → All (Settled v.trail) v.clauses) c.self.view_is (kept_settled s.watches s.trail s.starts.items s.head c.self.invariant)
+    subst (λ v. v.head ≡ length v.trail → All (Settled v.trail) v.clauses) c.self.view_is (kept_settled s.watches s.trail s.starts.items s.head
+    c.self.invariant)

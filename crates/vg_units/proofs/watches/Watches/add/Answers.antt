@@ -34,7 +34,8 @@ invariant_of-self-in_err-insert-2 c =
     let over_first = held_over c.args.self.now.variables c.args.clause.now first c.requires.over.over c.requires.first in
     let in_first : unsigned_abs first ≤ v = subst (λ w. unsigned_abs first ≤ w.variables) (sym c.self.view_is) over_first.1 in
     let once = lengthens_inserted v c.self.inside.lists c.insert.new.self first c.len-at.result c.self.invariant.places in_first c.in_ok-insert.ensures.ok in
-    listed_same v c.self.inside.clauses c.self.inside.clauses c.self.inside.pairs.items c.reserve.new.self.items c.insert.new.self c.insert-2.new.self refl c.in_ok-reserve.ensures.items
+    listed_same v c.self.inside.clauses c.self.inside.clauses c.self.inside.pairs.items c.reserve.new.self.items c.insert.new.self c.insert-2.new.self
+    refl c.in_ok-reserve.ensures.items
     c.in_err-insert-2.ensures.err
     (listed_lengthened v c.self.inside.clauses c.self.inside.pairs.items c.self.inside.lists c.insert.new.self once.0 c.self.invariant)
 
@@ -48,8 +49,10 @@ invariant_of-self-in_err-push c =
     let over = held_over c.args.self.now.variables c.args.clause.now second c.requires.over.over c.requires.second in
     let in_second : unsigned_abs second ≤ v = subst (λ w. unsigned_abs second ≤ w.variables) (sym c.self.view_is) over.1 in
     let once = lengthens_inserted v c.self.inside.lists c.insert.new.self first c.len-at.result c.self.invariant.places in_first c.in_ok-insert.ensures.ok in
-    let twice = lengthens_inserted v c.insert.new.self c.insert-2.new.self second c.len-at.result (once.0.places ∙ c.self.invariant.places) in_second c.in_ok-insert-2.ensures.ok in
-    listed_same v c.self.inside.clauses c.push.new.self c.self.inside.pairs.items c.reserve.new.self.items c.insert-2.new.self c.insert-2.new.self c.in_err-push.ensures.err
+    let twice = lengthens_inserted v c.insert.new.self c.insert-2.new.self second c.len-at.result (once.0.places ∙ c.self.invariant.places) in_second
+    c.in_ok-insert-2.ensures.ok in
+    listed_same v c.self.inside.clauses c.push.new.self c.self.inside.pairs.items c.reserve.new.self.items c.insert-2.new.self c.insert-2.new.self
+    c.in_err-push.ensures.err
     c.in_ok-reserve.ensures.items refl
     (listed_lengthened v c.self.inside.clauses c.self.inside.pairs.items c.self.inside.lists c.insert-2.new.self
     (lengthens_trans c.self.inside.lists c.insert.new.self c.insert-2.new.self once.0 twice.0) c.self.invariant)
@@ -74,6 +77,7 @@ invariant_of-self-2 c =
     listed_same v (cs ++ c.args.clause.now ∷ []) c.push.new.self (ps ++ c.args.pair.now ∷ []) c.push_reserved.new.self.items ms ms c.in_ok-push.ensures.ok
     (c.push_reserved.ensures.items ∙ ap (λ xs. xs ++ c.args.pair.now ∷ []) c.in_ok-reserve.ensures.items)
     refl
-    (listed_added v cs ps ls ms c.args.clause.now c.args.pair.now (subst (λ w. IsClauseOver w.variables c.args.clause.now) (sym c.self.view_is) c.requires.over) c.requires.first c.requires.second
+    (listed_added v cs ps ls ms c.args.clause.now c.args.pair.now (subst (λ w. IsClauseOver w.variables c.args.clause.now) (sym c.self.view_is)
+    c.requires.over) c.requires.first c.requires.second
     (lengthens_trans ls c.insert.new.self ms once.0 twice.0) (subst (λ n. IsListedFrom (list_in ms first) 0 n) c.len-at.ensures in_both)
     (subst (λ n. IsListedFrom (list_in ms second) 0 n) c.len-at.ensures twice.1) c.self.invariant)

@@ -14,7 +14,8 @@ insert-requires c =
 
 pub invariant_of-self-2 : goal.invariant_of-self-2
 invariant_of-self-2 c =
-    (exchanged c.self.inside.variables c.self.inside.clauses c.self.inside.pairs.items c.self.inside.lists c.insert.new.self c.remove.new.self c.args.literal c.args.at c.args.clause
+    (exchanged c.self.inside.variables c.self.inside.clauses c.self.inside.pairs.items c.self.inside.lists c.insert.new.self c.remove.new.self
+    c.args.literal c.args.at c.args.clause
     c.args.pair.now c.in_ok-insert.ensures.ok c.remove.ensures
     (subst (λ w. unsigned_abs c.args.literal ≤ w.variables) (sym c.self.view_is) c.requires.over)
     (subst (λ w. c.args.at < length (list_in w.lists c.args.literal)) (sym c.self.view_is) c.requires.within)
@@ -27,7 +28,8 @@ invariant_of-self-2 c =
 pub returns-clause-left_out : goal.returns-clause-left_out
 returns-clause-left_out c =
     subst (λ w. IsLeftOut w.lists c.remove.new.self c.args.literal c.args.at c.args.clause) c.self.view_is
-    (exchanged c.self.inside.variables c.self.inside.clauses c.self.inside.pairs.items c.self.inside.lists c.insert.new.self c.remove.new.self c.args.literal c.args.at c.args.clause
+    (exchanged c.self.inside.variables c.self.inside.clauses c.self.inside.pairs.items c.self.inside.lists c.insert.new.self c.remove.new.self
+    c.args.literal c.args.at c.args.clause
     c.args.pair.now c.in_ok-insert.ensures.ok c.remove.ensures
     (subst (λ w. unsigned_abs c.args.literal ≤ w.variables) (sym c.self.view_is) c.requires.over)
     (subst (λ w. c.args.at < length (list_in w.lists c.args.literal)) (sym c.self.view_is) c.requires.within)

@@ -13,7 +13,8 @@ invariant_of-self c =
     subst (IsListed v c.self.inside.clauses c.self.inside.pairs.items) (sym c.remove.ensures)
     (listed_left_out v c.self.inside.clauses c.self.inside.pairs.items ls l c.args.at (omega (arith, c.self.invariant.places, code_within v l over))
     (subst (λ w. c.args.at < length (list_in w.lists l)) (sym c.self.view_is) c.requires.within)
-    (subst (λ w. get_or (list_in w.lists l) c.args.at 0 < length w.clauses → ((pair_in w.pairs (get_or (list_in w.lists l) c.args.at 0)).first ≢ l) × ((pair_in w.pairs (get_or (list_in w.lists l) c.args.at 0)).second ≢ l))
+    (subst (λ w. get_or (list_in w.lists l) c.args.at 0 < length w.clauses → ((pair_in w.pairs (get_or (list_in w.lists l) c.args.at 0)).first ≢ l)
+    × ((pair_in w.pairs (get_or (list_in w.lists l) c.args.at 0)).second ≢ l))
     (sym c.self.view_is) c.requires.unwatched) c.self.invariant)
 
 pub returns-clause-left_out : goal.returns-clause-left_out

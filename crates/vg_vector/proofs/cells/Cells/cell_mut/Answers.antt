@@ -13,7 +13,8 @@ returns c =
     let within : c.args.i < length c.self.inside.loans.items = cell_within c.args.i _ _ _ _ (ap (λ all. all.cells) c.self.view_is) c.requires in
     let total : length c.self.inside.bytes.items ≡ c.self.inside.bytes.len = search rules in
     let size : c.args.i * c.self.inside.size + c.self.inside.size - c.args.i * c.self.inside.size ≡ c.self.inside.size = omega arith in
-    let held : length c.slice_mut.result.now ≡ c.self.inside.size = rw (c.slice_mut.ensures.value, size) (length-cell c.args.i _ _ c.self.inside.bytes.items within c.self.invariant) in (
+    let held : length c.slice_mut.result.now ≡ c.self.inside.size = rw (c.slice_mut.ensures.value, size)
+    (length-cell c.args.i _ _ c.self.inside.bytes.items within c.self.invariant) in (
       (refl, λ w. cells_of-lent c.args.i _ _ c.self.inside.bytes.len c.self.inside.bytes.items w _ _ c.self.view_is within c.self.invariant total),
       record {
         writes_back = tt;
