@@ -3,6 +3,7 @@ pub mod Arriving
 pub mod Staying
 pub mod Ports
 pub mod Merging
+pub mod Later
 pub mod Filling
 pub mod Closing
 pub mod Opening

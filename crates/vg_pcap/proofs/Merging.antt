@@ -16,11 +16,15 @@ use Rattle.vg_pcap.specs.Frames.{Framed, Stream, Fits}
 use Rattle.vg_pcap.specs.Arrivals.{Arrival, no_frames, stream_at, frames_from, Precedes, ComeFirst, AllCome, ComeUpTo}
 use Rattle.vg_pcap.specs.Incoming.{fault_of}
 use Rattle.vg_pcap.specs.Reader.{StillComes, number_after}
-use Rattle.vg_pcap.specs.Merge.{Input, InputComes, IsNext, IsChanged, Comes, RefusesRecord, Advances, waiting_at, waiting_count}
+use Rattle.vg_pcap.specs.Merge.{Input, InputComes, IsNext, IsChanged, Comes, RefusesRecord, Advances, NoneEarlier, waiting_at, waiting_count}
 use Rattle.vg_pcap.specs.Inputs.{IsSound, IsLastFrame, RefillsAt, IsLeastBelow}
 use Rattle.vg_pcap.proofs.Arriving.{frames_from-push_same, frames_from-push_other, EndsAt-push, no_later, All-at_place, All-from_places}
 use Rattle.vg_pcap.proofs.Staying.{InputComes-stays}
 use Rattle.vg_pcap.proofs.Ports.{at_refilled, other_id, reads_one, reads_refused}
+
+-- the frame of an input, where it waits, is no earlier than this time
+abbrev pub IsNoEarlier : ℕ → Input → Type 0
+IsNoEarlier time input = input.waits ≡ true → time ≤ input.reader.frame.time
 
 -- ---- the order of frames
 
@@ -359,6 +363,20 @@ same_next changed next = one_next (still_next changed) next
 
 -- ---- the calls
 
+-- a frame that comes after the next one of its port is no earlier
+still_later : {s t : Disk} {old new : List Input} {b : Arrival} → IsNext old b → RefillsAt s t old new b.port (Ok tt) → (time : ℕ)
+    → NoneEarlier time old → NoneEarlier time new
+still_later {s} {t} {old} {new} {b} next r time none =
+    let is : next.input ≡ r.was = same_Some next.input r.was (sym next.at ∙ r.was_at) in
+    let waited : r.was.waits ≡ true = ap (λ (i : Input). i.waits) (sym is) ∙ next.waits in
+    let last = All-at_place IsSound old b.port r.was r.inputs.sound r.was_at waited in
+    let before = All-at_place (IsNoEarlier time) old b.port r.was none r.was_at waited in
+    All-from_places (IsNoEarlier time) new
+    (λ p x here. ⊎_elim
+    (λ (e : (p ≡ b.port) × (x ≡ r.now)). subst (IsNoEarlier time) (sym e.1) (λ waits. let later = r.refills.later waits in omega (arith, last.time, before, later)))
+    (λ (e : (p ≢ b.port) × (slice_get old p ≡ Some x)). All-at_place (IsNoEarlier time) old p x none e.1)
+    (at_refilled r p x here))
+
 -- the next record of the next port was read
 pub advanced : {s t : Disk} {old new : List Input} {b : Arrival} → IsNext old b → RefillsAt s t old new b.port (Ok tt) → Advances s t old new (Ok tt)
 advanced {s} {t} {old} {new} {b} next r = record {
@@ -368,6 +386,7 @@ advanced {s} {t} {old} {new} {b} next r = record {
   refused = λ came streams past a changed comes. tt;
   fault = tt;
   port = λ a is. tt;
+  later = λ time none. still_later next r time none;
 }
 
 -- it is refused
@@ -383,6 +402,7 @@ advance_refused {s} {t} {old} {new} {b} {fault} next r = record {
   fault = ⊎_elim (λ read. inl read) (λ (d : (damage : Damage) × (fault ≡ fault_of damage (number_after r.was.reader.count))). inr
       (d.0, number_after r.was.reader.count, d.1)) r.refills.fault;
   port = λ a is. one_next next is;
+  later = λ time none. tt;
 }
 
 -- no frame waits, and so all have come

@@ -24,6 +24,7 @@ refilled {s} {t} {old} {now} was true r = record {
   sound = λ w. let f = r.frame refl in record { fits = f.0; time = f.2 };
   comes = λ stream still. record { waiting = λ w. r.next stream still; ended = λ w. absurd (true≢false w) };
   counts = number_after-next old.count now.count (r.frame refl).3;
+  later = λ w. let f = r.frame refl in omega (arith, f.1, f.2);
   refused = λ stream still. tt;
   fault = tt;
 }
@@ -38,6 +39,7 @@ refilled {s} {t} {old} {now} was false r = record {
   sound = λ w. absurd (true≢false (sym w));
   comes = λ stream still. record { waiting = λ w. absurd (true≢false (sym w)); ended = λ w. let n = r.next stream still in (n.0, n.1) };
   counts = let is = r.count refl in omega arith;
+  later = λ w. absurd (true≢false (sym w));
   refused = λ stream still. tt;
   fault = tt;
 }
@@ -56,6 +58,7 @@ refill_refused {s} {t} {old} {now} {fault} was r = record {
   sound = λ w. absurd (true≢false (sym w));
   comes = λ stream still. tt;
   counts = tt;
+  later = tt;
   refused = λ stream still. r.next stream still;
   fault = r.fault;
 }

@@ -63,6 +63,7 @@ pub record Refills (s t : Disk) (old new : Input) (result : Result (Unit {0}) Ca
   pub sound : IsSound new
   pub comes : (stream : Stream) → StillComes s old.reader stream → OnOk result (InputComes t new stream)
   pub counts : OnOk result (number_after new.reader.count ≡ number_after (old.reader.count + waiting_count new))
+  pub later : OnOk result (new.waits ≡ true → old.reader.latest ≤ new.reader.frame.time)
   pub refused : (stream : Stream) → StillComes s old.reader stream → IfErr result (RefusesNext old.reader stream)
   pub fault : IfErr result (λ e. IsReadOrRecord e (number_after old.reader.count))
 

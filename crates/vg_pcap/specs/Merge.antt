@@ -44,6 +44,10 @@ pub record IsNext (inputs : List Input) (a : Arrival) : Type 0 where
 abbrev pub IsNextAt : List Input → ℕ → Type 0
 IsNextAt inputs port = (frame : Framed) × IsNext inputs (record { port = port; frame = frame })
 
+-- no frame that waits is earlier than this time
+abbrev pub NoneEarlier : ℕ → List Input → Type 0
+NoneEarlier time inputs = All (λ input. input.waits ≡ true → time ≤ input.reader.frame.time) inputs
+
 -- ---- what is still to come
 
 -- this stream is still to come at a port: the frame that waits, and then the reader's; where none waits, all have come
@@ -147,6 +151,8 @@ pub record Advances (s t : Disk) (old new : List Input) (result : Result (Unit {
       IfErr result (RefusesRecord streams (past ++ a ∷ []))
   pub fault : IfErr result (λ e. IsReadOrSomeRecord e.fault)
   pub port : (a : Arrival) → IsNext old a → IfErr result (λ e. e.port ≡ a.port)
+  -- the times of a port never fall
+  pub later : (time : ℕ) → NoneEarlier time old → OnOk result (NoneEarlier time new)
 
 -- every input was closed; a fault in that is counted, and the others are closed nevertheless
 pub record ClosesInputs (s t : Disk) (inputs : List Input) (result : Result (Unit {0}) Failed) : Type 0 where

@@ -22,7 +22,7 @@ use Rattle.vg_replay.proofs.Pieces.{capture_to-none, log_of-none}
 use Rattle.vg_replay.proofs.Stopping.{IsRead, read_goes, read_stops}
 use Rattle.vg_replay.proofs.Wrote.{log_is_none}
 use Rattle.vg_replay.specs.Outputs.{Handled, totals_of}
-use Rattle.vg_replay.specs.Replays.{ReplayFiles, AreReplayFiles, AreFirst, IsPart, Replays}
+use Rattle.vg_replay.specs.Replays.{IsOfPorts, ReplayFiles, AreReplayFiles, AreFirst, IsPart, Replays}
 use Rattle.vg_replay.specs.Handler.{HandledFrom}
 use Rattle.vg_replay.specs.Handling.{GoesOn, ReplaysThrough}
 use Rattle.vg_replay.proofs.Histories.{Replays-map, after_start, stops_start}
@@ -54,7 +54,7 @@ begun {s} {t} {u} {n} {inputs} {ids} {log_id} totals names few x y = record {
     log_named = λ told. y.log_named (rw x.keeps.held.tells_made told);
   };
   no_fault = record { read_faults = y.no_fault.read_faults ∙ x.cause.same; write_faults = y.no_fault.write_faults ∙ x.keeps.write_faults };
-  ports = All-nil (λ (h : Handled). h.arrival.port < length n.ins);
+  ports = All-nil (IsOfPorts (length n.ins));
   first = nothing_yet x;
   wrote = λ told.
       let later : IsTrue t.tells_made = rw x.keeps.held.tells_made told in
@@ -120,7 +120,7 @@ uncreated {s = s} {t = t} {u = u} {v = v} {n = n} {inputs = inputs} q history na
         record {
           frames = [];
           history = history;
-          ports = All-nil (λ (h : Handled). h.arrival.port < length n.ins);
+          ports = All-nil (IsOfPorts (length n.ins));
           first = nothing_yet x;
           wrote = λ told.
               let later : IsTrue t.tells_made = rw x.keeps.held.tells_made told in

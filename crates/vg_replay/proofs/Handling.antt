@@ -1,6 +1,5 @@
 -- A frame that is handled.
 use Rattle.std.proofs.lemmas.List.Elements.{All-push}
-use Rattle.std.proofs.lemmas.Option.{slice_get_within}
 use Rattle.std.proofs.Common.{◌≡◌, ◌≢◌, ◌<◌, ◌≤◌, ◌+◌, ◌^◌, ◌∙◌, ℕ, List, [], ◌∷◌, ◌++◌, length, All, IsTrue, false, Result, Ok, Err, sym, ap, subst}
 use Rattle.std.proofs.Common.{length-append, arith}
 use Rattle.vg_base.specs.declared.faults.Failed.{Failed}
@@ -8,9 +7,10 @@ use Rattle.vg_base.specs.Files.{Disk, WriteKeeps}
 use Rattle.vg_pcap.specs.declared.merge.MergeFault.{MergeFault}
 use Rattle.vg_pcap.proofs.Staying.{SameReading-writes, Comes-stays}
 use Rattle.vg_pcap.proofs.NextPort.{readable_changed, ids_changed}
+use Rattle.vg_pcap.proofs.Later.{none_before, changed_is_first}
 use Rattle.vg_pcap.specs.Frames.{Stream}
 use Rattle.vg_pcap.specs.Arrivals.{Arrival, ComeFirst}
-use Rattle.vg_pcap.specs.Merge.{Input, IsNext, IsChanged, Comes, Advances}
+use Rattle.vg_pcap.specs.Merge.{Input, IsChanged, Comes, Advances}
 use Rattle.vg_replay.specs.declared.stop.RunStop.{RunStop}
 use Rattle.vg_replay.specs.declared.stop.RunStop.TheVariants as stops
 use Rattle.vg_replay.specs.declared.totals.Totals.{Totals}
@@ -20,9 +20,9 @@ use Rattle.vg_replay.proofs.Stopping.{IsRead, with_inputs, opened_writes, damage
 use Rattle.vg_replay.proofs.Wrote.{frame_keeps, frame_same, frame_rose, wrote_more, wrote_parts, others_more}
 use Rattle.vg_replay.specs.Counts.{AreFew, counted}
 use Rattle.vg_replay.specs.Outputs.{Handled, arrivals_of}
-use Rattle.vg_replay.specs.Handler.{HandlesAll, HandledAfter, StopsAfter}
-use Rattle.vg_replay.specs.Replays.{ReplayFiles, Replays, StopsBegun, AreFirst, HavePorts, most_frames}
-use Rattle.vg_replay.specs.UnderWay.{Replaying, TakesFewSteps, IsSound, HasOpened, HaveCome, Going}
+use Rattle.vg_replay.specs.Handler.{Takes, HandlesAll, HandledAfter, StopsAfter}
+use Rattle.vg_replay.specs.Replays.{ReplayFiles, Replays, StopsBegun, AreFirst, IsOfPorts, HavePorts, most_frames}
+use Rattle.vg_replay.specs.UnderWay.{Replaying, TakesFewSteps, IsSound, IsReady, HasOpened, HaveCome, Going}
 use Rattle.vg_replay.specs.Writing.{WritesFrame}
 use Rattle.vg_replay.specs.Stepping.{stop_of, HasStopped, HasEnded, ClosesAll}
 
@@ -63,11 +63,17 @@ first_more : {s t : Disk} {n : ReplayFiles} {r : Replaying} {past : List Handled
     → AreFirst s n.ins (arrivals_of (past ++ h ∷ []))
 first_more {past = past} h x not first told = rw (arrivals_of-more past h) (next_first h.arrival x not first told)
 
-ports_more : {s t : Disk} {n : ReplayFiles} {r : Replaying} {past : List Handled} (h : Handled) → Going s t n r past → IsNext r.inputs h.arrival
+ports_more : {s t : Disk} {n : ReplayFiles} {r : Replaying} {past : List Handled} (h : Handled) → Going s t n r past → IsOfPorts (length r.inputs) h
     → HavePorts n (past ++ h ∷ [])
-ports_more {n = n} {r = r} {past = past} h x next =
-    All-push (λ (x : Handled). x.arrival.port < length n.ins) past h x.ports (let within =
-    slice_get_within r.inputs h.arrival.port next.input next.at in omega (arith, within, x.sound.inputs))
+ports_more {n = n} {past = past} h x of = All-push (IsOfPorts (length n.ins)) past h x.ports (subst (λ ports. IsOfPorts ports h) x.sound.inputs of)
+
+-- what the handler takes is what comes after the frame
+pub ready_more : {t u : Disk} {old mid new : List Input} {a : Arrival} (before after : Takes) → IsReady before old → IsChanged old mid a
+    → Advances t u mid new (Ok tt) → after.ports ≡ before.ports → after.since ≤ a.frame.time → IsReady after new
+ready_more {new = new} {a = a} before after ready changed advances ports since = record {
+  ports = ports ∙ (ready.ports ∙ (sym changed.ports ∙ sym advances.reads.ports));
+  times = none_before new after.since a.frame.time since (advances.later a.frame.time (changed_is_first changed));
+}
 
 -- ---- a frame whose bytes were changed in place
 
@@ -116,15 +122,15 @@ handler_stops {past = past} a reason history halts x not changed first = record 
 -- a frame was written, and the record after it is read now
 pub frame_written : {s t u : Disk} {n : ReplayFiles} {r : Replaying} {past : List Handled} {mid : List Input} (h : Handled) → Going s t n r past
     → r.totals.frames ≢ most_frames → IsChanged r.inputs mid h.arrival → IsFirstLeft r.inputs h.arrival
-    → TakesFewSteps h → WritesFrame t u r.outs r.log (r.totals.frames + 1) h (Ok tt) → IsRead s u n (record r { inputs = mid }) (past ++ h ∷ [])
-frame_written {past = past} h x not changed first steps writes =
+    → TakesFewSteps h → IsOfPorts (length r.inputs) h → WritesFrame t u r.outs r.log (r.totals.frames + 1) h (Ok tt) → IsRead s u n (record r { inputs = mid }) (past ++ h ∷ [])
+frame_written {past = past} h x not changed first steps of writes =
     let keeps = frame_keeps (Ok tt) writes in
     let number = ap (λ k. k + 1) (past_number x) in
     record {
       sound = sound_changed changed x.sound;
       opened = opened_changed changed (opened_writes x.opened keeps);
       no_fault = record { read_faults = keeps.read_faults ∙ x.no_fault.read_faults; write_faults = frame_same writes ∙ x.no_fault.write_faults };
-      ports = ports_more h x changed.next;
+      ports = ports_more h x of;
       first = first_more h x not first;
       wrote = λ told. wrote_more h x.sound x.opened told (x.wrote told) number writes;
       others = λ told. others_more (Ok tt) x.sound x.opened told (x.others told) writes;
@@ -135,9 +141,10 @@ frame_written {past = past} h x not changed first steps writes =
 -- a frame couldn't be written
 pub frame_fails : {S : Type 0} {I : List Handled → Type 0} {A : List Handled → Arrival → S → Type 0} {s t u : Disk} {n : ReplayFiles} {r : Replaying}
     {past : List Handled} {mid : List Input} {e : Failed} (h : Handled) → I (past ++ h ∷ []) → Going s t n r past → r.totals.frames ≢ most_frames
-    → IsChanged r.inputs mid h.arrival → IsFirstLeft r.inputs h.arrival → WritesFrame t u r.outs r.log (r.totals.frames + 1) h (Err e)
+    → IsChanged r.inputs mid h.arrival → IsFirstLeft r.inputs h.arrival → IsOfPorts (length r.inputs) h
+    → WritesFrame t u r.outs r.log (r.totals.frames + 1) h (Err e)
     → HasStopped s u n (record r { inputs = mid }) I A stops.Write
-frame_fails {past = past} {e = e} h history x not changed first writes =
+frame_fails {past = past} {e = e} h history x not changed first of writes =
     let keeps = frame_keeps (Err e) writes in
     let number = ap (λ k. k + 1) (past_number x) in
     record {
@@ -149,7 +156,7 @@ frame_fails {past = past} {e = e} h history x not changed first writes =
         record {
           frames = past ++ h ∷ [];
           history = history;
-          ports = ports_more h x changed.next;
+          ports = ports_more h x of;
           first = first_more h x not first;
           wrote = λ told. wrote_parts h x.sound x.opened told (x.wrote told) number writes;
         },
@@ -164,11 +171,12 @@ come_after {r = r} x keeps told = let come = x.come told in (come.0, come.1, Com
 -- the frame was handled
 pub frame_handled : {s t u v : Disk} {n : ReplayFiles} {r : Replaying} {past : List Handled} {mid new : List Input} (h : Handled) → Going s t n r past
     → r.totals.frames ≢ most_frames → IsChanged r.inputs mid h.arrival → IsFirstLeft r.inputs h.arrival
-    → TakesFewSteps h → WritesFrame t u r.outs r.log (r.totals.frames + 1) h (Ok tt) → Advances u v mid new (Ok tt)
+    → TakesFewSteps h → IsOfPorts (length r.inputs) h → WritesFrame t u r.outs r.log (r.totals.frames + 1) h (Ok tt)
+    → Advances u v mid new (Ok tt)
     → Going s v n (with_inputs r new (counted r.totals h.verdict h.steps)) (past ++ h ∷ [])
-frame_handled {r = r} {past = past} h x not changed first steps writes advances =
+frame_handled {r = r} {past = past} h x not changed first steps of writes advances =
     let counts = ap (λ (t : Totals). counted t h.verdict h.steps) x.totals_are ∙ sym (totals_of-more past h) in
-    read_goes (frame_written h x not changed first steps writes) advances.reads counts (λ told.
+    read_goes (frame_written h x not changed first steps of writes) advances.reads counts (λ told.
     let come = come_after x (frame_keeps (Ok tt) writes) told in
     rw (arrivals_of-more past h) (come.0, come.1, advances.comes r.inputs come.0 (arrivals_of past) h.arrival changed come.2))
 
@@ -176,10 +184,10 @@ frame_handled {r = r} {past = past} h x not changed first steps writes advances 
 pub frame_last : {S : Type 0} {I : List Handled → Type 0} {A : List Handled → Arrival → S → Type 0} {s t u v : Disk} {n : ReplayFiles} {r : Replaying}
     {past : List Handled} {mid new : List Input} {e : MergeFault} (totals : Totals) (h : Handled) → I (past ++ h ∷ []) → Going s t n r past
     → r.totals.frames ≢ most_frames → IsChanged r.inputs mid h.arrival → IsFirstLeft r.inputs h.arrival → TakesFewSteps h
-    → WritesFrame t u r.outs r.log (r.totals.frames + 1) h (Ok tt) → Advances u v mid new (Err e)
+    → IsOfPorts (length r.inputs) h → WritesFrame t u r.outs r.log (r.totals.frames + 1) h (Ok tt) → Advances u v mid new (Err e)
     → HasStopped s v n (with_inputs r new totals) I A (stop_of e)
-frame_last {r = r} {past = past} totals h history x not changed first steps writes advances =
-    read_stops totals history (frame_written h x not changed first steps writes) advances.reads advances.fault (λ told.
+frame_last {r = r} {past = past} totals h history x not changed first steps of writes advances =
+    read_stops totals history (frame_written h x not changed first steps of writes) advances.reads advances.fault (λ told.
     let come = come_after x (frame_keeps (Ok tt) writes) told in
     rw (arrivals_of-more past h) (come.0, come.1, advances.refused r.inputs come.0 (arrivals_of past) h.arrival changed come.2))
 

@@ -23,7 +23,7 @@ module _ {H S : Type 0} (Handles : H → Handled → H → Type 0) (Stops : H �
   wrong s t u n old new past mid a (stops.Capture port refusal) x not changed first y = absurd y
   wrong s t u n old new past mid a stops.Read x not changed first y = absurd y
   wrong s t u n old new past mid a stops.Write x not changed first y =
-      frame_fails (handled_with a y.0 y.1) (next_one Handles Stops past old.handler (handled_with a y.0 y.1) new.handler y.2) x not changed first y.3
+      frame_fails (handled_with a y.0 y.1) (next_one Handles Stops past old.handler (handled_with a y.0 y.1) new.handler y.2) x not changed first y.3 y.4
   wrong s t u n old new past mid a stops.Frames x not changed first y = absurd y
   wrong s t u n old new past mid a stops.Memory x not changed first y = absurd y
   wrong s t u n old new past mid a (stops.Handler reason) x not changed first y =

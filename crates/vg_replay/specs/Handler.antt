@@ -1,8 +1,13 @@
 -- What a handler does with frames, one after another. `Handles` says of two of its states whether a frame is handled so in the first and leads to the
 -- second, and `Stops` whether it stops at a frame.
-use Rattle.std.specs.Prelude.{◌≡◌, ◌≤◌, List, [], ◌∷◌, ◌++◌, length}
+use Rattle.std.specs.Prelude.{ℕ, ◌≡◌, ◌≤◌, List, [], ◌∷◌, ◌++◌, length}
 use Rattle.vg_pcap.specs.Arrivals.{Arrival}
 use Rattle.vg_replay.specs.Outputs.{Handled}
+
+-- what frames a handler takes: those that come in at so many ports, none of them earlier than this time, in nanoseconds
+pub record Takes : Type 0 where
+  pub ports : ℕ
+  pub since : ℕ
 
 -- these frames were handled in order, and led from one state to another
 abbrev pub HandlesAll : {H : Type 0} → (H → Handled → H → Type 0) → H → List Handled → H → Type 0

@@ -8,9 +8,14 @@ use Rattle.vg_replay.specs.declared.under_way.Next.TheVariants as nexts
 use Rattle.vg_replay.specs.declared.stop.RunStop.{RunStop}
 use Rattle.vg_replay.specs.declared.totals.Totals.{Totals}
 use Rattle.vg_replay.specs.Outputs.{Handled}
-use Rattle.vg_replay.specs.Handler.{HandledFrom, StopsFrom, HandledNext, StopsNext, HandledAfter, StopsAfter}
+use Rattle.vg_replay.specs.Handler.{Takes, HandledFrom, StopsFrom, HandledNext, StopsNext, HandledAfter, StopsAfter}
 use Rattle.vg_replay.specs.Replays.{ReplayFiles, Replays, StopsBegun}
-use Rattle.vg_replay.specs.UnderWay.{ReplayOf, Going}
+use Rattle.vg_replay.specs.UnderWay.{ReplayOf, Going, IsReady}
+
+-- the handler of a replay that goes on takes what comes in
+abbrev pub IsReadyOn : {H : Type 0} → (H → Takes) → Next H → Type 0
+IsReadyOn takes (nexts.Again r) = IsReady (takes r.handler) r.files.inputs
+IsReadyOn takes (nexts.End totals) = Unit {0}
 
 module _ {H S : Type 0} (Handles : H → Handled → H → Type 0) (Stops : H → Arrival → S → Type 0) where
   -- frames were replayed through a handler that was in this state, or this stopped it

@@ -1,5 +1,5 @@
 -- What a replay writes: the capture of each port, and the log.
-use Rattle.std.specs.Prelude.{ℕ, ◌+◌, List, [], ◌∷◌, ◌++◌, codes, decimal, map, length, count_by, sum_by, ◌==◌, if◌then◌else◌, Bool, true, false}
+use Rattle.std.specs.Prelude.{ℕ, ◌+◌, ◌<◌, List, [], ◌∷◌, ◌++◌, codes, decimal, map, length, count_by, sum_by, ◌==◌, if◌then◌else◌, Bool, true, false}
 use Rattle.std.specs.List.{flat_map}
 use Rattle.vg_core.specs.declared.verdict.Verdict.{Verdict}
 use Rattle.vg_core.specs.declared.verdict.Verdict.TheVariants.{Drop, Send, Flood}
@@ -30,6 +30,11 @@ abbrev pub goes_to : Verdict → ℕ → ℕ → Bool
 goes_to Drop from to = false
 goes_to (Send port) from to = port == to
 goes_to Flood from to = if from == to then false else true
+
+-- a frame isn't sent to a port that there isn't
+abbrev pub SendsBelow : ℕ → Verdict → Type 0
+SendsBelow ports (Send port) = port < ports
+SendsBelow ports _ = Unit {0}
 
 -- what a frame puts into the capture of a port
 unfoldable pub piece_to : ℕ → Handled → List ℕ

@@ -11,7 +11,7 @@ use Rattle.vg_pcap.specs.Incoming.{AllComeIn, IsFirstBadHeader}
 use Rattle.vg_replay.specs.declared.totals.Totals.{Totals}
 use Rattle.vg_replay.specs.declared.stop.RunStop.{RunStop}
 use Rattle.vg_replay.specs.declared.stop.RunStop.TheVariants as stops
-use Rattle.vg_replay.specs.Outputs.{Handled, arrivals_of, capture_to, log_of, totals_of}
+use Rattle.vg_replay.specs.Outputs.{Handled, SendsBelow, arrivals_of, capture_to, log_of, totals_of}
 
 -- ---- names
 
@@ -98,9 +98,15 @@ AreTooMany s ins frames =
     × ((port : ℕ) × ((stream_at left port).frames ≢ []))
     × ((port : ℕ) (damage : Damage) → IsAtDamage left port damage → ⊥)
 
--- the frames came in at ports of the replay
+-- a frame came in at one of so many ports, kept its length, and was sent to none but them
+pub record IsOfPorts (ports : ℕ) (h : Handled) : Type 0 where
+  pub came : h.arrival.port < ports
+  pub kept : length h.bytes ≡ length h.arrival.frame.bytes
+  pub sent : SendsBelow ports h.verdict
+
+-- the frames are of the replay's ports
 abbrev pub HavePorts : ReplayFiles → List Handled → Type 0
-HavePorts n frames = All (λ h. h.arrival.port < length n.ins) frames
+HavePorts n frames = All (IsOfPorts (length n.ins)) frames
 
 -- ---- how a replay ends, of whose handler these are the histories, what it may do with frames, in order, and this why it may stop at the frame after one
 

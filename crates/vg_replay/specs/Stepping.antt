@@ -1,5 +1,5 @@
 -- The parts of handling a frame. No public clause rests on this file.
-use Rattle.std.specs.Prelude.{ℕ, ◌+◌, ◌≤◌, ◌^◌, ◌≡◌, List, [], ◌∷◌, ◌++◌, false, All, IsTrue, Bool, true, Result, Ok, Err}
+use Rattle.std.specs.Prelude.{ℕ, ◌+◌, ◌≤◌, ◌^◌, ◌≡◌, List, [], ◌∷◌, ◌++◌, length, false, All, IsTrue, Bool, true, Result, Ok, Err}
 use Rattle.vg_base.specs.declared.faults.Failed.{Failed}
 use Rattle.vg_base.specs.Files.{Disk, Counts, SameHeld}
 use Rattle.vg_base.specs.Several.{DiffersBy}
@@ -11,7 +11,7 @@ use Rattle.vg_pcap.specs.Arrivals.{Arrival, AllCome}
 use Rattle.vg_pcap.specs.Merge.{IsNext, IsChanged, Comes}
 use Rattle.vg_replay.specs.declared.stop.RunStop.{RunStop}
 use Rattle.vg_replay.specs.declared.stop.RunStop.TheVariants as stops
-use Rattle.vg_replay.specs.Replays.{ReplayFiles, KeepsOthers, StopsBegun}
+use Rattle.vg_replay.specs.Replays.{ReplayFiles, IsOfPorts, KeepsOthers, StopsBegun}
 use Rattle.vg_replay.specs.declared.handled.Outcome.{Outcome}
 use Rattle.vg_replay.specs.Outputs.{Handled}
 use Rattle.vg_replay.specs.Writing.{WritesFrame}
@@ -59,9 +59,11 @@ module _ {H S : Type 0} (Handles : H → Handled → H → Type 0) (Stops : H �
   abbrev pub HandlesFrame : Disk → Disk → ReplayOf H → ReplayOf H → Arrival → Result Outcome (RunStop S) → Type 0
   HandlesFrame s t old new a (Ok outcome) =
       (left : List ℕ) × Handles old.handler (handled_with a left outcome) new.handler × (outcome.steps ≤ 2 ^ 31)
+      × IsOfPorts (length old.files.inputs) (handled_with a left outcome)
       × WritesFrame s t old.files.outs old.files.log (old.files.totals.frames + 1) (handled_with a left outcome) (Ok tt)
   HandlesFrame s t old new a (Err stops.Write) =
       (left : List ℕ) × (outcome : Outcome) × Handles old.handler (handled_with a left outcome) new.handler
+      × IsOfPorts (length old.files.inputs) (handled_with a left outcome)
       × WritesFrame s t old.files.outs old.files.log (old.files.totals.frames + 1) (handled_with a left outcome) (Err (record {}))
   HandlesFrame s t old new a (Err (stops.Handler reason)) = Stops old.handler a reason × (t ≡ s)
   HandlesFrame s t old new a (Err _) = ⊥

@@ -5,9 +5,10 @@ use Rattle.vg_base.specs.Several.{DiffersBy, AreOpen}
 use Rattle.vg_pcap.specs.Frames.{Stream}
 use Rattle.vg_pcap.specs.Arrivals.{Arrival}
 use Rattle.vg_pcap.specs.Incoming.{AllComeIn}
-use Rattle.vg_pcap.specs.Merge.{Input, ids_of, AreReadable, Comes}
+use Rattle.vg_pcap.specs.Merge.{Input, ids_of, AreReadable, Comes, NoneEarlier}
 use Rattle.vg_replay.specs.declared.totals.Totals.{Totals}
 use Rattle.vg_replay.specs.Outputs.{Handled, arrivals_of, totals_of}
+use Rattle.vg_replay.specs.Handler.{Takes}
 use Rattle.vg_replay.specs.Replays.{ReplayFiles, AreReplayFiles, NoFault, HavePorts, WroteAll, KeepsOthers, most_frames}
 
 -- what is seen of the files of a replay: the inputs by port, the ids of the captures that are written by port, the id of the log, and the counts so far
@@ -58,6 +59,11 @@ pub record IsSound (n : ReplayFiles) (r : Replaying) : Type 0 where
   pub inputs : length r.inputs ≡ length n.ins
   pub outs : length r.outs ≡ length n.outs
   pub few : length r.outs ≤ 64
+
+-- a handler takes what comes in: frames of as many ports, and no frame that waits is too early for it
+pub record IsReady (takes : Takes) (inputs : List Input) : Type 0 where
+  pub ports : takes.ports ≡ length inputs
+  pub times : NoneEarlier takes.since inputs
 
 -- a frame took no more steps than this, so that those of all frames can be counted in 64 bits
 abbrev pub TakesFewSteps : Handled → Type 0

@@ -1,5 +1,5 @@
 //! Replaying captures through a handler.
-ghost use Rattle.std.specs.Prelude.{◌≤◌, ◌+◌, length, map, string_bytes};
+ghost use Rattle.std.specs.Prelude.{◌≡◌, ◌≤◌, ◌+◌, length, map, string_bytes};
 ghost use Rattle.vg_replay.specs.Replays.{AreReplayFiles, ReplayFiles};
 ghost use Rattle.vg_replay.specs.Handling.{ReplaysThrough};
 
@@ -21,6 +21,7 @@ pub fn replay<H: Handler, F: Files>(
 ) -> Result<Totals, RunStop<H::Stop>>
     requires room { (F.disk files.old).open_count + length ins.now + length outs.now + 1 ≤ MAX_OPEN }
     requires names { AreReplayFiles (record { log = log.now; ins = map string_bytes ins.now; outs = map string_bytes outs.now }) }
+    requires takes { H.takes handler ≡ record { ports = length ins.now; since = 0 } }
     ensures { ReplaysThrough H.handles H.stops_at (F.disk files.old) (F.disk files.new)
         (record { log = log.now; ins = map string_bytes ins.now; outs = map string_bytes outs.now }) handler result }
 {

@@ -1,4 +1,4 @@
-ghost use Rattle.std.specs.Prelude.{◌≡◌, ◌+◌, IfOk, [], ◌∷◌, map, string_bytes};
+ghost use Rattle.std.specs.Prelude.{◌≡◌, ◌+◌, IfOk, [], ◌∷◌, map, string_bytes, vec_len};
 ghost use Rattle.vg_doubles.specs.Memory.{disk_of};
 
 use super::*;
@@ -21,6 +21,8 @@ struct Enough;
 
 impl Handler for ToTwo {
     type Stop = Enough;
+
+    ghost takes = { λ handler. record { ports = 3; since = 0 } };
 
     ghost handles = { λ old h new. (new.left + 1 ≡ old.left) × (h.steps ≡ 3) };
 
@@ -47,6 +49,8 @@ struct Marking {
 
 impl Handler for Marking {
     type Stop = Enough;
+
+    ghost takes = { λ handler. record { ports = 3; since = 0 } };
 
     ghost handles = { λ old h new. (new.byte ≡ old.byte) × (h.steps ≡ 1) };
 
@@ -111,7 +115,8 @@ fn files_of(alloc: Global, first: Vec<u8>, second: Vec<u8>, fails: &[u64]) -> Re
 
 // Three names.
 fn three(alloc: Global, a: &str, b: &str, c: &str) -> Result<Vec<String>, AllocError>
-    ensures { IfOk result (λ names. map string_bytes names.items ≡ a.now ∷ b.now ∷ c.now ∷ []) }
+    ensures names { IfOk result (λ names. map string_bytes names.items ≡ a.now ∷ b.now ∷ c.now ∷ []) }
+    ensures three { IfOk result (λ names. vec_len names ≡ 3) }
 {
     let mut names = Vec::new(alloc);
     names.push(String::from_str(alloc, a)?)?;

@@ -1,13 +1,13 @@
 //! A replay that is under way.
-ghost use Rattle.std.specs.Prelude.{◌≡◌, ◌<◌, ◌≤◌, ◌+◌, ◌^◌, List, length, map, string_bytes, IfOk, IfErr};
+ghost use Rattle.std.specs.Prelude.{◌≡◌, ◌<◌, ◌≤◌, ◌+◌, ◌^◌, List, length, map, string_bytes, true, IfOk, IfErr, OnOk};
 ghost use Rattle.vg_base.specs.Files.{Disk, Writes};
 ghost use Rattle.vg_base.specs.Several.{AreOpen};
 ghost use Rattle.vg_pcap.specs.Frames.{Framed, Fits};
 ghost use Rattle.vg_pcap.specs.Merge.{IsNext, AreReadable};
 ghost use Rattle.vg_replay.specs.Outputs.{Handled};
 ghost use Rattle.vg_replay.specs.Replays.{AreReplayFiles, ReplayFiles};
-ghost use Rattle.vg_replay.specs.UnderWay.{Replaying, output_ids, AreWritable, Going};
-ghost use Rattle.vg_replay.specs.Handling.{StartsReplay, HandlesNext, GoesOn};
+ghost use Rattle.vg_replay.specs.UnderWay.{Replaying, output_ids, AreWritable, Going, IsReady};
+ghost use Rattle.vg_replay.specs.Handling.{StartsReplay, HandlesNext, GoesOn, IsReadyOn};
 ghost use Rattle.vg_replay.specs.Stepping.{Steps, HandlesFrame, HasChanged, ClosesAll};
 
 use crate::handled::{FrameHead, HandledFrame, Outcome};
@@ -64,8 +64,10 @@ impl<H: Handler> Replay<H> {
     ) -> Result<Replay<H>, RunStop<H::Stop>>
         requires room { (F.disk files.old).open_count + length ins.now + length outs.now + 1 ≤ MAX_OPEN }
         requires names { AreReplayFiles (record { log = log.now; ins = map string_bytes ins.now; outs = map string_bytes outs.now }) }
-        ensures { StartsReplay H.handles H.stops_at (F.disk files.old) (F.disk files.new)
+        requires takes { H.takes handler ≡ record { ports = length ins.now; since = 0 } }
+        ensures starts { StartsReplay H.handles H.stops_at (F.disk files.old) (F.disk files.new)
             (record { log = log.now; ins = map string_bytes ins.now; outs = map string_bytes outs.now }) handler result }
+        ensures ready { IfOk result (λ r. IsReady (H.takes r.handler) r.files.inputs) }
     {
         let Ok(captures) = Vec::with_capacity(alloc, outs.len()) else {
             return Err(RunStop::Memory);
@@ -99,9 +101,11 @@ impl<H: Handler> Replay<H> {
     /// `End` comes where no frame was left before the call. Every file is closed before that and before a refusal. Where closing an output fails before
     /// `End`, it is `Write`.
     pub fn next_frame<F: Files>(self, files: &mut F) -> Result<Next<H>, RunStop<H::Stop>>
-        requires { (s : Disk) × (n : ReplayFiles) × (past : List Handled) × Going s (F.disk files.old) n self.files past }
-        ensures { (s : Disk) (n : ReplayFiles) (past : List Handled) → Going s (F.disk files.old) n self.files past →
+        requires going { (s : Disk) × (n : ReplayFiles) × (past : List Handled) × Going s (F.disk files.old) n self.files past }
+        requires ready { IsReady (H.takes self.handler) self.files.inputs }
+        ensures handles { (s : Disk) (n : ReplayFiles) (past : List Handled) → Going s (F.disk files.old) n self.files past →
             HandlesNext H.handles H.stops_at s (F.disk files.new) n self past result }
+        ensures ready { IfOk result (IsReadyOn H.takes) }
     {
         let mut replay = self;
         match replay.step(files) {
@@ -122,7 +126,8 @@ impl<H: Handler> Replay<H> {
 
     /// Handles all frames that are left, and answers the counts of all.
     pub fn run<F: Files>(self, files: &mut F) -> Result<Totals, RunStop<H::Stop>>
-        requires { (s : Disk) × (n : ReplayFiles) × (past : List Handled) × Going s (F.disk files.old) n self.files past }
+        requires going { (s : Disk) × (n : ReplayFiles) × (past : List Handled) × Going s (F.disk files.old) n self.files past }
+        requires ready { IsReady (H.takes self.handler) self.files.inputs }
         ensures { (s : Disk) (n : ReplayFiles) (past : List Handled) → Going s (F.disk files.old) n self.files past →
             GoesOn H.handles H.stops_at s (F.disk files.new) n self past result }
     {
@@ -138,9 +143,11 @@ impl<H: Handler> Replay<H> {
 
     // Handles the next frame, where there is one, and answers whether there was. After a refusal the replay can only be closed.
     fn step<F: Files>(&mut self, files: &mut F) -> Result<bool, RunStop<H::Stop>>
-        requires { (s : Disk) × (n : ReplayFiles) × (past : List Handled) × Going s (F.disk files.old) n self.old.files past }
-        ensures { (s : Disk) (n : ReplayFiles) (past : List Handled) → Going s (F.disk files.old) n self.old.files past →
+        requires going { (s : Disk) × (n : ReplayFiles) × (past : List Handled) × Going s (F.disk files.old) n self.old.files past }
+        requires ready { IsReady (H.takes self.old.handler) self.old.files.inputs }
+        ensures steps { (s : Disk) (n : ReplayFiles) (past : List Handled) → Going s (F.disk files.old) n self.old.files past →
             Steps H.handles H.stops_at s (F.disk files.old) (F.disk files.new) n self.old self.new past result }
+        ensures ready { IfOk result (λ more. more ≡ true → IsReady (H.takes self.new.handler) self.new.files.inputs) }
     {
         let Some(port) = self.merge.next_port() else {
             return Ok(false);
@@ -162,10 +169,14 @@ impl<H: Handler> Replay<H> {
         requires open { AreOpen (F.disk files.old) Writes (output_ids self.old.files) }
         requires few { length self.old.files.outs ≤ MAX_OPEN }
         requires number { self.old.files.totals.frames + 1 < 2 ^ 32 }
+        requires ready { IsReady (H.takes self.old.handler) self.old.files.inputs }
         ensures changed { (frame : Framed) → IsNext self.old.files.inputs (record { port = port; frame = frame }) →
             HasChanged self.old.files self.new.files (record { port = port; frame = frame }) }
         ensures handles { (frame : Framed) → IsNext self.old.files.inputs (record { port = port; frame = frame }) →
             HandlesFrame H.handles H.stops_at (F.disk files.old) (F.disk files.new) self.old self.new (record { port = port; frame = frame }) result }
+        ensures ports { OnOk result ((H.takes self.new.handler).ports ≡ (H.takes self.old.handler).ports) }
+        ensures since { (frame : Framed) → IsNext self.old.files.inputs (record { port = port; frame = frame }) →
+            OnOk result ((H.takes self.new.handler).since ≤ frame.time) }
     {
         let head = FrameHead {
             port,

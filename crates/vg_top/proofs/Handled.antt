@@ -1,8 +1,13 @@
 -- Frames that a small function handles.
-use Rattle.std.proofs.Common.{◌≡◌, ◌∙◌, List, [], ◌∷◌, Result, refl, sym, ap}
+use Rattle.std.proofs.Common.{◌≡◌, ◌∙◌, ◌<◌, ℕ, List, [], ◌∷◌, Result, eqb, inl, inr, All, refl, sym, ap}
+use Rattle.std.proofs.lemmas.Bool.{cases_Bool}
+use Rattle.std.proofs.lemmas.List.Elements.{All-head, All-tail}
 use Rattle.std.specs.declared.convert.Infallible.{Infallible}
 use Rattle.vg_base.specs.Files.{Disk}
 use Rattle.vg_small.specs.declared.small.Small.{Small}
+use Rattle.vg_small.specs.declared.small.Test.{Test}
+use Rattle.vg_small.specs.Meaning.{SendsBelow, value_at, verdict_at}
+use Rattle.vg_replay.specs.Outputs as outputs
 use Rattle.vg_pcap.specs.Arrivals.{Arrival}
 use Rattle.vg_replay.specs.Outputs.{Handled, arrivals_of}
 use Rattle.vg_replay.specs.Handler.{HandlesAll}
@@ -36,3 +41,15 @@ pub replays_small : {H : Type 0} (function : H → Small) (s t : Disk) (n : Repl
     → Replays s t n (AreHandledBy (function handler)) never_stops result
 replays_small function s t n handler result x = Replays-map (λ handled x. handles_all function handler handled x.0 x.1) (λ handled a reason x. x.2) s
     t n result x
+
+-- a function whose values are numbers of ports sends each frame to one of them
+sent_below : (ports : ℕ) (tests : List Test) (last port : ℕ) → All (λ (t : Test). t.value < ports) tests → last < ports
+    → value_at tests last port < ports
+sent_below ports [] last port all below = below
+sent_below ports (t ∷ tests) last port all below = elim (cases_Bool (eqb port t.port)) [
+  | inl here ↦ rw here (All-head (λ (x : Test). x.value < ports) t tests all)
+  | inr other ↦ rw other (sent_below ports tests last port (All-tail (λ (x : Test). x.value < ports) t tests all) below)
+]
+
+pub verdict_below : (ports : ℕ) (f : Small) (port : ℕ) → SendsBelow ports f → outputs.SendsBelow ports (verdict_at f.tests f.last port)
+verdict_below ports f port below = sent_below ports f.tests f.last port below.tests below.last

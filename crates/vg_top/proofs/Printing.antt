@@ -15,7 +15,7 @@ use Rattle.vg_pcap.specs.Arrivals.{Arrival}
 use Rattle.vg_core.specs.declared.verdict.Verdict.{Verdict}
 use Rattle.vg_replay.specs.Outputs.{Handled, arrivals_of, goes_to, piece_to, capture_to}
 use Rattle.vg_top.specs.Frames.{handle_at, handled_by, AreHandledBy}
-use Rattle.vg_replay.specs.Replays.{ReplayFiles, IsPart, Holds, WroteAll, WroteParts, AreFirst, AreAll, AreUpTo, AreTooMany}
+use Rattle.vg_replay.specs.Replays.{IsOfPorts, ReplayFiles, IsPart, Holds, WroteAll, WroteParts, AreFirst, AreAll, AreUpTo, AreTooMany}
 use Rattle.vg_top.specs.declared.report.Report.{Report}
 use Rattle.vg_top.specs.declared.stop.Stop.{Stop}
 use Rattle.vg_top.specs.declared.stop.Stop.TheVariants.{Wrong, Usage, Capture, Read, Write, Memory, Limit, Frames, NotBuilt}
@@ -56,8 +56,9 @@ pub has_finished : (s t : Disk) {n : Files} (r : Report) → HasRun s t n r → 
 has_finished s t {n} r has =
     let ports : length n.ins ≡ has.spec.ports = has.verified.functions.ports in
     let frames = arrivals_of has.replayed.frames in
+    let of : All (IsOfPorts has.spec.ports) has.replayed.frames = rw ports at has.replayed.ports in
     let below : All (λ a. a.port < has.spec.ports) frames = All-map (λ (a : Arrival). a.port < has.spec.ports) (λ (h : Handled). h.arrival)
-    has.replayed.frames (rw ports at has.replayed.ports) in
+    has.replayed.frames (λ k d lt. (of k d lt).came) in
     record {
       c = has.c;
       spec = has.spec;

@@ -55,7 +55,8 @@ fn run_files<F: Files>(alloc: Global, files: &mut F, names: &FileNames<'_>) -> R
     let Functions { c, spec } = functions;
     let paths = path_count(&c, &spec);
     let steps = most_steps(&c, spec.ports);
-    let handler = SmallHandler { function: c };
+    let ports = spec.ports;
+    let handler = SmallHandler { function: c, ports };
     match replay(alloc, handler, files, names.log, names.ins, names.outs) {
         Ok(totals) => Ok(Report {
             paths,

@@ -7,17 +7,17 @@ use Rattle.vg_replay.proofs.Histories.{next_none, next_one}
 use Rattle.vg_replay.proofs.Stopping.{too_many, opened_writes}
 use Rattle.vg_replay.proofs.Stepped.{went_wrong}
 use Rattle.vg_replay.proofs.Wrote.{frame_keeps}
-use Rattle.vg_replay.proofs.Handling.{IsFirstLeft, few_more, frame_handled, frame_last}
+use Rattle.vg_replay.proofs.Handling.{IsFirstLeft, few_more, frame_handled, frame_last, ready_more}
 use Rattle.vg_replay.specs.Outputs.{Handled}
 use Rattle.vg_replay.specs.Replays.{most_frames}
-use Rattle.vg_replay.specs.UnderWay.{Replaying, ReplayOf, Going}
+use Rattle.vg_replay.specs.UnderWay.{Replaying, ReplayOf, Going, IsReady}
 use Rattle.vg_replay.specs.Stepping.{handled_with, HasChanged}
 use Rattle.vg_replay.specs.Writing.{WritesFrame}
 use Rattle.vg_replay.proofs.under_way.Replay.step.Goals as goal
 use Rattle.vg_replay.proofs.under_way.Replay.step.Goals.{in-Ok, in-Err}
 
-pub returns-in_default : goal.returns-in_default
-returns-in_default g c =
+pub returns-in_default-clause-steps : goal.returns-in_default-clause-steps
+returns-in_default-clause-steps g c =
     rw (← c.self.view_is) (λ s n past x. (
       refl,
       refl,
@@ -28,8 +28,8 @@ returns-in_default g c =
       },
     ))
 
-pub returns-then-self : goal.returns-then-self
-returns-then-self g c =
+pub returns-then-self-clause-steps : goal.returns-then-self-clause-steps
+returns-then-self-clause-steps g c =
     rw (← c.self.view_is) (λ s n past x. too_many (next_none g.H.Handler.handles g.H.Handler.stops_at past c.self.inside.handler) x c.if-self.true
     c.in-Some.ensures.next.1)
 
@@ -38,8 +38,11 @@ handle-requires-clause-next g c =
     let next = c.in-Some.ensures.next in
     rw (← c.self.view_is) (next.0, next.1, c.in-Some.ensures.fits (record { port = c.in-Some.port; frame = next.0 }) next.1)
 
-pub returns-in_err-outcome : goal.returns-in_err-outcome
-returns-in_err-outcome g c =
+pub handle-requires-clause-ready : goal.handle-requires-clause-ready
+handle-requires-clause-ready g c = c.requires.ready
+
+pub returns-in_err-outcome-clause-steps : goal.returns-in_err-outcome-clause-steps
+returns-in_err-outcome-clause-steps g c =
     let frame = c.in-Some.ensures.next.0 in
     let a : Arrival = record { port = c.in-Some.port; frame = frame } in
     let next : IsNext c.args.self.now.files.inputs a = subst (λ (r : ReplayOf _). IsNext r.files.inputs a) c.self.view_is c.in-Some.ensures.next.1 in
@@ -56,7 +59,7 @@ counted-self-inside-requires g c =
     let a : Arrival = record { port = c.in-Some.port; frame = frame } in
     let next : IsNext c.args.self.now.files.inputs a = subst (λ (r : ReplayOf _). IsNext r.files.inputs a) c.self.view_is c.in-Some.ensures.next.1 in
     let totals = ap (λ (r : ReplayOf _). r.files.totals) c.self-2.view_is ∙ ap (λ (r : Replaying). r.totals) (c.handle.ensures.changed frame next).1 in
-    rw totals (few_more c.in_ok-outcome.outcome.steps c.requires.3
+    rw totals (few_more c.in_ok-outcome.outcome.steps c.requires.going.3
     (λ e. c.if-self.false (ap (λ (r : ReplayOf _). r.files.totals.frames) c.self.view_is ∙ e)) (c.in_ok-outcome.ensures.handles frame next).2)
 
 pub advance-requires-clause-readable : goal.advance-requires-clause-readable
@@ -64,11 +67,11 @@ advance-requires-clause-readable g c =
     let frame = c.in-Some.ensures.next.0 in
     let a : Arrival = record { port = c.in-Some.port; frame = frame } in
     let next : IsNext c.args.self.now.files.inputs a = subst (λ (r : ReplayOf _). IsNext r.files.inputs a) c.self.view_is c.in-Some.ensures.next.1 in
-    let keeps = frame_keeps (Ok tt) (c.in_ok-outcome.ensures.handles frame next).3 in
+    let keeps = frame_keeps (Ok tt) (c.in_ok-outcome.ensures.handles frame next).4 in
     let changed = c.handle.ensures.changed frame next in
     let inputs : c.self-2.inside.merge ≡ c.handle.new.self.files.inputs = ap (λ (r : ReplayOf _). r.files.inputs) c.self-2.view_is in
     subst (λ (l : List Input). AreReadable (g.F.Files.disk c.handle.new.files) l) (sym inputs)
-    (readable_changed (g.F.Files.disk c.handle.new.files) changed.0 (opened_writes c.requires.3.opened keeps).readable)
+    (readable_changed (g.F.Files.disk c.handle.new.files) changed.0 (opened_writes c.requires.going.3.opened keeps).readable)
 
 pub advance-requires-clause-next : goal.advance-requires-clause-next
 advance-requires-clause-next g c =
@@ -79,8 +82,8 @@ advance-requires-clause-next g c =
     let inputs : c.self-2.inside.merge ≡ c.handle.new.self.files.inputs = ap (λ (r : ReplayOf _). r.files.inputs) c.self-2.view_is in
     subst (λ (l : List Input). IsNextAt l c.in-Some.port) (sym inputs) (_, still_next changed.0)
 
-pub returns : goal.returns
-returns g c =
+pub returns-clause-steps : goal.returns-clause-steps
+returns-clause-steps g c =
     let frame = c.in-Some.ensures.next.0 in
     let a : Arrival = record { port = c.in-Some.port; frame = frame } in
     let next : IsNext c.args.self.now.files.inputs a = subst (λ (r : ReplayOf _). IsNext r.files.inputs a) c.self.view_is c.in-Some.ensures.next.1 in
@@ -108,10 +111,27 @@ returns g c =
         handles,
         next,
         rw (outs, log, c.counted-self-inside.ensures, totals)
-            (frame_handled h x not changed-2 first handled.2 handled.3 w.in-Ok.ensures),
+            (frame_handled h x not changed-2 first handled.2 handled.3 handled.4 w.in-Ok.ensures),
       )
       | in-Err w ↦
           let history = next_one g.H.Handler.handles g.H.Handler.stops_at past c.args.self.now.handler h c.self-2.inside.handler handles in
           rw (w.result-is, w.stop_of.ensures, outs, log) (frame_last c.counted-self-inside.result h history x not changed-2 first handled.2 handled.3
-          w.in-Err.ensures)
+          handled.4 w.in-Err.ensures)
+    ]
+
+pub returns-clause-ready : goal.returns-clause-ready
+returns-clause-ready g c =
+    let frame = c.in-Some.ensures.next.0 in
+    let a : Arrival = record { port = c.in-Some.port; frame = frame } in
+    let next : IsNext c.args.self.now.files.inputs a = subst (λ (r : ReplayOf _). IsNext r.files.inputs a) c.self.view_is c.in-Some.ensures.next.1 in
+    let changed = c.handle.ensures.changed frame next in
+    let inputs : c.self-2.inside.merge ≡ c.handle.new.self.files.inputs = ap (λ (r : ReplayOf _). r.files.inputs) c.self-2.view_is in
+    let handler : c.self-2.inside.handler ≡ c.handle.new.self.handler = ap (λ (r : ReplayOf _). r.handler) c.self-2.view_is in
+    let changed-2 : IsChanged c.args.self.now.files.inputs c.self-2.inside.merge a = subst
+    (λ (l : List Input). IsChanged c.args.self.now.files.inputs l a) (sym inputs) changed.0 in
+    elim c.match-advance.branch [
+      | in-Ok w ↦ rw w.result-is (λ more. rw handler
+          (ready_more (g.H.Handler.takes c.args.self.now.handler) (g.H.Handler.takes c.handle.new.self.handler) c.requires.ready changed-2
+          w.in-Ok.ensures c.in_ok-outcome.ensures.ports (c.in_ok-outcome.ensures.since frame next)))
+      | in-Err w ↦ rw w.result-is tt
     ]
