@@ -6,3 +6,4 @@ pub mod Strict
 mod Declarations
 mod Depths
 pub mod Links
+mod Arguments

@@ -7,3 +7,4 @@ pub mod Meaning
 pub mod Runs
 pub mod Chains
 pub mod Nesting
+pub mod Arguments

@@ -1,8 +1,8 @@
 -- How deep a run of a text nests: constructs in one another, where a called function stands in the call. The machine's own stack grows with it, so there
 -- is a limit. A statement, a block, and an expression that stands in one of them, in parentheses, in brackets, behind a sign or a cast, as an argument or
 -- as the second or third operand of `?:` is a construct, and what stands to the right of an operator counts as one; a chain of operators or suffixes is
--- one, however long it is. Each argument of a call waits for those behind it, so it counts one more than the one before it. An `else if` is the statement
--- that stands in its `if`. What a run doesn't come to counts nothing: a loop's start, bound and step are constants, and so is the length of an array.
+-- one, however long it is. An `else if` is the statement that stands in its `if`. What a run doesn't come to counts nothing: a loop's start, bound and
+-- step are constants, and so is the length of an array.
 use Rattle.std.specs.Prelude.{ℕ, zero, suc, ◌+◌, max, min, List, [], ◌∷◌, ◌++◌, length, slice_index_or, option_to_list, Option, Some, None}
 use Rattle.vg_core.specs.Syntax.{list_of, named_by, listed}
 use Rattle.vg_core.specs.Units.{Typed}
@@ -42,16 +42,6 @@ abbrev pub deepest : (depths : List ℕ) → (more : ℕ) → (nodes : List ℕ)
 deepest depths more [] = 0
 deepest depths more (n ∷ ns) = max (more + slice_index_or depths n 0) (deepest depths more ns)
 
--- of some arguments, of which the first counts for so many more
-abbrev pub deepest_waiting : (depths : List ℕ) → (more : ℕ) → (arguments : List ℕ) → ℕ
-deepest_waiting depths more [] = 0
-deepest_waiting depths more (n ∷ ns) = max (more + slice_index_or depths n 0) (deepest_waiting depths (more + 1) ns)
-
--- of the parts of a node that stand in a list
-abbrev pub deepest_of_list : (depths : List ℕ) → Kind → (parts : List ℕ) → ℕ
-deepest_of_list depths (nodes.Call name arguments) parts = deepest_waiting depths 1 parts
-deepest_of_list depths kind parts = deepest depths 1 parts
-
 -- of the function that a call calls
 abbrev pub depth_called : List ℕ → Kind → Option Referent → ℕ
 depth_called depths (nodes.Call name arguments) (Some (referents.Declared function)) = slice_index_or depths function 0
@@ -59,7 +49,7 @@ depth_called depths kind _ = 0
 
 abbrev pub depth_in : Typed → (depths : List ℕ) → (n : ℕ) → Kind → ℕ
 depth_in u depths n kind =
-    max (deepest_of_list depths kind (listed u.tree.items (list_of kind)))
+    max (deepest depths 1 (listed u.tree.items (list_of kind)))
     (max (deepest depths 1 (inner kind)) (max (deepest depths 0 (operands kind)) (depth_called depths kind (referent_at u n))))
 
 -- how many constructs stand in one another in a node. A depth above the limit counts as one more than the limit

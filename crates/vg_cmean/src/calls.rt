@@ -1,7 +1,8 @@
 //! What calls do before and behind the body of what is called (C11 6.5.2.2), and the library's calls for the frame.
-ghost use Rattle.std.specs.Prelude.{◌≡◌, Ok};
+ghost use Rattle.std.specs.Prelude.{◌≡◌, ◌≤◌, Ok, length};
 ghost use Rattle.vg_cmean.specs.Outcomes.{gives, does, goes};
 ghost use Rattle.vg_cmean.specs.Views.{seen, IsShort, IsSame};
+ghost use Rattle.vg_cmean.specs.Arguments.{set_below};
 ghost use Rattle.vg_cmean.specs.Meaning as meaning;
 ghost use Rattle.vg_cmemory.specs.State.{State, sizes};
 
@@ -28,6 +29,24 @@ pub fn parameter(world: &mut World, unit: &Unit, p: u32, argument: Datum) -> Res
     world.memory.declare(p);
     let variable = declared(world.memory, unit, p, place_at(unit, p));
     write(world, variable, argument)
+}
+
+/// Each parameter is a new variable with the argument that waits for it. The last one is the first, which nothing can tell.
+pub fn parameters(
+    world: &mut World,
+    unit: &Unit,
+    params: &[u32],
+    arguments: &[Datum],
+) -> Result<(), Fault>
+    requires enough { length arguments.now ≤ length params.now }
+    ensures value { goes result (seen world.new) ≡ set_below unit.now params.now arguments.now (length arguments.now) (seen world.old) }
+    ensures same { IsSame world.old world.new }
+{
+    for k in 0..arguments.len() {
+        let last = arguments.len() - 1 - k;
+        parameter(world, unit, params[last], arguments[last])?;
+    }
+    Ok(())
 }
 
 /// What these nodes declare lives no longer.

@@ -38,6 +38,7 @@ pub enum Done {
 pub struct Machine {
     memory: FrameMemory,
     above: Vec<u32>,
+    waiting: Vec<Datum>,
 }
 
 impl Model for Machine {
@@ -97,7 +98,12 @@ impl Machine {
             memory.add(alloc, size as u32)?;
         }
         let above = chains_of(alloc, unit)?;
-        Ok(Machine { memory, above })
+        let waiting = vec![in alloc; Datum::Nothing; erase(unit).items().len()]?;
+        Ok(Machine {
+            memory,
+            above,
+            waiting,
+        })
     }
 
     /// Runs `nf_process` on a frame of at most 262,144 bytes that came to a port at a time in nanoseconds. `unit` is the text that the machine was
@@ -121,6 +127,7 @@ impl Machine {
         let mut world = World {
             memory: &mut self.memory,
             frame,
+            waiting: self.waiting.as_mut_slice(),
         };
         let answer = process(&mut world, &env, port, now);
         let done = told(&self.memory, answer);

@@ -30,29 +30,6 @@ fn deepest_listed(depths: &[u32], nodes: &[u32]) -> u64
     most
 }
 
-// The greatest depth of some arguments, each of which waits for those behind it.
-fn deepest_waiting(depths: &[u32], arguments: &[u32]) -> u64
-    ensures { result ≡ nesting.deepest_waiting depths.now 1 arguments.now }
-{
-    let mut most = 0;
-    let mut more = 1u64;
-    for &n in arguments {
-        most = u64::max(most, more + u64::from(depth(depths, n)));
-        more += 1;
-    }
-    most
-}
-
-// The greatest depth of the parts of a node that stand in a list.
-fn deepest_of_list(depths: &[u32], kind: Kind, parts: &[u32]) -> u64
-    ensures { result ≡ nesting.deepest_of_list depths.now kind parts.now }
-{
-    match kind {
-        Kind::Call { .. } => deepest_waiting(depths, parts),
-        _ => deepest_listed(depths, parts),
-    }
-}
-
 // The depth of a part that is a construct of its own.
 fn inside(depths: &[u32], n: u32) -> u64
     ensures value { result ≡ 1 + slice_index_or depths.now n 0 }
@@ -156,7 +133,7 @@ fn depth_of(unit: &Unit, depths: &[u32], n: u32) -> u32
     ensures { result ≡ nesting.depth_of unit.now depths.now n }
 {
     let kind = kind_at(unit, n);
-    let listed = deepest_of_list(depths, kind, erase(unit).listed(list_of(kind)));
+    let listed = deepest_listed(depths, erase(unit).listed(list_of(kind)));
     let own = u64::max(listed, deepest_inner(depths, kind));
     let same = u32::max(
         deepest_operand(depths, kind),

@@ -1,5 +1,5 @@
 //! The machine: it runs the nodes of a typed text as they mean (C11 6.5, 6.8). It takes no memory.
-ghost use Rattle.std.specs.Prelude.{◌≡◌, ◌<◌, ◌≤◌, ◌^◌, [], length};
+ghost use Rattle.std.specs.Prelude.{◌≡◌, ◌<◌, ◌≤◌, ◌^◌, [], length, min};
 ghost use Rattle.vg_cmean.specs.Outcomes.{gives, does, goes, and_then};
 ghost use Rattle.vg_cmean.specs.Views.{seen, IsShort, IsSame};
 ghost use Rattle.vg_cmean.specs.Chains.{link_at, branched_at};
@@ -7,7 +7,7 @@ ghost use Rattle.vg_cmean.specs.Meaning as meaning;
 ghost use Rattle.vg_cmean.specs.Meaning.{meaning_below, value, operated, indexed_by};
 ghost use Rattle.vg_cmean.specs.Typings as typings;
 
-use crate::calls::{answer_as, end_all, end_of, frame_row, parameter};
+use crate::calls::{answer_as, end_all, end_of, frame_row, parameter, parameters};
 use crate::chains::{Branch, Foot, above, else_if, foot_of};
 use crate::datum::Datum;
 use crate::fault::Fault;
@@ -321,9 +321,59 @@ fn call_function(
     answer_as(answer, end_of(kind_at(env.unit, body)), returned)
 }
 
-// The parameters of a call, after all arguments were evaluated, the first one first.
+// The parameters of a call, after all arguments were evaluated, the first one first. They wait in the room for arguments; where it is too small, as it
+// never is for a text that was read, each waits in a call.
 #[cycle(machine)]
 fn given(
+    world: &mut World,
+    env: &Env,
+    n: u32,
+    arguments: &[u32],
+    params: &[u32],
+) -> Result<(), Fault>
+    requires size { IsShort world.old }
+    requires few { length arguments.now < 2 ^ 32 }
+    ensures value { goes result (seen world.new) ≡ meaning.given env.now.unit.now (meaning_below env.now.unit.now n) arguments.now params.now (seen world.old) }
+    ensures same { IsSame world.old world.new }
+{
+    let count = usize::min(arguments.len(), params.len());
+    if world.waiting.len() < count {
+        return given_in_calls(world, env, n, arguments, params);
+    }
+    let (evaluated, waiting) = world.waiting.split_at_mut(count);
+    let mut inner = World {
+        memory: world.memory,
+        frame: world.frame,
+        waiting,
+    };
+    given_waiting(&mut inner, env, n, arguments, params, evaluated)
+}
+
+// The same, where `evaluated` is room for the arguments.
+#[cycle(machine)]
+fn given_waiting(
+    world: &mut World,
+    env: &Env,
+    n: u32,
+    arguments: &[u32],
+    params: &[u32],
+    evaluated: &mut [Datum],
+) -> Result<(), Fault>
+    requires size { IsShort world.old }
+    requires room { length evaluated.old ≡ min (length arguments.now) (length params.now) }
+    ensures value { goes result (seen world.new) ≡ meaning.given env.now.unit.now (meaning_below env.now.unit.now n) arguments.now params.now (seen world.old) }
+    ensures same { IsSame world.old world.new }
+{
+    for k in 0..evaluated.len() {
+        evaluated[k] = part_value(world, env, n, arguments[k])?;
+    }
+    world.memory.tick();
+    parameters(world, env.unit, params, evaluated)
+}
+
+// The same, where each argument waits in a call.
+#[cycle(machine)]
+fn given_in_calls(
     world: &mut World,
     env: &Env,
     n: u32,
@@ -338,7 +388,7 @@ fn given(
     match (arguments.split_first(), params.split_first()) {
         (Some((&argument, arguments)), Some((&p, params))) => {
             let datum = part_value(world, env, n, argument)?;
-            given(world, env, n, arguments, params)?;
+            given_in_calls(world, env, n, arguments, params)?;
             parameter(world, env.unit, p, datum)
         }
         _ => {

@@ -1,5 +1,6 @@
 //! What a run goes by, and what it works on.
 
+use crate::datum::Datum;
 use vg_cmemory::FrameMemory;
 use vg_core::Unit;
 
@@ -14,8 +15,10 @@ pub struct Env<'a> {
 
 /// What a run works on.
 #[derive(Drop)]
-pub struct World<'m, 'f> {
+pub struct World<'m, 'f, 'w> {
     /// The objects that live, the chunks that are lent, and the steps that were taken.
     pub memory: &'m mut FrameMemory,
     pub frame: &'f mut [u8],
+    /// Room for the arguments of calls, which wait until all of a call are evaluated.
+    pub waiting: &'w mut [Datum],
 }

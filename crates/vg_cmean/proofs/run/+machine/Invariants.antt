@@ -4,6 +4,7 @@ use Rattle.vg_cmean.specs.Typings.{place_at}
 use Rattle.vg_cmean.specs.Meaning as meaning
 use Rattle.vg_cmean.specs.Meaning.{meaning_below}
 use Rattle.vg_cmean.specs.Chains.{IsChain, gives_above, branched_at}
+use Rattle.vg_cmean.specs.Arguments.{given_from}
 use Rattle.vg_cmean.proofs.run.+machine.Given as goal
 
 abbrev pub decreases-expression : goal.decreases-expression
@@ -67,7 +68,10 @@ abbrev pub decreases-call_function : goal.decreases-call_function
 decreases-call_function l = 2 ^ 33 * (3 * l.n + 1) + 2 ^ 32 + 1
 
 abbrev pub decreases-given : goal.decreases-given
-decreases-given l = 2 ^ 33 * (3 * l.n + 1) + length l.arguments.now
+decreases-given l = 2 ^ 33 * (3 * l.n + 1) + 2 ^ 32
+
+abbrev pub decreases-given_in_calls : goal.decreases-given_in_calls
+decreases-given_in_calls l = 2 ^ 33 * (3 * l.n + 1) + length l.arguments.now
 
 abbrev pub decreases-part : goal.decreases-part
 decreases-part l = 2 ^ 33 * (3 * l.n)
@@ -108,3 +112,13 @@ invariant-frame_call-loop-argument l =
     × (length l.data.items ≤ l.argument-index)
     × (meaning.frame_call (meaning_below l.env.unit.now l.n) l.row (place_at l.env.unit.now l.n) l.data.items (drop l.argument-index l.arguments) (seen l.world)
     ≡ meaning.frame_call (meaning_below l.env.unit.now l.n) l.row (place_at l.env.unit.now l.n) [] l.arguments (seen l.fn.world))
+
+abbrev pub decreases-given_waiting : goal.decreases-given_waiting
+decreases-given_waiting l = 2 ^ 33 * (3 * l.n + 1) + 4
+
+abbrev pub invariant-given_waiting-loop-k : goal.invariant-given_waiting-loop-k
+invariant-given_waiting-loop-k l =
+    IsSame l.fn.world l.world
+    × (length l.evaluated ≡ length l.fn.evaluated)
+    × (given_from l.env.unit.now (meaning_below l.env.unit.now l.n) l.arguments l.params l.evaluated l.k (seen l.world)
+    ≡ meaning.given l.env.unit.now (meaning_below l.env.unit.now l.n) l.arguments l.params (seen l.fn.world))
