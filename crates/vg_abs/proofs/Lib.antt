@@ -4,3 +4,5 @@ pub mod Starting
 pub mod OpeningLaws
 pub mod OpeningIsLawful
 pub mod Forgetting
+pub mod LawfulTables
+pub mod FieldValues

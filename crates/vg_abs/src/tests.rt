@@ -63,7 +63,10 @@ fn a_premise_with_a_define(rt: HostRuntime) -> Result<(), Fail> {
         let numbers = [first];
         let scope = Scope {
             numbers: &numbers,
-            cell: &[],
+            cell: Cell {
+                fields: &[],
+                bytes: &[],
+            },
             names: &[],
         };
         assert_eq!(rt; value(spec.code(), &scope, call), expected);
