@@ -1,5 +1,5 @@
 -- Numbers that are read byte by byte, and fields that are read one after another.
-use Rattle.std.proofs.Common.{◌≡◌, ◌≢◌, ℕ, zero, suc, ◌+◌, ◌-◌, ◌*◌, ◌%◌, ◌^◌, ◌<◌, ◌≤◌, List, [], ◌∷◌, ◌++◌, fold, take, drop, length, get_or, refl, sym, ◌∙◌, ap, arith, drop-cons, add-one}
+use Rattle.std.proofs.Common.{◌≡◌, ◌≢◌, ℕ, suc, ◌+◌, ◌-◌, ◌*◌, ◌%◌, ◌^◌, ◌<◌, ◌≤◌, List, [], ◌∷◌, ◌++◌, fold, take, drop, length, get_or, refl, sym, ◌∙◌, ap, arith, drop-cons, add-one}
 use Rattle.std.specs.Prelude.{reverse}
 use Rattle.std.proofs.lemmas.List.{drop_all, reverse-append}
 use Rattle.vg_stree.specs.declared.shape.Field.{Field}

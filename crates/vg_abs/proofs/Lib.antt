@@ -6,3 +6,4 @@ pub mod OpeningIsLawful
 pub mod Forgetting
 pub mod LawfulTables
 pub mod FieldValues
+pub mod LawfulDecides

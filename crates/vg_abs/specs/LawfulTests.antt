@@ -8,12 +8,11 @@ use Rattle.vg_stree.specs.declared.shape.Rule.{Rule}
 use Rattle.vg_stree.specs.declared.shape.Size.{Size}
 use Rattle.vg_stree.specs.declared.shape.ObjectKind.{ObjectKind}
 use Rattle.vg_stree.specs.declared.shape.ObjectKind.TheVariants as kinds
-use Rattle.vg_stree.specs.declared.shape.Object as objects
 use Rattle.vg_stree.specs.Declarations.{Declarations, fields_of, struct_bytes}
 use Rattle.vg_stree.specs.Specification.{Specification}
 use Rattle.vg_abs.specs.declared.object.Object.{Object}
 use Rattle.vg_abs.specs.declared.object.Object.TheVariants.{Map, Chain, Keys, Cells, Prefixes}
-use Rattle.vg_abs.specs.Tables.{Link, Vector, Routing, KeyTable, TimeTable, CellTable, BoundTable, AddressTable}
+use Rattle.vg_abs.specs.Tables.{Link, Vector, Routing, KeyTable, TimeTable, CellTable}
 use Rattle.vg_abs.specs.State.{State}
 use Rattle.vg_abs.specs.Answers.{is_before}
 use Rattle.vg_abs.specs.Fields.{values_in}
@@ -186,3 +185,9 @@ vector_passes spec numbers s rule _ = true
 abbrev pub are_lawful : Declarations → List ℕ → ℕ → State → Bool
 are_lawful shape numbers now s =
     is_shaped shape numbers s.objects && list_all (λ pair. is_lawful_object now s.full pair.0.kind pair.1) (zip shape.objects s.objects)
+
+abbrev pub rules_hold : Specification → List ℕ → State → Bool
+rules_hold spec numbers s = list_all (λ rule. vector_passes spec numbers s rule (slice_get s.objects rule.vector)) spec.shape.rules
+
+abbrev pub is_lawful : Specification → List ℕ → ℕ → State → Bool
+is_lawful spec numbers now s = are_lawful spec.shape numbers now s && rules_hold spec numbers s

@@ -18,14 +18,19 @@ fn with_byte(number: u64, byte: u8) -> u64
 fn from_high(bytes: &[u8]) -> u64
     ensures { result ≡ steps.from_high bytes.now }
 {
-    bytes.iter().fold(0, |number, byte| with_byte(number, *byte))
+    bytes
+        .iter()
+        .fold(0, |number, byte| with_byte(number, *byte))
 }
 
 // The number of bytes, the lowest first, modulo 2^64.
 fn from_low(bytes: &[u8]) -> u64
     ensures { result ≡ steps.from_high (reverse bytes.now) }
 {
-    bytes.iter().rev().fold(0, |number, byte| with_byte(number, *byte))
+    bytes
+        .iter()
+        .rev()
+        .fold(0, |number, byte| with_byte(number, *byte))
 }
 
 // The value of a field.

@@ -2,7 +2,7 @@
 ghost use Rattle.std.specs.Prelude.{◌≡◌, ◌↔◌, IsTrue, slice_get};
 ghost use Rattle.std.specs.List.{list_all, zip};
 ghost use Rattle.std.specs.Option.{option_map};
-ghost use Rattle.std.specs.FinMap.{get, entries};
+ghost use Rattle.std.specs.FinMap.{entries};
 ghost use Rattle.vg_abs.specs.Shape as shapes;
 ghost use Rattle.vg_abs.specs.Lawful.{IsLawful, Holds};
 ghost use Rattle.vg_abs.specs.LawfulTests as tests;
@@ -62,11 +62,12 @@ fn is_object_of(shape: &Shape, numbers: &[u64], kind: ObjectKind, object: &Objec
 fn each_shaped(shape: &Shape, numbers: &[u64], found: &[Object]) -> bool
     ensures { result ≡ list_all (λ pair. tests.is_object_of shape.now numbers.now pair.0.kind pair.1) (zip shape.now.objects found.now) }
 {
-    shape
-        .objects()
-        .iter()
-        .zip(found)
-        .all(|(declared, object)| is_object_of(shape, numbers, declared.kind, object))
+    shape.objects().iter().zip(found).all(|(declared, object)| is_object_of(
+        shape,
+        numbers,
+        declared.kind,
+        object,
+    ))
 }
 
 // Whether objects have the declared shape.
@@ -180,7 +181,9 @@ fn cell_struct(shape: &Shape, vector: u16) -> u16
 fn cell_passes(spec: &Spec, numbers: &[u64], rule: Rule, bytes: &[u8]) -> bool
     ensures { result ≡ tests.cell_passes spec.now numbers.now rule bytes.now }
 {
-    let fields = spec.shape().fields_of(cell_struct(spec.shape(), rule.vector));
+    let fields = spec
+        .shape()
+        .fields_of(cell_struct(spec.shape(), rule.vector));
     let scope = Scope {
         numbers,
         cell: Cell { fields, bytes },
@@ -201,7 +204,7 @@ fn is_taken(found: Option<Option<u64>>) -> bool
 
 // Whether each allocated index's cell of a vector of keys meets a rule.
 fn keys_pass(spec: &Spec, numbers: &[u64], rule: Rule, link: &LinkTable) -> bool
-    ensures { result ≡ list_all (λ entry. tests.implies (tests.is_taken (get link.now.times entry.0)) (tests.cell_passes spec.now numbers.now rule entry.1)) (entries link.now.cells) }
+    ensures { result ≡ tests.keys_pass spec.now numbers.now rule (Some (Object.Map link.now)) }
 {
     link.cells.iter().all(|(index, bytes)| {
         !is_taken(link.times.get(*index).copied())
@@ -213,10 +216,7 @@ fn keys_pass(spec: &Spec, numbers: &[u64], rule: Rule, link: &LinkTable) -> bool
 fn cells_pass(spec: &Spec, numbers: &[u64], rule: Rule, vector: &VectorTable) -> bool
     ensures { result ≡ list_all (λ entry. tests.cell_passes spec.now numbers.now rule entry.1) (entries vector.now.cells) }
 {
-    vector
-        .cells
-        .iter()
-        .all(|(_, bytes)| cell_passes(spec, numbers, rule, bytes.as_slice()))
+    vector.cells.iter().all(|(_, bytes)| cell_passes(spec, numbers, rule, bytes.as_slice()))
 }
 
 // The object with a number.
@@ -252,16 +252,17 @@ pub fn rule_holds(spec: &Spec, numbers: &[u64], state: &LibState, rule: Rule) ->
 fn objects_lawful(shape: &Shape, found: &[Object], full: bool, now: u64) -> bool
     ensures { result ≡ list_all (λ pair. tests.is_lawful_object now full pair.0.kind pair.1) (zip shape.now.objects found.now) }
 {
-    shape
-        .objects()
-        .iter()
-        .zip(found)
-        .all(|(declared, object)| is_lawful_object(now, full, declared.kind, object))
+    shape.objects().iter().zip(found).all(|(declared, object)| is_lawful_object(
+        now,
+        full,
+        declared.kind,
+        object,
+    ))
 }
 
 // Whether each rule holds.
 fn rules_hold(spec: &Spec, numbers: &[u64], state: &LibState) -> bool
-    ensures { result ≡ list_all (λ rule. tests.vector_passes spec.now numbers.now state.now rule (slice_get state.now.objects rule.vector)) spec.now.shape.rules }
+    ensures { result ≡ tests.rules_hold spec.now numbers.now state.now }
 {
     spec.shape()
         .rules()
@@ -277,12 +278,18 @@ fn are_lawful(shape: &Shape, numbers: &[u64], state: &LibState, now: u64) -> boo
         && objects_lawful(shape, &state.objects, state.full, now)
 }
 
+// Whether a state has the declared shape, each object is lawful, and each rule holds.
+fn passes(spec: &Spec, numbers: &[u64], state: &LibState, now: u64) -> bool
+    ensures { result ≡ tests.is_lawful spec.now numbers.now now state.now }
+{
+    are_lawful(spec.shape(), numbers, state, now) && rules_hold(spec, numbers, state)
+}
+
 /// Whether a state is lawful at a time, for a specification and its configuration: it has the declared shape, each key that is mapped and each
 /// index that is allocated belong together, the counts and times fit, routes lie in their ranges, and each cell that a rule speaks of meets it.
 /// A partial state is lawful where what it tells is.
 pub fn lawful(spec: &Spec, config: &Config, state: &LibState, now: u64) -> bool
     ensures { IsTrue result ↔ IsLawful spec.now config.now.numbers now state.now }
 {
-    are_lawful(spec.shape(), config.numbers(), state, now)
-        && rules_hold(spec, config.numbers(), state)
+    passes(spec, config.numbers(), state, now)
 }

@@ -43,7 +43,9 @@ pub fn keys_have(count: u64, keys: &Keyed) -> bool
 pub fn cells_have(count: u64, cells: &Numbered<Bytes>) -> bool
     ensures { result ≡ tests.cells_have count cells.now }
 {
-    cells.iter().all(|(_, bytes)| are_bytes(bytes.as_slice(), count))
+    cells
+        .iter()
+        .all(|(_, bytes)| are_bytes(bytes.as_slice(), count))
 }
 
 /// Whether no cell is told from a number on.

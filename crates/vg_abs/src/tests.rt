@@ -177,3 +177,17 @@ fn an_opening_state(rt: HostRuntime) -> Result<(), Fail> {
     }
     Ok(())
 }
+
+// A partial state tells no cell without its index, and has no routes.
+#[test]
+fn a_full_state_is_lawful_and_not_as_a_partial_one(rt: HostRuntime) -> Result<(), Fail> {
+    let alloc = rt.alloc();
+    let code = Code::new(alloc);
+    let spec = Spec::new(alloc, Names::new(alloc), made_shape(alloc)?, code, EMPTY)?;
+    let config = made_config(alloc)?;
+    let mut state = opening(alloc, &spec, &config)?;
+    assert!(rt; lawful(&spec, &config, &state, 0));
+    state.full = false;
+    assert!(rt; !lawful(&spec, &config, &state, 0));
+    Ok(())
+}
