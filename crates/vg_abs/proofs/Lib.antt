@@ -4,3 +4,6 @@ pub mod Starting
 pub mod OpeningLaws
 pub mod OpeningIsLawful
 pub mod Forgetting
+pub mod LawfulTables
+pub mod FieldValues
+pub mod LawfulDecides

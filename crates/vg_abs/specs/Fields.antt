@@ -1,5 +1,5 @@
 -- The fields of a struct as bytes: they stand in order without gaps. Numbers have their lowest byte first, and byte fields their highest.
-use Rattle.std.specs.Prelude.{ℕ, zero, suc, ◌+◌, ◌*◌, ◌/◌, ◌%◌, List, [], ◌∷◌, ◌++◌, fold, take, drop, reverse}
+use Rattle.std.specs.Prelude.{ℕ, zero, suc, ◌+◌, ◌*◌, ◌/◌, ◌%◌, ◌^◌, List, [], ◌∷◌, ◌++◌, fold, take, drop, reverse}
 use Rattle.vg_stree.specs.declared.shape.FieldType.{FieldType}
 use Rattle.vg_stree.specs.declared.shape.FieldType.TheVariants as types
 use Rattle.vg_stree.specs.declared.shape.Field.{Field}
@@ -20,9 +20,13 @@ low_bytes zero number = []
 low_bytes (suc count) number = number % 256 ∷ low_bytes count (number / 256)
 
 -- the number that a field's bytes are
+abbrev pub number_in : FieldType → List ℕ → ℕ
+number_in (types.Number width) bytes = number_from_low bytes
+number_in (types.Bytes count) bytes = number_from_high bytes
+
+-- the value of a field, which is below 2 ^ 64 as each value is; no field of 1 to 8 bytes is changed by that
 abbrev pub value_in : FieldType → List ℕ → ℕ
-value_in (types.Number width) bytes = number_from_low bytes
-value_in (types.Bytes count) bytes = number_from_high bytes
+value_in of bytes = number_in of bytes % 2 ^ 64
 
 -- the bytes of a field that holds a number, which is taken modulo the field's size
 abbrev pub bytes_in : FieldType → ℕ → List ℕ

@@ -6,10 +6,12 @@ pub mod Answers
 pub mod Effects
 pub mod Rows
 pub mod Fields
+pub mod FieldSteps
 pub mod Expressions
 pub mod Scopes
 pub mod Shape
 pub mod Lawful
+pub mod LawfulTests
 pub mod Opening
 pub mod Agreement
 pub mod Library

@@ -6,14 +6,22 @@ ghost use Rattle.vg_abs.specs.Scopes.{scope_of};
 ghost use Rattle.vg_abs.specs.Expressions as expressions;
 ghost use Rattle.vg_abs.specs.Expressions.{value_at, values_before, value_of};
 
+use crate::fields::field_value;
 use arrayvec::ArrayVec;
-use vg_stree::{Code, Operation, Operator, SExpr};
+use vg_stree::{Code, Field, Operation, Operator, SExpr};
 
-/// What an expression may speak of: the configuration's numbers, the fields of a rule's cell, and the names in scope.
+/// The cell of a rule: what its fields are, and its bytes. A premise has none of either.
+#[derive(Clone, Copy)]
+pub struct Cell<'a> {
+    pub fields: &'a [Field],
+    pub bytes: &'a [u8],
+}
+
+/// What an expression may speak of: the configuration's numbers, a rule's cell, and the names in scope.
 #[derive(Clone, Copy)]
 pub struct Scope<'a> {
     pub numbers: &'a [u64],
-    pub cell: &'a [u64],
+    pub cell: Cell<'a>,
     pub names: &'a [u64],
 }
 
@@ -109,7 +117,7 @@ fn value_by(code: &Code, scope: &Scope<'_>, number: u32, expression: SExpr) -> u
         SExpr::Number(value) => value,
         SExpr::Config(k) => at(scope.numbers, k as usize),
         SExpr::Local(k) => at(scope.names, k as usize),
-        SExpr::CellField(k) => at(scope.cell, k as usize),
+        SExpr::CellField(k) => field_value(scope.cell.fields, scope.cell.bytes, k as usize),
         SExpr::Parens(inner) => part(code, scope, number, inner),
         SExpr::Not(operand) => u64::from(part(code, scope, number, operand) == 0),
         SExpr::Chain { first, rest } => {

@@ -1,5 +1,5 @@
 //! A table from keys.
-ghost use Rattle.std.specs.Prelude.{◌≡◌, IfOk, OnOk, OnErr};
+ghost use Rattle.std.specs.Prelude.{◌≡◌, ◌==◌, IfOk, OnOk, OnErr};
 ghost use Rattle.std.specs.FinMap as map;
 ghost use Rattle.std.specs.Prelude as list;
 
@@ -50,6 +50,20 @@ impl Keyed {
         ensures { list.map (λ entry. (entry.0.items, entry.1)) result ≡ map.entries self.now }
     {
         self.entries.iter()
+    }
+
+    /// How many keys there are.
+    pub fn len(&self) -> usize
+        ensures { result ≡ map.len self.now }
+    {
+        self.entries.len()
+    }
+
+    /// Whether there are none.
+    pub fn is_empty(&self) -> bool
+        ensures { result ≡ (map.len self.now == 0) }
+    {
+        self.len() == 0
     }
 
     /// Puts an answer at a key, in place of the one that was there.

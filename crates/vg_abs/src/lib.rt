@@ -3,19 +3,24 @@
 
 mod bytes;
 mod evaluation;
+mod fields;
 mod keyed;
+mod lawfulness;
 mod laws;
 mod library;
+mod links;
 mod numbered;
 mod object;
 mod start;
 mod state;
+mod tables;
 #[cfg(test)]
 mod tests;
 
 pub use bytes::Bytes;
-pub use evaluation::{Scope, operate, value};
+pub use evaluation::{Cell, Scope, operate, value};
 pub use keyed::Keyed;
+pub use lawfulness::{lawful, rule_holds};
 pub use laws::{
     an_opening_link_is_lawful, an_opening_state_is_lawful, only_what_goes_is_forgotten,
 };

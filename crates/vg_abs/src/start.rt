@@ -50,16 +50,16 @@ fn bytes_in(alloc: Global, of: FieldType, number: u64) -> Result<Vec<u8>, Memory
     Ok(bytes)
 }
 
-// The bytes before a place, as far as they go.
-fn before(bytes: &[u8], place: u64) -> &[u8]
+/// The bytes before a place, as far as they go.
+pub fn before(bytes: &[u8], place: u64) -> &[u8]
     ensures { result.now ≡ take place bytes.now }
 {
     let (before, _) = bytes.split_at(usize::min(place as usize, bytes.len()));
     before
 }
 
-// The bytes from a place on.
-fn behind(bytes: &[u8], place: u64) -> &[u8]
+/// The bytes from a place on.
+pub fn behind(bytes: &[u8], place: u64) -> &[u8]
     ensures { result.now ≡ drop place bytes.now }
 {
     let (_, behind) = bytes.split_at(usize::min(place as usize, bytes.len()));

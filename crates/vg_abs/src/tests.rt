@@ -63,7 +63,10 @@ fn a_premise_with_a_define(rt: HostRuntime) -> Result<(), Fail> {
         let numbers = [first];
         let scope = Scope {
             numbers: &numbers,
-            cell: &[],
+            cell: Cell {
+                fields: &[],
+                bytes: &[],
+            },
             names: &[],
         };
         assert_eq!(rt; value(spec.code(), &scope, call), expected);
@@ -172,5 +175,19 @@ fn an_opening_state(rt: HostRuntime) -> Result<(), Fail> {
     } else {
         assert!(rt; false);
     }
+    Ok(())
+}
+
+// A partial state tells no cell without its index, and has no routes.
+#[test]
+fn a_full_state_is_lawful_and_not_as_a_partial_one(rt: HostRuntime) -> Result<(), Fail> {
+    let alloc = rt.alloc();
+    let code = Code::new(alloc);
+    let spec = Spec::new(alloc, Names::new(alloc), made_shape(alloc)?, code, EMPTY)?;
+    let config = made_config(alloc)?;
+    let mut state = opening(alloc, &spec, &config)?;
+    assert!(rt; lawful(&spec, &config, &state, 0));
+    state.full = false;
+    assert!(rt; !lawful(&spec, &config, &state, 0));
     Ok(())
 }
