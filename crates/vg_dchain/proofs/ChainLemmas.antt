@@ -7,7 +7,7 @@ use Rattle.std.proofs.Common.{ℕ, suc, ◌+◌, ◌<◌, ◌≤◌, true, Optio
 use Rattle.std.proofs.lemmas.Bool.{cases_eq, le-ltb, false≢true}
 use Rattle.std.proofs.lemmas.List.{get_or-set_same, get_or-set_other, length-set, length-append, length_push, append_assoc, length-replicate, get_or-replicate, get_or_default}
 use Rattle.vg_dchain.specs.Indices.{Indices, IsAbsent, IsDistinct, AllBelow, without}
-use Rattle.vg_dchain.specs.ChainState.{ChainState, time_at, others, oldest_below, after_allocation, after_rejuvenation, after_freeing, RisesWithin, IsLawful}
+use Rattle.vg_dchain.specs.ChainState.{ChainState, IsFree, time_at, others, oldest_below, after_allocation, after_rejuvenation, after_freeing, RisesWithin, IsLawful}
 use Rattle.vg_dchain.specs.Times.{stamps_of, IsChain}
 use Rattle.vg_dchain.proofs.IndexLemmas.{split_at_index, without-split, AllBelow-rest, AllBelow-remove, AllBelow-insert, IsAbsent-append, IsAbsent-front, IsAbsent-rest, IsAbsent-before, IsAbsent-around, IsDistinct-remove, IsDistinct-insert}
 use Rattle.vg_dchain.proofs.TimeLemmas.{time_at-here, oldest_below-none, oldest_below-first, time_at-absent, held, time_at-push_same, time_at-push_other, time_at-others_same, time_at-others_other, stamps_of-set, stamps_of-append, others-stamps_of, indices-stamps_of, length-stamps_of, RisesWithin-push, RisesWithin-others}
@@ -83,6 +83,13 @@ chain_allocated by_age by_age1 spare rest times times1 newest now i was v c h s 
     let shown : seen (record by_age { order = by_age.order ++ i ∷ [] }) rest (set times i (Some now)) now ≡ after_allocation (seen by_age spare times newest) i now =
     rw (pushed, length-set times i (Some now), s) refl in
     (rw (b, t) made, rw (b, t) (shown ∙ ap (λ (w : ChainState). after_allocation w i now) v), ap (λ (w : ChainState). w.free) (sym v) ∙ ap (λ (w : Indices). w.order) s)
+
+-- the first free index is below the range and isn't handed out
+pub next_is_free : (by_age spare rest : Indices) (times : List (Option ℕ)) (newest i : ℕ) (was : ChainState) → seen by_age spare times newest ≡ was → IsChain by_age spare times newest → spare ≡ record rest { order = i ∷ rest.order } → IsFree was i
+next_is_free by_age spare rest times newest i was v c s =
+    let n : IsNext by_age times i = next_free by_age spare rest times newest i c s in
+    let free : IsFree (seen by_age spare times newest) i = record { below = n.within; not_handed = time_at-absent times by_age.order i n.absent } in
+    subst (λ (w : ChainState). IsFree w i) v free
 
 -- a chain with a free index isn't full
 pub chain_not_full : (by_age spare rest : Indices) (times : List (Option ℕ)) (newest i : ℕ) (was : ChainState) → seen by_age spare times newest ≡ was → IsChain by_age spare times newest → spare ≡ record rest { order = i ∷ rest.order } → length was.entries ≡ was.range → ⊥

@@ -1,5 +1,5 @@
 -- What a chain holds: the indices that are handed out, by age, and the free ones; and what each call makes of it.
-use Rattle.std.specs.Prelude.{ℕ, ◌+◌, ◌≡◌, ◌≤◌, ◌==◌, nat_lt, not, if◌then◌else◌, Option, Some, None, List, [], ◌∷◌, ◌++◌, length, map, filter, drop}
+use Rattle.std.specs.Prelude.{ℕ, ◌+◌, ◌≡◌, ◌<◌, ◌≤◌, ◌==◌, nat_lt, not, if◌then◌else◌, Option, Some, None, List, [], ◌∷◌, ◌++◌, length, map, filter, drop}
 use Rattle.vg_dchain.specs.Indices.{IsDistinct, AllBelow}
 
 -- how many indices there are; the index and the last time of each that is handed out, the oldest first; the free ones, the first to be handed out first; the highest time so far
@@ -13,6 +13,11 @@ pub record ChainState : Type 0 where
 abbrev pub time_at : List (ℕ × ℕ) → ℕ → Option ℕ
 time_at [] i = None
 time_at (entry ∷ entries) i = if entry.0 == i then Some entry.1 else time_at entries i
+
+-- an index of the chain that isn't handed out
+pub record IsFree (c : ChainState) (i : ℕ) : Type 0 where
+  pub below : i < c.range
+  pub not_handed : time_at c.entries i ≡ None
 
 -- the entries of all other indices
 abbrev pub others : List (ℕ × ℕ) → ℕ → List (ℕ × ℕ)

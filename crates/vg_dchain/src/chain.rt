@@ -1,7 +1,7 @@
 //! The chain: which indices are handed out, with their times, and which are free.
 ghost use Rattle.std.specs.Prelude.{◌≡◌, ◌<◌, ◌≤◌, ◌+◌, ◌↔◌, ℕ, [], ◌∷◌, length, vec_len, slice_set, nat_lt, is_some, IsSome, IsNone, Some, IfOk, IfSome, IfNone};
 ghost use Rattle.std.specs.List.{range_with_len};
-ghost use Rattle.vg_dchain.specs.ChainState.{ChainState, IsLawful, time_at, oldest_below, after_allocation, after_rejuvenation, after_freeing};
+ghost use Rattle.vg_dchain.specs.ChainState.{ChainState, IsFree, IsLawful, time_at, oldest_below, after_allocation, after_rejuvenation, after_freeing};
 
 use crate::ring::Ring;
 use crate::spare::Spare;
@@ -77,6 +77,7 @@ impl Chain {
         ensures full { IsNone result ↔ (length self.old.entries ≡ self.old.range) }
         ensures kept { IfNone result (self.new ≡ self.old) }
         ensures first { IfSome result (λ i. self.old.free ≡ i ∷ self.new.free) }
+        ensures free { IfSome result (λ i. IsFree self.old i) }
         ensures allocated { IfSome result (λ i. self.new ≡ after_allocation self.old i now) }
         ensures cost { steps.new ≤ steps.old + 12 }
     {

@@ -3,14 +3,15 @@ use Rattle.std.proofs.Common.{◌≡◌, ◌≢◌, ◌⊎◌, inl, inr, ℕ, ze
 use Rattle.std.specs.Option.{is_some}
 use Rattle.std.proofs.lemmas.List.{get_or-set_same, get_or-set_other, length-set}
 use Rattle.std.proofs.lemmas.Bool.{cases_eq, cases_lt}
+use Rattle.vg_map.specs.declared.hash.Homes.{Homes}
 use Rattle.vg_map.specs.Hash.{home_of}
 use Rattle.vg_map.specs.Slots.{Entry, slot, IsMet, StandOnce}
 use Rattle.vg_map.specs.Search.{IsOther, IsEnd, EndsAt, HasGap}
 use Rattle.vg_map.proofs.Found.{IsAbsent, found, found_at, same_entry, moved, moved_is, once-empty, once-moved, slot-emptied, slot-filled}
 
 -- each key is met by a search
-abbrev pub AreMet : ℕ → List (Option Entry) → Type 0
-AreMet mask slots = (i : ℕ) (e : Entry) → slot slots i ≡ Some e → IsMet mask slots i e.0
+abbrev pub AreMet : Homes → List (Option Entry) → Type 0
+AreMet homes slots = (i : ℕ) (e : Entry) → slot slots i ≡ Some e → IsMet homes slots i e.0
 
 some_is : (o : Option Entry) (e : Entry) → o ≡ Some e → IsSome o
 some_is o e at = ap is_some at
@@ -32,15 +33,15 @@ pub end_is : (key : List ℕ) (o : Option Entry) (e : Entry) → o ≡ Some e �
 end_is key o e at h = subst (IsEnd key) at h
 
 -- where a search ends at an empty slot, the key stands nowhere
-pub absent_at_empty : (mask : ℕ) (slots : List (Option Entry)) (key : List ℕ) (at : ℕ) → AreMet mask slots → EndsAt slots key (home_of mask key) at → slot slots at ≡ None → IsAbsent key slots
-absent_at_empty mask slots key at met ends none i e here same =
+pub absent_at_empty : (homes : Homes) (slots : List (Option Entry)) (key : List ℕ) (at : ℕ) → AreMet homes slots → EndsAt slots key (home_of homes key) at → slot slots at ≡ None → IsAbsent key slots
+absent_at_empty homes slots key at met ends none i e here same =
     let m = met i e here in
-    let from : home_of mask key ≤ i = subst (λ k. home_of mask k ≤ i) same m.home in
+    let from : home_of homes key ≤ i = subst (λ k. home_of homes k ≤ i) same m.home in
     elim (cases_lt i at) [
       | inl before ↦ other_is key (slot slots i) e here (ends.passed i from before) same
       | inr after ↦ elim (cases_eq i at) [
         | inl p ↦ not_empty (slot slots at) none (subst (λ j. IsSome (slot slots j)) p (some_is _ e here))
-        | inr ne ↦ not_empty (slot slots at) none (m.full at (subst (λ k. home_of mask k ≤ at) (sym same) ends.from) (omega arith))
+        | inr ne ↦ not_empty (slot slots at) none (m.full at (subst (λ k. home_of homes k ≤ at) (sym same) ends.from) (omega arith))
       ]
     ]
 
@@ -53,8 +54,8 @@ pub empty_if_absent : (slots : List (Option Entry)) (key : List ℕ) (home at : 
 empty_if_absent slots key home at ends new = empty_else (slot slots at) (λ e here. new at e here (end_is key _ e here ends.end))
 
 -- what the map has at the key
-pub found_at_end : (mask : ℕ) (slots : List (Option Entry)) (key : List ℕ) (at : ℕ) (v : ℕ) (k : List ℕ) → StandOnce slots → EndsAt slots key (home_of mask key) at → slot slots at ≡ Some (k, v) → found key slots ≡ Some v
-found_at_end mask slots key at v k once ends here = ap (λ q. found q slots) (sym (end_is key _ (k, v) here ends.end)) ∙ found_at slots at (k, v) once here
+pub found_at_end : (homes : Homes) (slots : List (Option Entry)) (key : List ℕ) (at : ℕ) (v : ℕ) (k : List ℕ) → StandOnce slots → EndsAt slots key (home_of homes key) at → slot slots at ≡ Some (k, v) → found key slots ≡ Some v
+found_at_end homes slots key at v k once ends here = ap (λ q. found q slots) (sym (end_is key _ (k, v) here ends.end)) ∙ found_at slots at (k, v) once here
 
 pub full_before : (slots : List (Option Entry)) (key : List ℕ) (home at : ℕ) → EndsAt slots key home at → (j : ℕ) → home ≤ j → j < at → IsSome (slot slots j)
 full_before slots key home at ends j a b = other_full key (slot slots j) (ends.passed j a b)
@@ -68,12 +69,12 @@ full_filled (x ∷ s) zero (suc j) d h full = full
 full_filled (x ∷ s) (suc at) zero d h full = full
 full_filled (x ∷ s) (suc at) (suc j) d h full = full_filled s at j d (omega arith) full
 
-pub met-fill : (mask : ℕ) (slots : List (Option Entry)) (d : Entry) (at : ℕ) → at < length slots → home_of mask d.0 ≤ at → ((j : ℕ) → home_of mask d.0 ≤ j → j < at → IsSome (slot slots j))
-    → AreMet mask slots → AreMet mask (set slots at (Some d))
-met-fill mask slots d at within from full met i e here = elim (slot-filled slots at i d e here) [
+pub met-fill : (homes : Homes) (slots : List (Option Entry)) (d : Entry) (at : ℕ) → at < length slots → home_of homes d.0 ≤ at → ((j : ℕ) → home_of homes d.0 ≤ j → j < at → IsSome (slot slots j))
+    → AreMet homes slots → AreMet homes (set slots at (Some d))
+met-fill homes slots d at within from full met i e here = elim (slot-filled slots at i d e here) [
   | inl r ↦ record {
-    home = subst (λ (x : Entry). home_of mask x.0 ≤ i) r.1 (subst (λ k. home_of mask d.0 ≤ k) (sym r.0) from);
-    full = λ j a b. full_filled slots at j d within (full j (subst (λ (x : Entry). home_of mask x.0 ≤ j) (sym r.1) a) (subst (λ k. j < k) r.0 b));
+    home = subst (λ (x : Entry). home_of homes x.0 ≤ i) r.1 (subst (λ k. home_of homes d.0 ≤ k) (sym r.0) from);
+    full = λ j a b. full_filled slots at j d within (full j (subst (λ (x : Entry). home_of homes x.0 ≤ j) (sym r.1) a) (subst (λ k. j < k) r.0 b));
   }
   | inr r ↦ record {
     home = (met i e r.1).home;
@@ -83,8 +84,8 @@ met-fill mask slots d at within from full met i e here = elim (slot-filled slots
 
 -- ---- a slot is emptied, and its gap closed
 
-pub gap-start : (mask : ℕ) (slots : List (Option Entry)) (at : ℕ) → at < length slots → AreMet mask slots → StandOnce slots → HasGap mask (set slots at None) at (at + 1)
-gap-start mask slots at within met once = record {
+pub gap-start : (homes : Homes) (slots : List (Option Entry)) (at : ℕ) → at < length slots → AreMet homes slots → StandOnce slots → HasGap homes (set slots at None) at (at + 1)
+gap-start homes slots at within met once = record {
   empty = get_or-set_same slots at None None within;
   home = λ i e here. (met i e (slot-emptied slots at i e here).1).home;
   full = λ i j e here a b. elim (cases_eq j at) [
@@ -94,21 +95,21 @@ gap-start mask slots at within met once = record {
   once = once-empty slots at once;
 }
 
-stays : (mask : ℕ) (slots : List (Option Entry)) (gap at i j : ℕ) (e f : Entry) → slot slots at ≡ Some e → slot slots i ≡ Some f → i ≡ at → j ≡ gap → gap < home_of mask e.0 → home_of mask f.0 ≤ j → ⊥
-stays mask slots gap at i j e f here there p q behind a =
+stays : (homes : Homes) (slots : List (Option Entry)) (gap at i j : ℕ) (e f : Entry) → slot slots at ≡ Some e → slot slots i ≡ Some f → i ≡ at → j ≡ gap → gap < home_of homes e.0 → home_of homes f.0 ≤ j → ⊥
+stays homes slots gap at i j e f here there p q behind a =
     let same : e ≡ f = same_entry e f (sym here ∙ ap (slot slots) (sym p) ∙ there) in
-    let a' : home_of mask e.0 ≤ j = subst (λ (x : Entry). home_of mask x.0 ≤ j) (sym same) a in
+    let a' : home_of homes e.0 ≤ j = subst (λ (x : Entry). home_of homes x.0 ≤ j) (sym same) a in
     absurd (omega arith)
 
 -- what stands at `at` has its home behind the gap, and stays
-pub gap-stay : (mask : ℕ) (slots : List (Option Entry)) (gap at : ℕ) (e : Entry) → HasGap mask slots gap at → slot slots at ≡ Some e → gap < home_of mask e.0 → HasGap mask slots gap (at + 1)
-gap-stay mask slots gap at e g here behind = record {
+pub gap-stay : (homes : Homes) (slots : List (Option Entry)) (gap at : ℕ) (e : Entry) → HasGap homes slots gap at → slot slots at ≡ Some e → gap < home_of homes e.0 → HasGap homes slots gap (at + 1)
+gap-stay homes slots gap at e g here behind = record {
   empty = g.empty;
   home = g.home;
   full = λ i j f there a b. elim (g.full i j f there a b) [
     | inl full ↦ inl full
     | inr r ↦ elim (cases_eq i at) [
-      | inl p ↦ absurd (stays mask slots gap at i j e f here there p r.0 behind a)
+      | inl p ↦ absurd (stays homes slots gap at i j e f here there p r.0 behind a)
       | inr ne ↦ inr (r.0, omega arith)
     ]
   ];
@@ -133,18 +134,18 @@ moved_slot slots from to i e f here ne there =
       | inr r ↦ inr (slot-emptied slots from i f r.1).1
     ]
 
-full_below : (mask : ℕ) (slots : List (Option Entry)) (gap at : ℕ) (e : Entry) → HasGap mask slots gap at → slot slots at ≡ Some e → gap < at → at < length slots
-    → (i j : ℕ) (f : Entry) → i ≡ gap → e ≡ f → home_of mask f.0 ≤ j → j < i → IsSome (slot (moved slots at gap) j)
-full_below mask slots gap at e g here order within i j f p same a b =
+full_below : (homes : Homes) (slots : List (Option Entry)) (gap at : ℕ) (e : Entry) → HasGap homes slots gap at → slot slots at ≡ Some e → gap < at → at < length slots
+    → (i j : ℕ) (f : Entry) → i ≡ gap → e ≡ f → home_of homes f.0 ≤ j → j < i → IsSome (slot (moved slots at gap) j)
+full_below homes slots gap at e g here order within i j f p same a b =
     let ne : gap ≢ at = λ p. absurd (omega arith) in
-    elim (g.full at j e here (subst (λ (x : Entry). home_of mask x.0 ≤ j) (sym same) a) (omega arith)) [
+    elim (g.full at j e here (subst (λ (x : Entry). home_of homes x.0 ≤ j) (sym same) a) (omega arith)) [
       | inl full ↦ full_moved slots at gap j e here ne (omega arith) (λ q. absurd (omega arith)) full
       | inr r ↦ absurd (omega arith)
     ]
 
-full_else : (mask : ℕ) (slots : List (Option Entry)) (gap at : ℕ) (e : Entry) → HasGap mask slots gap at → slot slots at ≡ Some e → gap < at → at < length slots
-    → (i j : ℕ) (f : Entry) → slot slots i ≡ Some f → home_of mask f.0 ≤ j → j < i → IsSome (slot (moved slots at gap) j) ⊎ ((j ≡ at) × (at + 1 ≤ i))
-full_else mask slots gap at e g here order within i j f there a b =
+full_else : (homes : Homes) (slots : List (Option Entry)) (gap at : ℕ) (e : Entry) → HasGap homes slots gap at → slot slots at ≡ Some e → gap < at → at < length slots
+    → (i j : ℕ) (f : Entry) → slot slots i ≡ Some f → home_of homes f.0 ≤ j → j < i → IsSome (slot (moved slots at gap) j) ⊎ ((j ≡ at) × (at + 1 ≤ i))
+full_else homes slots gap at e g here order within i j f there a b =
     let ne : gap ≢ at = λ p. absurd (omega arith) in
     elim (cases_eq j at) [
       | inl p ↦ inr (p, omega arith)
@@ -155,26 +156,26 @@ full_else mask slots gap at e g here order within i j f there a b =
     ]
 
 -- what stands at `at` has its home at the gap or before, and moves into it: the gap is now at `at`
-pub gap-move : (mask : ℕ) (slots : List (Option Entry)) (gap at : ℕ) (e : Entry) → HasGap mask slots gap at → slot slots at ≡ Some e → gap < at → at < length slots → home_of mask e.0 ≤ gap
-    → HasGap mask (moved slots at gap) at (at + 1)
-gap-move mask slots gap at e g here order within before =
+pub gap-move : (homes : Homes) (slots : List (Option Entry)) (gap at : ℕ) (e : Entry) → HasGap homes slots gap at → slot slots at ≡ Some e → gap < at → at < length slots → home_of homes e.0 ≤ gap
+    → HasGap homes (moved slots at gap) at (at + 1)
+gap-move homes slots gap at e g here order within before =
     let ne : gap ≢ at = λ p. absurd (omega arith) in
     record {
       empty = get_or-set_same (set slots gap (slot slots at)) at None None (omega (arith, length-set slots gap (slot slots at)));
       home = λ i f there. elim (moved_slot slots at gap i e f here ne there) [
-        | inl r ↦ subst (λ (x : Entry). home_of mask x.0 ≤ i) r.1 (subst (λ k. home_of mask e.0 ≤ k) (sym r.0) before)
+        | inl r ↦ subst (λ (x : Entry). home_of homes x.0 ≤ i) r.1 (subst (λ k. home_of homes e.0 ≤ k) (sym r.0) before)
         | inr r ↦ g.home i f r
       ];
       full = λ i j f there a b. elim (moved_slot slots at gap i e f here ne there) [
-        | inl r ↦ inl (full_below mask slots gap at e g here order within i j f r.0 r.1 a b)
-        | inr r ↦ full_else mask slots gap at e g here order within i j f r a b
+        | inl r ↦ inl (full_below homes slots gap at e g here order within i j f r.0 r.1 a b)
+        | inr r ↦ full_else homes slots gap at e g here order within i j f r a b
       ];
       once = once-moved slots at gap e here ne g.once;
     }
 
-ended : (mask : ℕ) (slots : List (Option Entry)) (gap at : ℕ) → HasGap mask slots gap at → slot slots at ≡ None → gap < at
-    → (i j : ℕ) (e : Entry) → slot slots i ≡ Some e → j ≡ gap → at ≤ i → home_of mask e.0 ≤ j → ⊥
-ended mask slots gap at g none order i j e here p q a = elim (cases_eq i at) [
+ended : (homes : Homes) (slots : List (Option Entry)) (gap at : ℕ) → HasGap homes slots gap at → slot slots at ≡ None → gap < at
+    → (i j : ℕ) (e : Entry) → slot slots i ≡ Some e → j ≡ gap → at ≤ i → home_of homes e.0 ≤ j → ⊥
+ended homes slots gap at g none order i j e here p q a = elim (cases_eq i at) [
   | inl same ↦ not_empty (slot slots at) none (subst (λ k. IsSome (slot slots k)) same (some_is _ e here))
   | inr ne ↦ elim (g.full i at e here (omega arith) (omega arith)) [
     | inl full ↦ not_empty (slot slots at) none full
@@ -183,11 +184,11 @@ ended mask slots gap at g none order i j e here p q a = elim (cases_eq i at) [
 ]
 
 -- at an empty slot the gap needs no closing any more
-pub gap-end : (mask : ℕ) (slots : List (Option Entry)) (gap at : ℕ) → HasGap mask slots gap at → slot slots at ≡ None → gap < at → AreMet mask slots
-gap-end mask slots gap at g none order i e here = record {
+pub gap-end : (homes : Homes) (slots : List (Option Entry)) (gap at : ℕ) → HasGap homes slots gap at → slot slots at ≡ None → gap < at → AreMet homes slots
+gap-end homes slots gap at g none order i e here = record {
   home = g.home i e here;
   full = λ j a b. elim (g.full i j e here a b) [
     | inl full ↦ full
-    | inr r ↦ absurd (ended mask slots gap at g none order i j e here r.0 r.1 a)
+    | inr r ↦ absurd (ended homes slots gap at g none order i j e here r.0 r.1 a)
   ];
 }

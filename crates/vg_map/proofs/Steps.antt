@@ -6,6 +6,7 @@ use Rattle.std.specs.Bool.{MatchBool}
 use Rattle.std.specs.Str.{bytes_eq}
 use Rattle.std.proofs.lemmas.Slice.Eq.{bytes_eq-Decides}
 use Rattle.std.proofs.lemmas.List.{length-set}
+use Rattle.vg_map.specs.declared.hash.Homes.{Homes}
 use Rattle.vg_map.specs.Hash.{home_of}
 use Rattle.vg_map.specs.Slots.{slots_of, slot, map_of, full_slots}
 use Rattle.vg_map.specs.Search.{IsOther, IsEnd, HasGap, ClosesGap}
@@ -59,24 +60,24 @@ module _ (n : ℕ) (keys : List ℕ) (indices : List (Option ℕ)) (key : List �
 
 -- ---- closing a gap: how the slots are to those at the start, once those before `at` have been looked at
 
-pub record Closing (mask n : ℕ) (first_keys : List ℕ) (first_indices : List (Option ℕ)) (keys : List ℕ) (indices : List (Option ℕ)) (gap at : ℕ) : Type 0 where
+pub record Closing (homes : Homes) (n : ℕ) (first_keys : List ℕ) (first_indices : List (Option ℕ)) (keys : List ℕ) (indices : List (Option ℕ)) (gap at : ℕ) : Type 0 where
   pub order : gap < at
   pub within : gap < length indices
   pub slots : length indices ≡ length first_indices
   pub bytes : length keys ≡ length first_keys
   pub full : full_slots indices ≡ full_slots first_indices
   pub same : map_of (slots_of n keys indices) ≡ map_of (slots_of n first_keys first_indices)
-  pub has_gap : HasGap mask (slots_of n keys indices) gap at
+  pub has_gap : HasGap homes (slots_of n keys indices) gap at
 
 less_not_same : (a b : ℕ) → a < b → a ≢ b
 less_not_same a b h p = absurd (omega arith)
 
 -- what stands in the next slot is moved into the gap
-pub closing-move : (mask n : ℕ) (first_keys : List ℕ) (first_indices : List (Option ℕ)) (keys : List ℕ) (indices : List (Option ℕ)) (gap at v : ℕ) (new_keys : List ℕ) (new_indices : List (Option ℕ))
-    → Closing mask n first_keys first_indices keys indices gap at → at < length indices → get_or indices at None ≡ Some v → home_of mask (take n (drop (at * n) keys)) ≤ gap
+pub closing-move : (homes : Homes) (n : ℕ) (first_keys : List ℕ) (first_indices : List (Option ℕ)) (keys : List ℕ) (indices : List (Option ℕ)) (gap at v : ℕ) (new_keys : List ℕ) (new_indices : List (Option ℕ))
+    → Closing homes n first_keys first_indices keys indices gap at → at < length indices → get_or indices at None ≡ Some v → home_of homes (take n (drop (at * n) keys)) ≤ gap
     → slots_of n new_keys new_indices ≡ moved (slots_of n keys indices) at gap → new_indices ≡ set (set indices gap (get_or indices at None)) at None → length new_keys ≡ length keys
-    → Closing mask n first_keys first_indices new_keys new_indices at (at + 1)
-closing-move mask n first_keys first_indices keys indices gap at v new_keys new_indices c within is before slots_are indices_are bytes_are =
+    → Closing homes n first_keys first_indices new_keys new_indices at (at + 1)
+closing-move homes n first_keys first_indices keys indices gap at v new_keys new_indices c within is before slots_are indices_are bytes_are =
     let here = slot_full n keys indices at v is in
     let ne : gap ≢ at = λ p. less_not_same gap at c.order p in
     let long : length new_indices ≡ length indices = ap length indices_are ∙ length-set (set indices gap (get_or indices at None)) at None ∙ length-set indices gap (get_or indices at None) in
@@ -89,29 +90,29 @@ closing-move mask n first_keys first_indices keys indices gap at v new_keys new_
       same = ap map_of slots_are
           ∙ map_of-moved (slots_of n keys indices) at gap (take n (drop (at * n) keys), v) here c.has_gap.empty ne (omega (arith, c.within, length-slots_of n keys indices)) c.has_gap.once
           ∙ c.same;
-      has_gap = subst (λ s. HasGap mask s at (at + 1)) (sym slots_are)
-          (gap-move mask (slots_of n keys indices) gap at (take n (drop (at * n) keys), v) c.has_gap here c.order (omega (arith, length-slots_of n keys indices)) before);
+      has_gap = subst (λ s. HasGap homes s at (at + 1)) (sym slots_are)
+          (gap-move homes (slots_of n keys indices) gap at (take n (drop (at * n) keys), v) c.has_gap here c.order (omega (arith, length-slots_of n keys indices)) before);
     }
 
 -- it has its home behind the gap, and stays
-pub closing-stay : (mask n : ℕ) (first_keys : List ℕ) (first_indices : List (Option ℕ)) (keys : List ℕ) (indices : List (Option ℕ)) (gap at v : ℕ)
-    → Closing mask n first_keys first_indices keys indices gap at → get_or indices at None ≡ Some v → gap < home_of mask (take n (drop (at * n) keys))
-    → Closing mask n first_keys first_indices keys indices gap (at + 1)
-closing-stay mask n first_keys first_indices keys indices gap at v c is behind = record {
+pub closing-stay : (homes : Homes) (n : ℕ) (first_keys : List ℕ) (first_indices : List (Option ℕ)) (keys : List ℕ) (indices : List (Option ℕ)) (gap at v : ℕ)
+    → Closing homes n first_keys first_indices keys indices gap at → get_or indices at None ≡ Some v → gap < home_of homes (take n (drop (at * n) keys))
+    → Closing homes n first_keys first_indices keys indices gap (at + 1)
+closing-stay homes n first_keys first_indices keys indices gap at v c is behind = record {
   order = omega (arith, c.order);
   within = c.within;
   slots = c.slots;
   bytes = c.bytes;
   full = c.full;
   same = c.same;
-  has_gap = gap-stay mask (slots_of n keys indices) gap at (take n (drop (at * n) keys), v) c.has_gap (slot_full n keys indices at v is) behind;
+  has_gap = gap-stay homes (slots_of n keys indices) gap at (take n (drop (at * n) keys), v) c.has_gap (slot_full n keys indices at v is) behind;
 }
 
 -- the next slot is empty, or there is none
-pub closing-end : (mask n : ℕ) (first_keys : List ℕ) (first_indices : List (Option ℕ)) (keys : List ℕ) (indices : List (Option ℕ)) (gap at : ℕ)
-    → Closing mask n first_keys first_indices keys indices gap at → get_or indices at None ≡ None → ClosesGap mask (slots_of n first_keys first_indices) (slots_of n keys indices)
-closing-end mask n first_keys first_indices keys indices gap at c none = record {
+pub closing-end : (homes : Homes) (n : ℕ) (first_keys : List ℕ) (first_indices : List (Option ℕ)) (keys : List ℕ) (indices : List (Option ℕ)) (gap at : ℕ)
+    → Closing homes n first_keys first_indices keys indices gap at → get_or indices at None ≡ None → ClosesGap homes (slots_of n first_keys first_indices) (slots_of n keys indices)
+closing-end homes n first_keys first_indices keys indices gap at c none = record {
   same = c.same;
-  met = gap-end mask (slots_of n keys indices) gap at c.has_gap (slot_empty n keys indices at none) c.order;
+  met = gap-end homes (slots_of n keys indices) gap at c.has_gap (slot_empty n keys indices at none) c.order;
   once = c.has_gap.once;
 }

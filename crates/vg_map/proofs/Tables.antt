@@ -9,6 +9,7 @@ use Rattle.std.specs.FinMap.{get, insert, remove, empty, from_entries, len, len-
 use Rattle.std.proofs.lemmas.Cmp.{nat_list_cmp_total}
 use Rattle.std.proofs.lemmas.List.{length-set, length-append, length-take, length-drop, length-replicate, append_assoc}
 use Rattle.std.proofs.Math.Nat.{suc-mul}
+use Rattle.vg_map.specs.declared.hash.Homes.{Homes}
 use Rattle.vg_map.specs.Hash.{home_of}
 use Rattle.vg_map.specs.Slots.{Entry, slots_of, slot, entries_of, map_of, full_slots, IsTable, IsMet, StandOnce}
 use Rattle.vg_map.specs.Search.{EndsAt, HasGap, ClosesGap}
@@ -21,18 +22,18 @@ none_or_some None = inl refl
 none_or_some (Some v) = inr (v, refl)
 
 -- what the map has at a key stands where the search for it ends
-pub table_get : (mask n capacity size : ℕ) (keys : List ℕ) (indices : List (Option ℕ)) (key : List ℕ) (at : ℕ) → IsTable mask n capacity size keys indices
-    → EndsAt (slots_of n keys indices) key (home_of mask key) at → get (map_of (slots_of n keys indices)) key ≡ get_or indices at None
-table_get mask n capacity size keys indices key at t ends =
+pub table_get : (homes : Homes) (n capacity size : ℕ) (keys : List ℕ) (indices : List (Option ℕ)) (key : List ℕ) (at : ℕ) → IsTable homes n capacity size keys indices
+    → EndsAt (slots_of n keys indices) key (home_of homes key) at → get (map_of (slots_of n keys indices)) key ≡ get_or indices at None
+table_get homes n capacity size keys indices key at t ends =
     let slots = slots_of n keys indices in
     get-map_of slots key
     ∙ elim (none_or_some (get_or indices at None)) [
-      | inl e ↦ found_none key slots (absent_at_empty mask slots key at t.met ends (slot_empty n keys indices at e)) ∙ sym e
-      | inr s ↦ found_at_end mask slots key at s.0 (take n (drop (at * n) keys)) t.once ends (slot_full n keys indices at s.0 s.1) ∙ sym s.1
+      | inl e ↦ found_none key slots (absent_at_empty homes slots key at t.met ends (slot_empty n keys indices at e)) ∙ sym e
+      | inr s ↦ found_at_end homes slots key at s.0 (take n (drop (at * n) keys)) t.once ends (slot_full n keys indices at s.0 s.1) ∙ sym s.1
     ]
 
-pub at_within : (mask n capacity size : ℕ) (keys : List ℕ) (indices : List (Option ℕ)) (key : List ℕ) (home at : ℕ) → EndsAt (slots_of n keys indices) key home at → at < length indices
-at_within mask n capacity size keys indices key home at ends = omega (arith, ends.within, length-slots_of n keys indices)
+pub at_within : (homes : Homes) (n capacity size : ℕ) (keys : List ℕ) (indices : List (Option ℕ)) (key : List ℕ) (home at : ℕ) → EndsAt (slots_of n keys indices) key home at → at < length indices
+at_within homes n capacity size keys indices key home at ends = omega (arith, ends.within, length-slots_of n keys indices)
 
 -- ---- a key is put
 
@@ -45,15 +46,15 @@ one_more : (o : Option ℕ) (n : ℕ) → o ≡ None → cond (is_some o) n (n +
 one_more None n e = refl
 one_more (Some v) n e = cc
 
-pub table_put : (mask n capacity size : ℕ) (keys : List ℕ) (indices : List (Option ℕ)) (key : List ℕ) (at v : ℕ) → IsTable mask n capacity size keys indices
-    → EndsAt (slots_of n keys indices) key (home_of mask key) at → length key ≡ n → size < capacity → get (map_of (slots_of n keys indices)) key ≡ None
-    → IsTable mask n capacity (size + 1) (written n keys key at) (set indices at (Some v))
+pub table_put : (homes : Homes) (n capacity size : ℕ) (keys : List ℕ) (indices : List (Option ℕ)) (key : List ℕ) (at v : ℕ) → IsTable homes n capacity size keys indices
+    → EndsAt (slots_of n keys indices) key (home_of homes key) at → length key ≡ n → size < capacity → get (map_of (slots_of n keys indices)) key ≡ None
+    → IsTable homes n capacity (size + 1) (written n keys key at) (set indices at (Some v))
     × (map_of (slots_of n (written n keys key at) (set indices at (Some v))) ≡ insert (map_of (slots_of n keys indices)) key v)
-table_put mask n capacity size keys indices key at v t ends long room none =
+table_put homes n capacity size keys indices key at v t ends long room none =
     let slots = slots_of n keys indices in
-    let within = at_within mask n capacity size keys indices key (home_of mask key) at ends in
+    let within = at_within homes n capacity size keys indices key (home_of homes key) at ends in
     let new : IsAbsent key slots = absent key slots (sym (get-map_of slots key) ∙ none) in
-    let empty = empty_if_absent slots key (home_of mask key) at ends new in
+    let empty = empty_if_absent slots key (home_of homes key) at ends new in
     let are = slots_of-fill n keys key indices at v long t.bytes within in
     let same = ap map_of are ∙ map_of-fill key v slots at empty ends.within new in (
       record {
@@ -62,8 +63,8 @@ table_put mask n capacity size keys indices key at v t ends long room none =
         full = full_slots-fill indices at v (index_empty n keys indices at empty) within ∙ ap suc t.full ∙ sym (add-one size);
         counted = ap len same ∙ len-insert nat_list_cmp_total (map_of slots) key v ∙ one_more (get (map_of slots) key) (len (map_of slots)) none ∙ ap (λ k. k + 1) t.counted;
         within = omega arith;
-        met = subst (λ s. (i : ℕ) (e : Entry) → slot s i ≡ Some e → IsMet mask s i e.0) (sym are)
-            (met-fill mask slots (key, v) at ends.within ends.from (full_before slots key (home_of mask key) at ends) t.met);
+        met = subst (λ s. (i : ℕ) (e : Entry) → slot s i ≡ Some e → IsMet homes s i e.0) (sym are)
+            (met-fill homes slots (key, v) at ends.within ends.from (full_before slots key (home_of homes key) at ends) t.met);
         once = subst StandOnce (sym are) (once-fill slots at (key, v) t.once new);
       },
       same,
@@ -72,30 +73,30 @@ table_put mask n capacity size keys indices key at v t ends long room none =
 -- ---- a key is erased
 
 -- the search for a key that the map has ends at that key
-pub ends_at_full : (mask n capacity size : ℕ) (keys : List ℕ) (indices : List (Option ℕ)) (key : List ℕ) (at : ℕ) → IsTable mask n capacity size keys indices
-    → EndsAt (slots_of n keys indices) key (home_of mask key) at → IsSome (get (map_of (slots_of n keys indices)) key) → IsSome (get_or indices at None)
-ends_at_full mask n capacity size keys indices key at t ends present = ap is_some (sym (table_get mask n capacity size keys indices key at t ends)) ∙ present
+pub ends_at_full : (homes : Homes) (n capacity size : ℕ) (keys : List ℕ) (indices : List (Option ℕ)) (key : List ℕ) (at : ℕ) → IsTable homes n capacity size keys indices
+    → EndsAt (slots_of n keys indices) key (home_of homes key) at → IsSome (get (map_of (slots_of n keys indices)) key) → IsSome (get_or indices at None)
+ends_at_full homes n capacity size keys indices key at t ends present = ap is_some (sym (table_get homes n capacity size keys indices key at t ends)) ∙ present
 
-pub table_gap : (mask n capacity size : ℕ) (keys : List ℕ) (indices : List (Option ℕ)) (key : List ℕ) (at : ℕ) → IsTable mask n capacity size keys indices
-    → EndsAt (slots_of n keys indices) key (home_of mask key) at → HasGap mask (slots_of n keys (set indices at None)) at (at + 1)
-table_gap mask n capacity size keys indices key at t ends =
-    subst (λ s. HasGap mask s at (at + 1)) (sym (slots_of-empty n keys indices at)) (gap-start mask (slots_of n keys indices) at ends.within t.met t.once)
+pub table_gap : (homes : Homes) (n capacity size : ℕ) (keys : List ℕ) (indices : List (Option ℕ)) (key : List ℕ) (at : ℕ) → IsTable homes n capacity size keys indices
+    → EndsAt (slots_of n keys indices) key (home_of homes key) at → HasGap homes (slots_of n keys (set indices at None)) at (at + 1)
+table_gap homes n capacity size keys indices key at t ends =
+    subst (λ s. HasGap homes s at (at + 1)) (sym (slots_of-empty n keys indices at)) (gap-start homes (slots_of n keys indices) at ends.within t.met t.once)
 
-pub size_above : (mask n capacity size : ℕ) (keys : List ℕ) (indices : List (Option ℕ)) (at : ℕ) → IsTable mask n capacity size keys indices → IsSome (get_or indices at None) → 0 < size
-size_above mask n capacity size keys indices at t full = omega (arith, t.full, full_slots-empty indices at full)
+pub size_above : (homes : Homes) (n capacity size : ℕ) (keys : List ℕ) (indices : List (Option ℕ)) (at : ℕ) → IsTable homes n capacity size keys indices → IsSome (get_or indices at None) → 0 < size
+size_above homes n capacity size keys indices at t full = omega (arith, t.full, full_slots-empty indices at full)
 
 one_less : (o : Option ℕ) (n : ℕ) → IsSome o → cond (is_some o) (n - 1) n ≡ n - 1
 one_less None n e = cc
 one_less (Some v) n e = refl
 
-pub table_erase : (mask n capacity size : ℕ) (keys : List ℕ) (indices : List (Option ℕ)) (key : List ℕ) (at : ℕ) (new_keys : List ℕ) (new_indices : List (Option ℕ)) → IsTable mask n capacity size keys indices
-    → EndsAt (slots_of n keys indices) key (home_of mask key) at → IsSome (get (map_of (slots_of n keys indices)) key)
-    → ClosesGap mask (slots_of n keys (set indices at None)) (slots_of n new_keys new_indices) → full_slots new_indices ≡ full_slots (set indices at None)
+pub table_erase : (homes : Homes) (n capacity size : ℕ) (keys : List ℕ) (indices : List (Option ℕ)) (key : List ℕ) (at : ℕ) (new_keys : List ℕ) (new_indices : List (Option ℕ)) → IsTable homes n capacity size keys indices
+    → EndsAt (slots_of n keys indices) key (home_of homes key) at → IsSome (get (map_of (slots_of n keys indices)) key)
+    → ClosesGap homes (slots_of n keys (set indices at None)) (slots_of n new_keys new_indices) → full_slots new_indices ≡ full_slots (set indices at None)
     → length new_indices ≡ length (set indices at None) → length new_keys ≡ length keys
-    → IsTable mask n capacity (size - 1) new_keys new_indices × (map_of (slots_of n new_keys new_indices) ≡ remove (map_of (slots_of n keys indices)) key)
-table_erase mask n capacity size keys indices key at new_keys new_indices t ends present closes full_is slots_are bytes_are =
+    → IsTable homes n capacity (size - 1) new_keys new_indices × (map_of (slots_of n new_keys new_indices) ≡ remove (map_of (slots_of n keys indices)) key)
+table_erase homes n capacity size keys indices key at new_keys new_indices t ends present closes full_is slots_are bytes_are =
     let slots = slots_of n keys indices in
-    let full = ends_at_full mask n capacity size keys indices key at t ends present in
+    let full = ends_at_full homes n capacity size keys indices key at t ends present in
     let v = some_of (get_or indices at None) full in
     let here = slot_full n keys indices at v.0 v.1 in
     let own : take n (drop (at * n) keys) ≡ key = end_is key (slot slots at) (take n (drop (at * n) keys), v.0) here ends.end in
@@ -115,12 +116,12 @@ table_erase mask n capacity size keys indices key at new_keys new_indices t ends
 
 -- ---- a search, by what the code holds
 
-pub ends_in : (n mask : ℕ) (keys slice : List ℕ) (indices marks : List (Option ℕ)) (key : List ℕ) (home at : ℕ) → slice ≡ keys → marks ≡ indices → length key ≡ n → home ≡ home_of mask key
-    → EndsAt (slots_of (length key) slice marks) key home at → EndsAt (slots_of n keys indices) key (home_of mask key) at
-ends_in n mask keys slice indices marks key home at keys_are indices_are long home_is ends =
-    subst (λ k. EndsAt (slots_of n k indices) key (home_of mask key) at) keys_are
-    (subst (λ m. EndsAt (slots_of n slice m) key (home_of mask key) at) indices_are
-    (subst (λ k. EndsAt (slots_of k slice marks) key (home_of mask key) at) long
+pub ends_in : (n : ℕ) (homes : Homes) (keys slice : List ℕ) (indices marks : List (Option ℕ)) (key : List ℕ) (home at : ℕ) → slice ≡ keys → marks ≡ indices → length key ≡ n → home ≡ home_of homes key
+    → EndsAt (slots_of (length key) slice marks) key home at → EndsAt (slots_of n keys indices) key (home_of homes key) at
+ends_in n homes keys slice indices marks key home at keys_are indices_are long home_is ends =
+    subst (λ k. EndsAt (slots_of n k indices) key (home_of homes key) at) keys_are
+    (subst (λ m. EndsAt (slots_of n slice m) key (home_of homes key) at) indices_are
+    (subst (λ k. EndsAt (slots_of k slice marks) key (home_of homes key) at) long
     (subst (λ h. EndsAt (slots_of (length key) slice marks) key h at) home_is ends)))
 
 pub written_in : (n : ℕ) (keys front key new : List ℕ) (at : ℕ) → length key ≡ n → front ≡ keys → new ≡ (take (at * length key) front ++ key) ++ drop ((at + 1) * length key) front → new ≡ written n keys key at
@@ -159,20 +160,20 @@ none_some o e p q = cc
 nothing_there : (n m : ℕ) (keys : List ℕ) (i : ℕ) (e : Entry) → slot (slots_of n keys (replicate m None)) i ≡ Some e → ⊥
 nothing_there n m keys i e at = none_some _ e (slot_empty n keys (replicate m None) i (slot_none m i)) at
 
-pub table_new : (homes n capacity : ℕ) (keys : List ℕ) (indices : List (Option ℕ)) → 0 < homes → length keys ≡ (homes + capacity) * n → indices ≡ replicate (homes + capacity) None
-    → IsTable (homes - 1) n capacity 0 keys indices × (map_of (slots_of n keys indices) ≡ empty)
-table_new homes n capacity keys indices some bytes are =
-    let none = replicate (homes + capacity) None in
-    let long : length none ≡ homes + capacity = length-replicate (homes + capacity) None in
-    let same : map_of (slots_of n keys indices) ≡ empty = ap (λ s. map_of (slots_of n keys s)) are ∙ ap from_entries (no_entries n (homes + capacity) keys) in (
+pub table_new : (many n capacity seed : ℕ) (keys : List ℕ) (indices : List (Option ℕ)) → 0 < many → length keys ≡ (many + capacity) * n → indices ≡ replicate (many + capacity) None
+    → IsTable (record { mask = many - 1; seed = seed }) n capacity 0 keys indices × (map_of (slots_of n keys indices) ≡ empty)
+table_new many n capacity seed keys indices some bytes are =
+    let none = replicate (many + capacity) None in
+    let long : length none ≡ many + capacity = length-replicate (many + capacity) None in
+    let same : map_of (slots_of n keys indices) ≡ empty = ap (λ s. map_of (slots_of n keys s)) are ∙ ap from_entries (no_entries n (many + capacity) keys) in (
       record {
         slots = ap length are ∙ long ∙ omega arith;
         bytes = bytes ∙ ap (λ k. k * n) (sym (ap length are ∙ long));
-        full = ap full_slots are ∙ full_none (homes + capacity);
+        full = ap full_slots are ∙ full_none (many + capacity);
         counted = ap len same ∙ len-empty (slice_cmp nat_cmp) ℕ;
         within = omega arith;
-        met = λ i e at. absurd (nothing_there n (homes + capacity) keys i e (ap (λ s. slot (slots_of n keys s) i) (sym are) ∙ at));
-        once = λ i j e f at. absurd (nothing_there n (homes + capacity) keys i e (ap (λ s. slot (slots_of n keys s) i) (sym are) ∙ at));
+        met = λ i e at. absurd (nothing_there n (many + capacity) keys i e (ap (λ s. slot (slots_of n keys s) i) (sym are) ∙ at));
+        once = λ i j e f at. absurd (nothing_there n (many + capacity) keys i e (ap (λ s. slot (slots_of n keys s) i) (sym are) ∙ at));
       },
       same,
     )

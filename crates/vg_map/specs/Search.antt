@@ -1,5 +1,6 @@
 -- What the steps on the slots do: a search, and the closing of a gap.
 use Rattle.std.specs.Prelude.{◌≡◌, ◌≢◌, ℕ, ◌≤◌, ◌<◌, List, length, Option, None, Some, ⊤, ◌⊎◌, IsSome}
+use Rattle.vg_map.specs.declared.hash.Homes.{Homes}
 use Rattle.vg_map.specs.Hash.{home_of}
 use Rattle.vg_map.specs.Slots.{Entry, slot, map_of, StandOnce, IsMet}
 
@@ -21,14 +22,14 @@ pub record EndsAt (slots : List (Option Entry)) (key : List ℕ) (home at : ℕ)
   pub end : IsEnd key (slot slots at)
 
 -- Slot `gap` was emptied: each key is still met by a search that steps over it, but for the keys before `at`, which need no such step.
-pub record HasGap (mask : ℕ) (slots : List (Option Entry)) (gap at : ℕ) : Type 0 where
+pub record HasGap (homes : Homes) (slots : List (Option Entry)) (gap at : ℕ) : Type 0 where
   pub empty : slot slots gap ≡ None
-  pub home : (i : ℕ) (e : Entry) → slot slots i ≡ Some e → home_of mask e.0 ≤ i
-  pub full : (i j : ℕ) (e : Entry) → slot slots i ≡ Some e → home_of mask e.0 ≤ j → j < i → IsSome (slot slots j) ⊎ ((j ≡ gap) × (at ≤ i))
+  pub home : (i : ℕ) (e : Entry) → slot slots i ≡ Some e → home_of homes e.0 ≤ i
+  pub full : (i j : ℕ) (e : Entry) → slot slots i ≡ Some e → home_of homes e.0 ≤ j → j < i → IsSome (slot slots j) ⊎ ((j ≡ gap) × (at ≤ i))
   pub once : StandOnce slots
 
 -- a gap has been closed: the same keys have the same indices, and a search meets each
-pub record ClosesGap (mask : ℕ) (old new : List (Option Entry)) : Type 0 where
+pub record ClosesGap (homes : Homes) (old new : List (Option Entry)) : Type 0 where
   pub same : map_of new ≡ map_of old
-  pub met : (i : ℕ) (e : Entry) → slot new i ≡ Some e → IsMet mask new i e.0
+  pub met : (i : ℕ) (e : Entry) → slot new i ≡ Some e → IsMet homes new i e.0
   pub once : StandOnce new

@@ -1,6 +1,7 @@
 -- The slots of the table as a list, and how keys stand in them.
 use Rattle.std.specs.Prelude.{◌≡◌, ℕ, ◌+◌, ◌*◌, ◌≤◌, ◌<◌, suc, List, [], ◌∷◌, length, take, drop, get_or, Option, None, Some, option_map, IsSome}
 use Rattle.std.specs.FinMap.{from_entries, len}
+use Rattle.vg_map.specs.declared.hash.Homes.{Homes}
 use Rattle.vg_map.specs.Hash.{home_of}
 use Rattle.vg_map.specs.Map.{Indices}
 
@@ -33,9 +34,9 @@ full_slots (None ∷ indices) = full_slots indices
 full_slots (Some i ∷ indices) = suc (full_slots indices)
 
 -- a key at slot i is met by a search from its home: no slot from there up to i is empty
-pub record IsMet (mask : ℕ) (slots : List (Option Entry)) (i : ℕ) (key : List ℕ) : Type 0 where
-  pub home : home_of mask key ≤ i
-  pub full : (j : ℕ) → home_of mask key ≤ j → j < i → IsSome (slot slots j)
+pub record IsMet (homes : Homes) (slots : List (Option Entry)) (i : ℕ) (key : List ℕ) : Type 0 where
+  pub home : home_of homes key ≤ i
+  pub full : (j : ℕ) → home_of homes key ≤ j → j < i → IsSome (slot slots j)
 
 -- no key stands in two slots
 abbrev pub StandOnce : List (Option Entry) → Type 0
@@ -43,11 +44,11 @@ StandOnce slots = (i j : ℕ) (e f : Entry) → slot slots i ≡ Some e → slot
 
 -- The fields of a table fit together. Homes are the first `mask + 1` slots, and a search runs on into `capacity` more: so
 -- none comes to the end, since no more than `capacity` slots are full.
-pub record IsTable (mask key_len capacity size : ℕ) (keys : List ℕ) (indices : List (Option ℕ)) : Type 0 where
-  pub slots : length indices ≡ mask + 1 + capacity
+pub record IsTable (homes : Homes) (key_len capacity size : ℕ) (keys : List ℕ) (indices : List (Option ℕ)) : Type 0 where
+  pub slots : length indices ≡ homes.mask + 1 + capacity
   pub bytes : length keys ≡ length indices * key_len
   pub full : full_slots indices ≡ size
   pub counted : len (map_of (slots_of key_len keys indices)) ≡ size
   pub within : size ≤ capacity
-  pub met : (i : ℕ) (e : Entry) → slot (slots_of key_len keys indices) i ≡ Some e → IsMet mask (slots_of key_len keys indices) i e.0
+  pub met : (i : ℕ) (e : Entry) → slot (slots_of key_len keys indices) i ≡ Some e → IsMet homes (slots_of key_len keys indices) i e.0
   pub once : StandOnce (slots_of key_len keys indices)

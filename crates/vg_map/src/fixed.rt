@@ -3,7 +3,7 @@ ghost use Rattle.std.specs.Prelude.{◌≡◌, ◌≤◌, ◌<◌, length, None,
 ghost use Rattle.std.specs.FinMap as map;
 ghost use Rattle.vg_map.specs.Map.{empty_map, with_key, without_key};
 
-use crate::hash::home;
+use crate::hash::Homes;
 use crate::slots::{close_gap, find, write_key};
 use std::alloc::Global;
 use std::marker::Model;
@@ -21,8 +21,7 @@ pub struct HashMapFixed {
     keys: Vec<u8>,
     /// The index of each slot's key, or none where the slot is empty.
     indices: Vec<Option<u32>>,
-    /// The number of homes, less one.
-    mask: u64,
+    homes: Homes,
     key_len: usize,
     capacity: u32,
     size: u32,
@@ -38,13 +37,26 @@ impl Model for HashMapFixed {
 
     ghost view = { λ a. record { indices = map_of (slots_of a.key_len a.keys.items a.indices.items); capacity = a.capacity; key_len = a.key_len } };
 
-    ghost invariant = { λ a. IsTable a.mask a.key_len a.capacity a.size a.keys.items a.indices.items };
+    ghost invariant = { λ a. IsTable a.homes a.key_len a.capacity a.size a.keys.items a.indices.items };
 }
 
 impl HashMapFixed {
     /// An empty map with room for `capacity` keys of `key_len` bytes. It takes all the memory that the map will ever need,
     /// and refuses only for want of it.
     pub fn new(alloc: Global, capacity: u32, key_len: u32) -> Result<HashMapFixed, Memory>
+        ensures { IfOk result (λ map. map ≡ empty_map capacity key_len) }
+    {
+        HashMapFixed::with_seed(alloc, capacity, key_len, 0)
+    }
+
+    /// As `new`, with a seed that changes where keys stand, and nothing that a caller is answered. Who knows the seed can
+    /// choose keys that all stand in one place, and then a call takes time in the number of keys.
+    pub fn with_seed(
+        alloc: Global,
+        capacity: u32,
+        key_len: u32,
+        seed: u64,
+    ) -> Result<HashMapFixed, Memory>
         ensures { IfOk result (λ map. map ≡ empty_map capacity key_len) }
     {
         let homes = (2 * capacity as usize).next_power_of_two();
@@ -57,7 +69,10 @@ impl HashMapFixed {
         Ok(HashMapFixed {
             keys,
             indices,
-            mask: (homes - 1) as u64,
+            homes: Homes {
+                mask: (homes - 1) as u64,
+                seed,
+            },
             key_len: key_len as usize,
             capacity,
             size: 0,
@@ -77,7 +92,7 @@ impl HashMapFixed {
         requires { length key.now ≡ self.now.key_len }
         ensures { result ≡ map.get self.now.indices key.now }
     {
-        let at = find(&self.keys, &self.indices, key, home(key, self.mask));
+        let at = find(&self.keys, &self.indices, key, self.homes.of(key));
         self.indices[at]
     }
 
@@ -88,7 +103,7 @@ impl HashMapFixed {
         requires absent { map.get self.old.indices key.now ≡ None }
         ensures { self.new ≡ with_key self.old key.now index }
     {
-        let at = find(&self.keys, &self.indices, key, home(key, self.mask));
+        let at = find(&self.keys, &self.indices, key, self.homes.of(key));
         write_key(&mut self.keys, key, at);
         self.indices[at] = Some(index);
         self.size += 1;
@@ -100,13 +115,13 @@ impl HashMapFixed {
         requires present { IsSome (map.get self.old.indices key.now) }
         ensures { self.new ≡ without_key self.old key.now }
     {
-        let at = find(&self.keys, &self.indices, key, home(key, self.mask));
+        let at = find(&self.keys, &self.indices, key, self.homes.of(key));
         self.indices[at] = None;
         close_gap(
             &mut self.keys,
             &mut self.indices,
             self.key_len,
-            self.mask,
+            self.homes,
             at,
         );
         self.size -= 1;

@@ -4,7 +4,7 @@ ghost use Rattle.std.specs.Bool.{MatchBool};
 ghost use Rattle.vg_map.specs.Slots.{slots_of, slot, full_slots};
 ghost use Rattle.vg_map.specs.Search.{IsOther, IsEnd, EndsAt, HasGap, ClosesGap};
 
-use crate::hash::home;
+use crate::hash::Homes;
 
 /// The key of slot `at`.
 fn key_at(keys: &[u8], key_len: usize, at: usize) -> &[u8]
@@ -67,13 +67,13 @@ pub fn close_gap(
     keys: &mut [u8],
     indices: &mut [Option<u32>],
     key_len: usize,
-    mask: u64,
+    homes: Homes,
     gap: usize,
 )
     requires bytes { length keys.old ≡ length indices.old * key_len }
     requires within { gap < length indices.old }
-    requires gap { HasGap mask (slots_of key_len keys.old indices.old) gap (gap + 1) }
-    ensures closed { ClosesGap mask (slots_of key_len keys.old indices.old) (slots_of key_len keys.new indices.new) }
+    requires gap { HasGap homes (slots_of key_len keys.old indices.old) gap (gap + 1) }
+    ensures closed { ClosesGap homes (slots_of key_len keys.old indices.old) (slots_of key_len keys.new indices.new) }
     ensures full { full_slots indices.new ≡ full_slots indices.old }
     ensures slots { length indices.new ≡ length indices.old }
     ensures bytes { length keys.new ≡ length keys.old }
@@ -81,7 +81,7 @@ pub fn close_gap(
     let mut gap = gap;
     let mut at = gap + 1;
     while at < indices.len() && indices[at].is_some() {
-        if home(key_at(keys, key_len, at), mask) <= gap {
+        if homes.of(key_at(keys, key_len, at)) <= gap {
             shift(keys, indices, key_len, at, gap);
             gap = at;
         }

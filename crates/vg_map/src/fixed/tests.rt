@@ -43,7 +43,7 @@ fn four_of_eight_are_left(rt: HostRuntime) -> Result<(), Memory> {
 #[test]
 fn keys_of_each_length(rt: HostRuntime) -> Result<(), Memory> {
     for len in [0, 1, 13, 64] {
-        let mut map = HashMapFixed::new(rt.alloc(), 1, len as u32)?;
+        let mut map = HashMapFixed::with_seed(rt.alloc(), 1, len as u32, len as u64)?;
         let mut bytes = [9u8; 64];
         assert_eq!(rt; map.get(&bytes[..len]), None, "{len} bytes");
         assert!(rt; map.size() < 1 && map.get(&bytes[..len]).is_none());

@@ -1,6 +1,6 @@
 use Rattle.std.proofs.Common.{rules, arith, ◌<◌, length}
 use Rattle.std.proofs.lemmas.Bool.{true≢false}
-use Rattle.vg_dchain.proofs.ChainLemmas.{next_free, chain_allocated, chain_not_full}
+use Rattle.vg_dchain.proofs.ChainLemmas.{next_free, next_is_free, chain_allocated, chain_not_full}
 use Rattle.vg_dchain.proofs.chain.Chain.allocate.Goals as goal
 
 pub push_last-requires-clause-bound : goal.push_last-requires-clause-bound
@@ -27,6 +27,7 @@ returns g c =
       full = (λ e. absurd (true≢false e), λ e. absurd (chain_not_full c.self.inside.by_age c.self.inside.spare c.take-index.new.self c.self.inside.times.items c.self.inside.newest c.take-index.result c.args.self.now c.self.view_is c.self.invariant c.take-index.ensures.taken e));
       kept = tt;
       first = made.2;
+      free = next_is_free c.self.inside.by_age c.self.inside.spare c.take-index.new.self c.self.inside.times.items c.self.inside.newest c.take-index.result c.args.self.now c.self.view_is c.self.invariant c.take-index.ensures.taken;
       allocated = rw c.stamp.ensures.newest made.1;
       cost = omega (arith, c.take-index.ensures.cost, c.push_last.ensures.cost);
     }

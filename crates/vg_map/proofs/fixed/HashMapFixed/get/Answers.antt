@@ -13,9 +13,9 @@ returns c =
     let a = c.self.inside in
     let key = c.args.key.now in
     let at = c.find-at.result in
-    let ends = ends_in a.key_len a.mask a.keys.items c.deref.result.now a.indices.items c.deref-2.result.now key c.home.result at c.deref.ensures.value c.deref-2.ensures.value
-    (c.requires ∙ sym (ap (λ m. m.key_len) c.self.view_is)) c.home.ensures.home c.find-at.ensures in
+    let ends = ends_in a.key_len a.homes a.keys.items c.deref.result.now a.indices.items c.deref-2.result.now key c.of.result at c.deref.ensures.value c.deref-2.ensures.value
+    (c.requires ∙ sym (ap (λ m. m.key_len) c.self.view_is)) c.of.ensures.home c.find-at.ensures in
     c.index.ensures
-    ∙ get_or_default a.indices.items at c.index.result.now None (at_within a.mask a.key_len a.capacity a.size a.keys.items a.indices.items key _ at ends)
-    ∙ sym (table_get a.mask a.key_len a.capacity a.size a.keys.items a.indices.items key at c.self.invariant ends)
+    ∙ get_or_default a.indices.items at c.index.result.now None (at_within a.homes a.key_len a.capacity a.size a.keys.items a.indices.items key _ at ends)
+    ∙ sym (table_get a.homes a.key_len a.capacity a.size a.keys.items a.indices.items key at c.self.invariant ends)
     ∙ ap (λ m. map.get m.indices key) c.self.view_is
