@@ -1,5 +1,6 @@
 -- The value of an expression goes by the values of those before it.
-use Rattle.std.proofs.Common.{◌≡◌, ◌≢◌, ℕ, zero, suc, ◌<◌, ◌≤◌, List, [], ◌∷◌, Option, Some, None, true, false, Bool, ◌&&◌, refl, subst, sym, ◌∙◌, ap, inl, inr, arith}
+use Rattle.std.proofs.Common.{◌≡◌, ◌≢◌, ℕ, zero, suc, ◌<◌, ◌≤◌, List, [], ◌∷◌, Option, Some, None, true, false, Bool, ◌&&◌, refl, subst, sym, ◌∙◌, ap}
+use Rattle.std.proofs.Common.{inl, inr, arith}
 use Rattle.std.specs.Prelude.{slice_get, unwrap_or}
 use Rattle.std.specs.List.{list_all}
 use Rattle.std.proofs.lemmas.Bool.{eq-eqb, ne_eqb, cond-true, cond-false, cases_eq}
@@ -9,12 +10,14 @@ use Rattle.vg_stree.specs.Depths.{has_few_arguments}
 use Rattle.vg_abs.specs.Expressions.{Scope, value_found, value_by, values_before, value_of}
 
 -- the value of an expression is by those before it
-pub value_is : (code : Syntax) (number : ℕ) (scope : Scope) → value_of code number scope ≡ value_found code (values_before code number) (slice_get code.expressions number) scope
+pub value_is : (code : Syntax) (number : ℕ) (scope : Scope) → value_of code number scope ≡ value_found code (values_before code number)
+    (slice_get code.expressions number) scope
 unfolding value_of values_before
 value_is code number scope = cond-true _ _ _ (eq-eqb number number refl)
 
 -- one that stands before a number has its value there
-before_step : (code : Syntax) (count number : ℕ) (scope : Scope) → number ≢ count → values_before code (suc count) number scope ≡ values_before code count number scope
+before_step : (code : Syntax) (count number : ℕ) (scope : Scope) → number ≢ count → values_before code (suc count) number scope ≡ values_before code
+    count number scope
 unfolding values_before
 before_step code count number scope ne = cond-false _ _ _ (ne_eqb number count ne)
 
@@ -51,7 +54,8 @@ all_at (x ∷ es) zero e all is =
     subst (λ (one : SExpr). has_few_arguments one ≡ true) same (and_first (has_few_arguments x) (list_all has_few_arguments es) all)
 all_at (x ∷ es) (suc number) e all is = all_at es number e (and_second (has_few_arguments x) (list_all has_few_arguments es) all) is
 
-pub value_some : (code : Syntax) (number : ℕ) (scope : Scope) (e : SExpr) (value : ℕ) → slice_get code.expressions number ≡ Some e → value ≡ value_by code (values_before code number) e scope → value ≡ value_of code number scope
+pub value_some : (code : Syntax) (number : ℕ) (scope : Scope) (e : SExpr) (value : ℕ) → slice_get code.expressions number ≡ Some e
+    → value ≡ value_by code (values_before code number) e scope → value ≡ value_of code number scope
 value_some code number scope e value found is = is ∙ sym (value_is code number scope ∙ ap (λ o. value_found code (values_before code number) o scope) found)
 
 pub value_none : (code : Syntax) (number : ℕ) (scope : Scope) → slice_get code.expressions number ≡ None → 0 ≡ value_of code number scope

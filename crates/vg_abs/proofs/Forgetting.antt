@@ -27,7 +27,8 @@ module _ {K : Type 0} (R : K → K → Ordering) (gone : K → Bool) where
   equal Equal e = refl
   equal Greater e = absurd (cc)
 
-  find_step : IsAntisymmetric R → (q : K) (e : K × Option ℕ) (b : Bool) (rest more : Option (Option ℕ)) → eq_by_cmp R q e.0 ≡ b → rest ≡ option_map (λ answer. cond (gone q) None answer) more →
+  find_step : IsAntisymmetric R → (q : K) (e : K × Option ℕ) (b : Bool) (rest more : Option (Option ℕ)) → eq_by_cmp R q e.0 ≡ b
+      → rest ≡ option_map (λ answer. cond (gone q) None answer) more →
       cond b (Some (cond (gone e.0) None e.1)) rest ≡ option_map (λ answer. cond (gone q) None answer) (cond b (Some e.1) more)
   find_step same q e true rest more tied is = ap (λ k. Some (cond (gone k) None e.1)) (sym (same q e.0 (equal (R q e.0) tied)))
   find_step same q e false rest more tied is = is
@@ -36,7 +37,8 @@ module _ {K : Type 0} (R : K → K → Ordering) (gone : K → Bool) where
   find_told same q [] = refl
   find_told same q (e ∷ es) = find_step same q e (eq_by_cmp R q e.0) (find R q (map told es)) (find R q es) refl (find_told same q es)
 
-  pub of_part : IsAntisymmetric R → (table : FinMap R (Option ℕ)) (q : K) → get (without false gone table) q ≡ option_map (λ answer. cond (gone q) None answer) (get table q)
+  pub of_part : IsAntisymmetric R → (table : FinMap R (Option ℕ)) (q : K) → get (without false gone table) q ≡ option_map
+      (λ answer. cond (gone q) None answer) (get table q)
   of_part same table q =
       get-from_sorted R (map told (entries table)) q (subst T (sym (sorted_told (entries table))) (entries_sorted table))
       ∙ find_told same q (entries table) ∙ ap (λ found. option_map (λ answer. cond (gone q) None answer) found) (sym (get-entries table q))
@@ -47,6 +49,7 @@ turned false x y = refl
 
 pub forgets : {K : Type 0} {R : K → K → Ordering} → IsTotalOrder R → IsAntisymmetric R → Forgets R
 forgets {R = R} total same = record {
-  of_full = λ gone table k. get-retain_keys table (λ x. not (gone x)) k (λ x tied. ap (λ y. not (gone y)) (sym (same k x tied))) ∙ turned (gone k) (get table k) None;
+  of_full = λ gone table k. get-retain_keys table (λ x. not (gone x)) k (λ x tied. ap (λ y. not (gone y)) (sym (same k x tied)))
+      ∙ turned (gone k) (get table k) None;
   of_part = λ gone table k. of_part R gone same table k;
 }

@@ -22,6 +22,7 @@ missing cells (suc count) index less none = elim (cases_eq index count) [
 ]
 
 -- what all entries of a table of keys pass, whose keys are seen as bytes
-pub keyed_all : {K X : Type 0} (test : List ℕ × X → Bool) (see : K → List ℕ) (es : List (K × X)) (table : FinMap (slice_cmp nat_cmp) X) → map (λ entry. (see entry.0, entry.1)) es ≡ entries table →
+pub keyed_all : {K X : Type 0} (test : List ℕ × X → Bool) (see : K → List ℕ) (es : List (K × X)) (table : FinMap (slice_cmp nat_cmp) X)
+    → map (λ entry. (see entry.0, entry.1)) es ≡ entries table →
     list_all (λ entry. test (see entry.0, entry.1)) es ≡ list_all test (entries table)
 keyed_all test see es table is = sym (list_all-map test (λ entry. (see entry.0, entry.1)) es) ∙ ap (λ all. list_all test all) is

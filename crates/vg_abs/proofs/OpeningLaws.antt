@@ -15,7 +15,8 @@ pub no_some : {X : Type 0} (found : Option X) (x : X) → found ≡ None → fou
 no_some found x none some = absurd (cc)
 
 -- what stands at a number after one cell more
-pub one_more : (count bytes index : ℕ) → get (zero_cells (suc count) bytes) index ≡ cond (count == index) (Some (replicate bytes 0)) (get (zero_cells count bytes) index)
+pub one_more : (count bytes index : ℕ) → get (zero_cells (suc count) bytes) index ≡ cond (count == index) (Some (replicate bytes 0))
+    (get (zero_cells count bytes) index)
 one_more count bytes index =
     get-insert nat_cmp_total (zero_cells count bytes) count (replicate bytes 0) index
     ∙ ap (λ b. cond b (Some (replicate bytes 0)) (get (zero_cells count bytes) index)) (same_test index count)
@@ -24,8 +25,10 @@ one_more count bytes index =
 pub zero_there : (count bytes index : ℕ) → index < count → IsSome (get (zero_cells count bytes) index)
 zero_there zero bytes index less = absurd (omega arith)
 zero_there (suc count) bytes index less = elim (cases_eq count index) [
-  | inl same ↦ subst (λ (found : Option (List ℕ)). IsSome found) (sym (one_more count bytes index ∙ ap (λ b. cond b (Some (replicate bytes 0)) (get (zero_cells count bytes) index)) (eq-eqb count index same))) refl
-  | inr ne ↦ subst (λ (found : Option (List ℕ)). IsSome found) (sym (one_more count bytes index ∙ ap (λ b. cond b (Some (replicate bytes 0)) (get (zero_cells count bytes) index)) (ne_eqb count index ne)))
+  | inl same ↦ subst (λ (found : Option (List ℕ)). IsSome found) (sym (one_more count bytes index
+      ∙ ap (λ b. cond b (Some (replicate bytes 0)) (get (zero_cells count bytes) index)) (eq-eqb count index same))) refl
+  | inr ne ↦ subst (λ (found : Option (List ℕ)). IsSome found) (sym (one_more count bytes index
+      ∙ ap (λ b. cond b (Some (replicate bytes 0)) (get (zero_cells count bytes) index)) (ne_eqb count index ne)))
       (zero_there count bytes index (omega arith))
 ]
 
@@ -35,7 +38,8 @@ zero_none zero bytes index cell found = absurd (no_some (get (empty {X = List �
 zero_none (suc count) bytes index cell found = elim (cases_eq count index) [
   | inl same ↦ omega arith
   | inr ne ↦ (let below : index < count = zero_none count bytes index cell
-      (sym (one_more count bytes index ∙ ap (λ b. cond b (Some (replicate bytes 0)) (get (zero_cells count bytes) index)) (ne_eqb count index ne)) ∙ found) in omega arith)
+      (sym (one_more count bytes index ∙ ap (λ b. cond b (Some (replicate bytes 0)) (get (zero_cells count bytes) index)) (ne_eqb count index ne))
+      ∙ found) in omega arith)
 ]
 
 tied : (capacity key_length : ℕ) → IsTied 0 (opening_link capacity key_length)

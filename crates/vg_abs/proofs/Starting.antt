@@ -1,5 +1,6 @@
 -- What loops on the way to the opening state come to.
-use Rattle.std.proofs.Common.{◌≡◌, ℕ, suc, ◌+◌, ◌-◌, ◌/◌, ◌%◌, ◌<◌, ◌≤◌, List, [], ◌∷◌, ◌++◌, length, drop, Bool, true, false, ◌&&◌, ◌||◌, Option, Some, refl, sym, ◌∙◌, ap, inl, inr, arith, append_assoc, append-nil, cond}
+use Rattle.std.proofs.Common.{◌≡◌, ℕ, suc, ◌+◌, ◌-◌, ◌/◌, ◌%◌, ◌<◌, ◌≤◌, List, [], ◌∷◌, ◌++◌, length, drop, Bool, true, false, ◌&&◌, ◌||◌, Option}
+use Rattle.std.proofs.Common.{Some, refl, sym, ◌∙◌, ap, inl, inr, arith, append_assoc, append-nil, cond}
 use Rattle.std.specs.Prelude.{◌==◌, is_some, reverse}
 use Rattle.std.specs.List.{list_any}
 use Rattle.std.specs.Ordering.{nat_cmp, eq_by_cmp, is_eq}
@@ -13,7 +14,8 @@ use Rattle.vg_abs.specs.Fields.{low_bytes}
 use Rattle.vg_abs.specs.Opening.{has_prefix, prefix_of, routes_of}
 
 -- one byte more
-pub low_more : (count made rest : ℕ) (bytes total : List ℕ) → made < count → bytes ++ low_bytes (count - made) rest ≡ total → (bytes ++ rest % 256 ∷ []) ++ low_bytes (count - (made + 1)) (rest / 256) ≡ total
+pub low_more : (count made rest : ℕ) (bytes total : List ℕ) → made < count → bytes ++ low_bytes (count - made) rest ≡ total
+    → (bytes ++ rest % 256 ∷ []) ++ low_bytes (count - (made + 1)) (rest / 256) ≡ total
 low_more count made rest bytes total less so_far =
     let one : count - made ≡ suc (count - (made + 1)) = omega arith in
     append_assoc bytes (rest % 256 ∷ []) (low_bytes (count - (made + 1)) (rest / 256)) ∙ ap (λ n. bytes ++ low_bytes n rest) (sym one) ∙ so_far
@@ -49,5 +51,7 @@ noted table prefix route later same =
 pub none_left : (table : ℕ) (routes : List Route) → reverse [] ≡ routes_of table (drop (length routes) routes)
 none_left table routes = sym (ap (λ rest. routes_of table rest) (drop_all (length routes) routes (omega arith)))
 
-pub none_noted : (table prefix : ℕ) (routes : List Route) → is_some (get (empty {X = Bool} {R = nat_cmp}) prefix) ≡ list_any (has_prefix table prefix) (drop (length routes) routes)
-none_noted table prefix routes = ap is_some (get-empty nat_cmp prefix) ∙ sym (ap (λ rest. list_any (has_prefix table prefix) rest) (drop_all (length routes) routes (omega arith)))
+pub none_noted : (table prefix : ℕ) (routes : List Route) → is_some (get (empty {X = Bool} {R = nat_cmp}) prefix) ≡ list_any (has_prefix table prefix)
+    (drop (length routes) routes)
+none_noted table prefix routes = ap is_some (get-empty nat_cmp prefix)
+    ∙ sym (ap (λ rest. list_any (has_prefix table prefix) rest) (drop_all (length routes) routes (omega arith)))

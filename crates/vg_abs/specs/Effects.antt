@@ -70,7 +70,8 @@ with_link s map link = record s { objects = slice_set s.objects map (Map link) }
 
 -- a cell of a vector holds these bytes, given its object
 abbrev pub with_bytes_in : State → ℕ → ℕ → List ℕ → Option Object → State
-with_bytes_in s vector index bytes (Some (Cells cells)) = record s { objects = slice_set s.objects vector (Cells (record cells { cells = insert cells.cells index bytes })) }
+with_bytes_in s vector index bytes (Some (Cells cells)) =
+    record s { objects = slice_set s.objects vector (Cells (record cells { cells = insert cells.cells index bytes })) }
 with_bytes_in s vector index bytes (Some Keys) = with_link s (vector - 2) (with_cell (link_of_keys s vector) index bytes)
 with_bytes_in s vector index bytes _ = s
 
@@ -82,4 +83,5 @@ with_bytes s vector index bytes = with_bytes_in s vector index bytes (slice_get 
 -- absent, or free; of all others both tell what they told
 pub record Forgets {K : Type 0} (R : K → K → Ordering) : Type 0 where
   pub of_full : (gone : K → Bool) (table : FinMap R (Option ℕ)) (k : K) → get (without true gone table) k ≡ (if gone k then None else get table k)
-  pub of_part : (gone : K → Bool) (table : FinMap R (Option ℕ)) (k : K) → get (without false gone table) k ≡ option_map (λ answer. if gone k then None else answer) (get table k)
+  pub of_part : (gone : K → Bool) (table : FinMap R (Option ℕ)) (k : K) → get (without false gone table) k ≡ option_map
+      (λ answer. if gone k then None else answer) (get table k)

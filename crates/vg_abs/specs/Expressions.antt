@@ -1,6 +1,7 @@
 -- What rules and premises say. Every value is a whole number below 2 ^ 64, and all operands are evaluated. Frame, length, port, time, cells by
 -- their index and `has` stand in no rule and no premise; they count 0 here.
-use Rattle.std.specs.Prelude.{ℕ, ◌+◌, ◌-◌, ◌*◌, ◌/◌, ◌%◌, ◌^◌, ◌≢◌, ◌==◌, nat_lt, nat_le, not, ◌&&◌, ◌||◌, Bool, zero, suc, List, [], map, fold, slice_get, unwrap_or, bit_and, bit_or, bit_xor, Option, Some, None, if◌then◌else◌}
+use Rattle.std.specs.Prelude.{ℕ, ◌+◌, ◌-◌, ◌*◌, ◌/◌, ◌%◌, ◌^◌, ◌≢◌, ◌==◌, nat_lt, nat_le, not, ◌&&◌, ◌||◌, Bool, zero, suc, List, [], map, fold}
+use Rattle.std.specs.Prelude.{slice_get, unwrap_or, bit_and, bit_or, bit_xor, Option, Some, None, if◌then◌else◌}
 use Rattle.vg_stree.specs.declared.code.Operator.{Operator}
 use Rattle.vg_stree.specs.declared.code.Operator.TheVariants as operators
 use Rattle.vg_stree.specs.declared.code.SExpr.{SExpr}
@@ -65,8 +66,10 @@ value_by code known (expressions.Parens inner) scope = known inner scope
 value_by code known (expressions.Not operand) scope = truth (not (is_true (known operand scope)))
 value_by code known (expressions.Chain first rest) scope =
     fold (λ left operation. operate operation.operator left (known operation.operand scope)) (known first scope) (listed code.operations rest)
-value_by code known (expressions.Choose condition chosen otherwise) scope = if is_true (known condition scope) then known chosen scope else known otherwise scope
-value_by code known (expressions.Call body arguments) scope = known body (record scope { names = map (λ argument. known argument scope) (listed code.items arguments) })
+value_by code known (expressions.Choose condition chosen otherwise) scope = if is_true (known condition scope) then known chosen scope else known
+    otherwise scope
+value_by code known (expressions.Call body arguments) scope =
+    known body (record scope { names = map (λ argument. known argument scope) (listed code.items arguments) })
 value_by code known _ scope = 0
 
 -- the value of an expression that may be there, and 0 where there is none

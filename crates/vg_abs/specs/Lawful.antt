@@ -1,5 +1,6 @@
 -- When a state is lawful at a time, for a specification and the configuration's numbers.
-use Rattle.std.specs.Prelude.{ℕ, ◌≡◌, ◌+◌, ◌-◌, ◌<◌, ◌≤◌, List, [], count_by, All, Bool, true, false, not, ◌&&◌, is_none, is_some, slice_get, Option, Some, IsSome}
+use Rattle.std.specs.Prelude.{ℕ, ◌≡◌, ◌+◌, ◌-◌, ◌<◌, ◌≤◌, List, [], count_by, All, Bool, true, false, not, ◌&&◌, is_none, is_some, slice_get, Option}
+use Rattle.std.specs.Prelude.{Some, IsSome}
 use Rattle.std.specs.FinMap.{get, len, entries}
 use Rattle.vg_stree.specs.declared.shape.Rule.{Rule}
 use Rattle.vg_stree.specs.declared.shape.ObjectKind.{ObjectKind}
@@ -107,12 +108,14 @@ SpeaksOf s vector index _ = Unit {0}
 
 -- a rule holds on each told cell of its vector that it speaks of
 abbrev pub Holds : Specification → List ℕ → State → Rule → Type 0
-Holds spec numbers s rule = (index : ℕ) (bytes : List ℕ) → get (vector_of s rule.vector).cells index ≡ Some bytes → SpeaksOf s rule.vector index (slice_get s.objects rule.vector) →
+Holds spec numbers s rule = (index : ℕ) (bytes : List ℕ) → get (vector_of s rule.vector).cells index ≡ Some bytes
+    → SpeaksOf s rule.vector index (slice_get s.objects rule.vector) →
     RuleHolds spec.code numbers rule.value (values_in (fields_of spec.shape (cell_struct spec.shape rule.vector)) bytes)
 
 -- a state is lawful at a time
 pub record IsLawful (spec : Specification) (numbers : List ℕ) (now : ℕ) (s : State) : Type 0 where
   pub shaped : IsShaped spec.shape numbers s
-  pub each : (number : ℕ) (declared : objects.Object) (object : Object) → slice_get spec.shape.objects number ≡ Some declared → slice_get s.objects number ≡ Some object →
+  pub each : (number : ℕ) (declared : objects.Object) (object : Object) → slice_get spec.shape.objects number ≡ Some declared
+      → slice_get s.objects number ≡ Some object →
       IsLawfulObject now s.full declared.kind object
   pub rules : All (Holds spec numbers s) spec.shape.rules

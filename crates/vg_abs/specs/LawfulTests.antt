@@ -1,5 +1,6 @@
 -- Lawfulness as tests, which private functions answer one by one. No public clause cites them: `Shape` and `Lawful` say what is lawful.
-use Rattle.std.specs.Prelude.{ℕ, zero, suc, ◌+◌, ◌-◌, ◌==◌, nat_lt, nat_le, List, [], length, Bool, true, false, not, ◌&&◌, ◌||◌, is_none, is_some, slice_get, Option, Some, None}
+use Rattle.std.specs.Prelude.{ℕ, zero, suc, ◌+◌, ◌-◌, ◌==◌, nat_lt, nat_le, List, [], length, Bool, true, false, not, ◌&&◌, ◌||◌, is_none, is_some}
+use Rattle.std.specs.Prelude.{slice_get, Option, Some, None}
 use Rattle.std.specs.Str.{bytes_eq}
 use Rattle.std.specs.List.{list_all, zip}
 use Rattle.std.specs.FinMap.{get, len, entries}
@@ -36,7 +37,8 @@ cells_have count cells = list_all (λ entry. are_bytes count entry.1) (entries c
 
 abbrev pub is_link_of : Declarations → List ℕ → ℕ → Size → Link → Bool
 is_link_of shape numbers key capacity link =
-    (link.capacity == size_of numbers capacity) && ((link.key_length == struct_bytes shape key) && (keys_have link.key_length link.keys && cells_have link.key_length link.cells))
+    (link.capacity == size_of numbers capacity) && ((link.key_length == struct_bytes shape key) &&
+    (keys_have link.key_length link.keys && cells_have link.key_length link.cells))
 
 abbrev pub is_vector_of : Declarations → List ℕ → ℕ → Size → Vector → Bool
 is_vector_of shape numbers cell count vector = (vector.cell_count == size_of numbers count) && cells_have (struct_bytes shape cell) vector.cells
@@ -85,7 +87,8 @@ is_held link index (Some time) = has_pair link index (get link.cells index)
 abbrev pub is_tied : ℕ → Link → Bool
 is_tied now link =
     list_all (λ entry. is_mapped link entry.0 entry.1) (entries link.keys)
-    && (list_all (λ entry. is_held link entry.0 entry.1) (entries link.times) && ((link.size == link.count) && (nat_le link.size link.capacity && nat_le link.highest now)))
+    && (list_all (λ entry. is_held link entry.0 entry.1) (entries link.times) && ((link.size == link.count) &&
+    (nat_le link.size link.capacity && nat_le link.highest now)))
 
 -- a full state's link
 abbrev pub all_there : CellTable → ℕ → Bool
@@ -113,7 +116,8 @@ is_lawful_link now link =
 abbrev pub is_bound : Link → ℕ → ℕ → Bool
 is_bound link bound before =
     nat_le (count_of (λ time. is_before bound (Some time)) link.times) before
-    && (nat_le (before + count_of (is_from bound) link.times) link.size && (implies (nat_lt link.highest bound) (before == link.size) && implies (bound == 0) (before == 0)))
+    && (nat_le (before + count_of (is_from bound) link.times) link.size && (implies (nat_lt link.highest bound) (before == link.size) && implies
+    (bound == 0) (before == 0)))
 
 abbrev pub rises : TimeTable → ℕ × ℕ → ℕ × ℕ → Bool
 rises times low high = implies (nat_le low.0 high.0) (nat_le (low.1 + count_of (is_between low.0 high.0) times) high.1)
@@ -136,7 +140,8 @@ is_lawful_part now link =
     && (times_end link.times link.capacity
     && (cells_end link.cells link.capacity
     && (cells_known link.cells link.times
-    && (nat_le (count_of is_some link.times) link.size && (nat_le (count_of is_none link.times) (link.capacity - link.size) && (are_bounds link && bounds_rise link))))))
+    && (nat_le (count_of is_some link.times) link.size && (nat_le (count_of is_none link.times) (link.capacity - link.size) &&
+    (are_bounds link && bounds_rise link))))))
 
 -- vectors and prefix tables
 abbrev pub is_lawful_vector : Bool → Vector → Bool
@@ -166,14 +171,16 @@ is_lawful_object now full kind object = true
 -- rules
 abbrev pub cell_passes : Specification → List ℕ → Rule → List ℕ → Bool
 cell_passes spec numbers rule bytes =
-    is_true (value_of spec.code rule.value (record { numbers = numbers; cell = values_in (fields_of spec.shape (cell_struct spec.shape rule.vector)) bytes; names = [] }))
+    is_true (value_of spec.code rule.value
+    (record { numbers = numbers; cell = values_in (fields_of spec.shape (cell_struct spec.shape rule.vector)) bytes; names = [] }))
 
 abbrev pub is_taken : Option (Option ℕ) → Bool
 is_taken (Some (Some time)) = true
 is_taken _ = false
 
 abbrev pub keys_pass : Specification → List ℕ → Rule → Option Object → Bool
-keys_pass spec numbers rule (Some (Map link)) = list_all (λ entry. implies (is_taken (get link.times entry.0)) (cell_passes spec numbers rule entry.1)) (entries link.cells)
+keys_pass spec numbers rule (Some (Map link)) =
+    list_all (λ entry. implies (is_taken (get link.times entry.0)) (cell_passes spec numbers rule entry.1)) (entries link.cells)
 keys_pass spec numbers rule _ = true
 
 abbrev pub vector_passes : Specification → List ℕ → State → Rule → Option Object → Bool

@@ -1,5 +1,6 @@
 -- What is seen of a library, and what each of its calls does to it.
-use Rattle.std.specs.Prelude.{ℕ, ◌≡◌, ◌≢◌, ◌+◌, ◌-◌, ◌<◌, ◌≤◌, List, [], ◌∷◌, length, take, drop, ◌++◌, Bool, true, false, Option, Some, None, slice_get, is_some, is_none, not, unwrap_or, IsSomeAnd, All}
+use Rattle.std.specs.Prelude.{ℕ, ◌≡◌, ◌≢◌, ◌+◌, ◌-◌, ◌<◌, ◌≤◌, List, [], ◌∷◌, length, take, drop, ◌++◌, Bool, true, false, Option, Some, None}
+use Rattle.std.specs.Prelude.{slice_get, is_some, is_none, not, unwrap_or, IsSomeAnd, All}
 use Rattle.std.specs.FinMap.{get}
 use Rattle.vg_abs.specs.declared.object.Object.{Object}
 use Rattle.vg_abs.specs.declared.object.Object.TheVariants.{Map, Chain, Keys, Cells, Prefixes}
@@ -137,7 +138,8 @@ pub record MayExpire (s : Library) (map : ℕ) : Type 0 where
 -- exactly the indices with a time before the bound are freed, and their cells' keys erased; the answer is how many
 abbrev pub Expires : Library → Library → ℕ → ℕ → ℕ → Type 0
 Expires s t map before result =
-    Asks s t (count_before s.state.full (link_of_map s.state map) before) (λ count. (result ≡ count) × Becomes s t (effect s.state (ExpireItems map (map + 1) (map + 2) before) 0))
+    Asks s t (count_before s.state.full (link_of_map s.state map) before) (λ count. (result ≡ count)
+    × Becomes s t (effect s.state (ExpireItems map (map + 1) (map + 2) before) 0))
 
 -- whether one cell is lent is this now, and nothing else has changed but, maybe, what was missed
 pub record ChangesLoan (s t : Library) (vector index : ℕ) (is_lent : Bool) : Type 0 where

@@ -1,6 +1,7 @@
 -- When a configuration is valid for a specification, and the state that it opens with: empty maps, free chains, and cells of zeros but for
 -- what the configuration fills.
-use Rattle.std.specs.Prelude.{ℕ, zero, suc, ◌+◌, ◌-◌, ◌*◌, ◌/◌, ◌≡◌, ◌<◌, ◌≤◌, ◌^◌, ◌==◌, ◌&&◌, not, List, [], ◌∷◌, length, fold, replicate, All, Bool, true, slice_get, unwrap_or, Some, None, if◌then◌else◌, Option}
+use Rattle.std.specs.Prelude.{ℕ, zero, suc, ◌+◌, ◌-◌, ◌*◌, ◌/◌, ◌≡◌, ◌<◌, ◌≤◌, ◌^◌, ◌==◌, ◌&&◌, not, List, [], ◌∷◌, length, fold, replicate, All}
+use Rattle.std.specs.Prelude.{Bool, true, slice_get, unwrap_or, Some, None, if◌then◌else◌, Option}
 use Rattle.std.specs.List.{list_any}
 use Rattle.std.specs.FinMap.{get, insert, empty}
 use Rattle.vg_stree.specs.declared.config.Route.{Route}
@@ -101,7 +102,8 @@ IsInRange number value = (number.low ≤ value) × (value ≤ number.high)
 -- each number of the configuration lies in its range
 pub record AreInRange (shape : Declarations) (numbers : List ℕ) : Type 0 where
   pub as_many : length numbers ≡ length shape.numbers
-  pub each : (place : ℕ) (number : Number) (value : ℕ) → slice_get shape.numbers place ≡ Some number → slice_get numbers place ≡ Some value → IsInRange number value
+  pub each : (place : ℕ) (number : Number) (value : ℕ) → slice_get shape.numbers place ≡ Some number → slice_get numbers place ≡ Some value
+      → IsInRange number value
 
 -- a route is of a prefix table, has at most 32 bits, and a value in the table's range
 abbrev pub FitsKind : Route → ObjectKind → Type 0
@@ -114,7 +116,8 @@ FitsTable shape route = (object : objects.Object) × (slice_get shape.objects ro
 -- a fill is of a vector of its own, of one of its cells, and of a field that holds its value
 abbrev pub FitsCells : Declarations → List ℕ → Fill → ObjectKind → Type 0
 FitsCells shape numbers fill (kinds.Vector cell count) =
-    (fill.index < size_of numbers count) × ((field : Field) × (slice_get (fields_of shape cell) fill.field ≡ Some field) × (fill.value < 256 ^ field_bytes field.of))
+    (fill.index < size_of numbers count) × ((field : Field) × (slice_get (fields_of shape cell) fill.field ≡ Some field)
+    × (fill.value < 256 ^ field_bytes field.of))
 FitsCells shape numbers fill _ = ⊥
 
 abbrev pub FitsVector : Declarations → List ℕ → Fill → Type 0

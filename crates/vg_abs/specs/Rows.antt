@@ -1,6 +1,7 @@
 -- The library's rows over numbers and bytes: what each call needs, in order, which case it is, what it answers and what it leaves. The
 -- meaning of C, specifications and the verifier all cite these. Pointers and the bytes of a frame are no part of this.
-use Rattle.std.specs.Prelude.{ℕ, ◌+◌, ◌-◌, ◌==◌, ◌&&◌, not, nat_lt, nat_le, List, [], ◌∷◌, ◌++◌, length, filter, slice_get, Bool, true, false, Option, Some, None, is_some, is_none, unwrap_or, if◌then◌else◌}
+use Rattle.std.specs.Prelude.{ℕ, ◌+◌, ◌-◌, ◌==◌, ◌&&◌, not, nat_lt, nat_le, List, [], ◌∷◌, ◌++◌, length, filter, slice_get, Bool, true, false, Option}
+use Rattle.std.specs.Prelude.{Some, None, is_some, is_none, unwrap_or, if◌then◌else◌}
 use Rattle.std.specs.List.{list_any}
 use Rattle.std.specs.Option.{option_map}
 use Rattle.std.specs.FinMap.{get}

@@ -56,7 +56,8 @@ IsObjectOf shape numbers _ _ = ⊥
 -- a state as declared
 pub record IsShaped (shape : Declarations) (numbers : List ℕ) (s : State) : Type 0 where
   pub as_many : length s.objects ≡ length shape.objects
-  pub each : (number : ℕ) (declared : objects.Object) (object : Object) → slice_get shape.objects number ≡ Some declared → slice_get s.objects number ≡ Some object →
+  pub each : (number : ℕ) (declared : objects.Object) (object : Object) → slice_get shape.objects number ≡ Some declared
+      → slice_get s.objects number ≡ Some object →
       IsObjectOf shape numbers declared.kind object
 
 -- the struct of a map's keys, by its number; 0 where the object is no map

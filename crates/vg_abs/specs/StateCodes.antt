@@ -37,4 +37,5 @@ abbrev pub object_code : Coded Object
 object_code = code_by Stored (coded⊎ link_code (coded⊎ vector_code (coded⊎ routing_code coded_bool))) stored restored restored-stored
 
 abbrev pub state_code : Coded State
-state_code = code_by (Bool × List Object) (coded× coded_bool (coded_list object_code)) (λ s. (s.full, s.objects)) (λ p. record { full = p.0; objects = p.1 }) (λ _. refl)
+state_code = code_by (Bool × List Object) (coded× coded_bool (coded_list object_code)) (λ s. (s.full, s.objects))
+    (λ p. record { full = p.0; objects = p.1 }) (λ _. refl)

@@ -152,7 +152,8 @@ fn value_by(code: &Code, scope: &Scope<'_>, number: u32, expression: SExpr) -> u
 #[cycle(evaluation)]
 fn chain(code: &Code, scope: &Scope<'_>, number: u32, first: u64, operations: &[Operation]) -> u64
     requires { list_all has_few_arguments code.now.expressions ≡ true }
-    ensures { result ≡ fold (λ left operation. expressions.operate operation.operator left (values_before code.now number operation.operand (scope_of scope.now))) first operations.now }
+    ensures { result ≡ fold (λ left operation. expressions.operate operation.operator left
+        (values_before code.now number operation.operand (scope_of scope.now))) first operations.now }
 {
     let mut left = first;
     for operation in operations {

@@ -1,7 +1,8 @@
 //! The library as the function calls it.
 ghost use Rattle.std.specs.Prelude.{◌≡◌, ◌≤◌, ◌<◌, ◌+◌, ◌-◌, ◌≢◌, ◌⊎◌, ℕ, List, length, true, false, Some, None, IsSome};
 ghost use Rattle.std.specs.FinMap.{get};
-ghost use Rattle.vg_abs.specs.Library.{Library, IsMap, IsChain, IsVector, IsTable, Meets, Fits, SameShape, Gets, Tells, LooksUp, Does, Allocates, MayExpire, Expires, Lends, TakesBack, Stores, Differs};
+ghost use Rattle.vg_abs.specs.Library.{Library, IsMap, IsChain, IsVector, IsTable, Meets, Fits, SameShape, Gets, Tells, LooksUp, Does, Allocates};
+ghost use Rattle.vg_abs.specs.Library.{MayExpire, Expires, Lends, TakesBack, Stores, Differs};
 ghost use Rattle.vg_abs.specs.State.{link_of_map, link_of_chain, vector_of};
 ghost use Rattle.vg_abs.specs.Rows.{MapPut, MapErase, ChainAllocate, ChainRejuvenate, ChainFree, ChainIsAllocated};
 

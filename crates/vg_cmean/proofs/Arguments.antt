@@ -18,7 +18,8 @@ after_next (Gives d s) f g h = refl
 after_next (Wrong at reason s) f g h = refl
 after_next (Untold s) f g h = refl
 
-set_below_other : (u : Typed) (ps : List ℕ) (ds : List Datum) (i k : ℕ) (d : Datum) (s : State) → k ≤ i → set_below u ps (set ds i d) k s ≡ set_below u ps ds k s
+set_below_other : (u : Typed) (ps : List ℕ) (ds : List Datum) (i k : ℕ) (d : Datum) (s : State) → k ≤ i
+    → set_below u ps (set ds i d) k s ≡ set_below u ps ds k s
 set_below_other u ps ds i zero d s h = refl
 set_below_other u ps ds i (suc k) d s h =
     let other : k ≢ i = omega arith in
@@ -50,8 +51,10 @@ from_step : (u : Typed) (part : Parts_mean) (xs ps : List ℕ) (ds : List Datum)
 from_step u part xs ps ds k s h i =
     ap (λ (zs : List ℕ). after (given u part zs (drop k ps) s) (set_below u ps ds k)) (drop-cons xs k 0 h)
     ∙ ap (λ (zs : List ℕ). after (given u part (get_or xs k 0 ∷ drop (suc k) xs) zs s) (set_below u ps ds k)) (drop-cons ps k 0 i)
-    ∙ after_and_then (value (part (get_or xs k 0)) s) (λ d t. after (given u part (drop (suc k) xs) (drop (suc k) ps) t) (parameter u (get_or ps k 0) d)) (set_below u ps ds k)
-    ∙ and_then_next (value (part (get_or xs k 0)) s) _ _ (λ d t. after_twice (given u part (drop (suc k) xs) (drop (suc k) ps) t) (parameter u (get_or ps k 0) d) (set_below u ps ds k))
+    ∙ after_and_then (value (part (get_or xs k 0)) s) (λ d t. after (given u part (drop (suc k) xs) (drop (suc k) ps) t)
+    (parameter u (get_or ps k 0) d)) (set_below u ps ds k)
+    ∙ and_then_next (value (part (get_or xs k 0)) s) _ _ (λ d t. after_twice (given u part (drop (suc k) xs) (drop (suc k) ps) t)
+    (parameter u (get_or ps k 0) d) (set_below u ps ds k))
 
 -- an argument gave something, which waits
 pub waits : (u : Typed) (part : Parts_mean) (xs ps : List ℕ) (ds : List Datum) (k : ℕ) (d : Datum) (s t : State) (o : Outcome) →
@@ -62,7 +65,8 @@ waits u part xs ps ds k d s t o h i j g is =
     (after_next (given u part (drop (suc k) xs) (drop (suc k) ps) t) _ _ (λ v.
     ap (λ e. after (parameter u (get_or ps k 0) e v) (set_below u ps (set ds k d) k)) (get_or-set_same ds k d data_of.Nothing j)
     ∙ after_next (parameter u (get_or ps k 0) d v) _ _ (λ w. set_below_other u ps ds k k d w (omega arith)))
-    ∙ ap (λ x. and_then x (λ e v. after (given u part (drop (suc k) xs) (drop (suc k) ps) v) (λ w. after (parameter u (get_or ps k 0) e w) (set_below u ps ds k)))) g
+    ∙ ap (λ x. and_then x (λ e v. after (given u part (drop (suc k) xs) (drop (suc k) ps) v)
+    (λ w. after (parameter u (get_or ps k 0) e w) (set_below u ps ds k)))) g
     ∙ sym (from_step u part xs ps ds k s h i)
     ∙ is)
 
@@ -70,7 +74,8 @@ waits u part xs ps ds k d s t o h i j g is =
 pub waits_wrong : (u : Typed) (part : Parts_mean) (xs ps : List ℕ) (ds : List Datum) (k at : ℕ) (reason : Reason) (s t : State) (o : Outcome) →
     k < length xs → k < length ps → Wrong at reason t ≡ value (part (get_or xs k 0)) s → given_from u part xs ps ds k s ≡ o → Wrong at reason t ≡ o
 waits_wrong u part xs ps ds k at reason s t o h i g is =
-    ap (λ x. and_then x (λ e v. after (given u part (drop (suc k) xs) (drop (suc k) ps) v) (λ w. after (parameter u (get_or ps k 0) e w) (set_below u ps ds k)))) g
+    ap (λ x. and_then x (λ e v. after (given u part (drop (suc k) xs) (drop (suc k) ps) v)
+    (λ w. after (parameter u (get_or ps k 0) e w) (set_below u ps ds k)))) g
     ∙ sym (from_step u part xs ps ds k s h i)
     ∙ is
 

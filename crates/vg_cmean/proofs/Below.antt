@@ -23,7 +23,8 @@ below_here u k n e = below_suc u k n ∙ ap (λ b. if b then of_node u (meaning_
 below_other : (u : Typed) (k n : ℕ) → nat_eq n k ≡ false → meaning_below u (suc k) n ≡ meaning_below u k n
 below_other u k n e = below_suc u k n ∙ ap (λ b. if b then of_node u (meaning_below u k) k else meaning_below u k n) e
 
-none_step : (u : Typed) (k n : ℕ) → suc k ≤ n → ((nat_eq n k ≡ true) × (n ≡ k)) ⊎ ((nat_eq n k ≡ false) × (n ≢ k)) → meaning_below u k n ≡ nothing → meaning_below u (suc k) n ≡ nothing
+none_step : (u : Typed) (k n : ℕ) → suc k ≤ n → ((nat_eq n k ≡ true) × (n ≡ k)) ⊎ ((nat_eq n k ≡ false) × (n ≢ k)) → meaning_below u k n ≡ nothing
+    → meaning_below u (suc k) n ≡ nothing
 none_step u k n h (inl same) i = let e = same.1 in absurd (omega arith)
 none_step u k n h (inr other) i = below_other u k n other.0 ∙ i
 
@@ -31,7 +32,8 @@ pub below_none : (u : Typed) (k n : ℕ) → k ≤ n → meaning_below u k n ≡
 below_none u zero n h = below_zero u n
 below_none u (suc k) n h = none_step u k n h (eqb_tells n k) (below_none u k n (omega arith))
 
-is_step : (u : Typed) (k n : ℕ) → n < suc k → ((nat_eq n k ≡ true) × (n ≡ k)) ⊎ ((nat_eq n k ≡ false) × (n ≢ k)) → (n < k → meaning_below u k n ≡ meaning u n) → meaning_below u (suc k) n ≡ meaning u n
+is_step : (u : Typed) (k n : ℕ) → n < suc k → ((nat_eq n k ≡ true) × (n ≡ k)) ⊎ ((nat_eq n k ≡ false) × (n ≢ k))
+    → (n < k → meaning_below u k n ≡ meaning u n) → meaning_below u (suc k) n ≡ meaning u n
 is_step u k n h (inl same) i = below_here u k n same.0 ∙ sym (meaning_is u k) ∙ ap (meaning u) (sym same.1)
 is_step u k n h (inr other) i = let ne = other.1 in below_other u k n other.0 ∙ i (omega arith)
 

@@ -1,5 +1,6 @@
 -- Chains, one link further.
-use Rattle.std.proofs.Common.{◌≡◌, ℕ, zero, suc, ◌+◌, ◌-◌, ◌<◌, ◌≤◌, Bool, true, false, if◌then◌else◌, add-one, List, slice_index_or, Option, Some, Result, Ok, Err, refl, sym, ap, subst, arith, ◌∙◌}
+use Rattle.std.proofs.Common.{◌≡◌, ℕ, zero, suc, ◌+◌, ◌-◌, ◌<◌, ◌≤◌, Bool, true, false, if◌then◌else◌, add-one, List, slice_index_or, Option, Some}
+use Rattle.std.proofs.Common.{Result, Ok, Err, refl, sym, ap, subst, arith, ◌∙◌}
 use Rattle.vg_core.specs.Units.{Typed}
 use Rattle.vg_core.specs.declared.tree.BinaryOp.{BinaryOp}
 use Rattle.vg_core.specs.declared.tree.BinaryOp.TheVariants as binaries
@@ -82,7 +83,8 @@ valued_element size type at index_at a b s =
     (λ p. Gives (data_of.Lvalue (element_at size type at a p)) s) (λ p. refl)
 
 valued_link : (u : Typed) (part : Parts_mean) (n : ℕ) (kind : Kind) (d : Datum) (s : State) → IsValued (link u part n kind d s)
-valued_link u part n (nodes.Binary op left right) d s = valued_bind (read d s) (operated op (place_at u n) (part right)) (valued_operated op (place_at u n) (part right))
+valued_link u part n (nodes.Binary op left right) d s = valued_bind (read d s) (operated op (place_at u n) (part right))
+    (valued_operated op (place_at u n) (part right))
 valued_link u part n (nodes.Index array index) d s =
     valued_bind (indexed d s) _ (λ a t. valued_bind (value (part index) t) _ (λ b v.
     valued_element (element_size u (type_at u array)) (type_at u n) (place_at u n) (place_at u index) a b v))
@@ -99,7 +101,8 @@ at_link u above node next o s l e =
     ∙ sym (ap (λ (m : Meaning). m.gives s) (meaning_is u next))
 
 -- what the innermost node gives is all that the top needs of it
-climbs : (u : Typed) (above : List ℕ) (top links node : ℕ) (o : Outcome) (s : State) → IsChain u above top links node → IsValued o → o ≡ (meaning u node).gives s →
+climbs : (u : Typed) (above : List ℕ) (top links node : ℕ) (o : Outcome) (s : State) → IsChain u above top links node → IsValued o
+    → o ≡ (meaning u node).gives s →
     and_then o (gives_above u above links node) ≡ (meaning u top).gives s
 climbs u above top zero node o s c v e = subst (λ n. and_then o Gives ≡ (meaning u n).gives s) c (v ∙ e)
 climbs u above top (suc links) node o s c v e =
@@ -119,7 +122,8 @@ chain_short u above top (suc links) node c =
     let h = chain_short u above top links (slice_index_or above node 0) c.1 in omega arith
 
 -- one link more below
-pub chain_more : (u : Typed) (above : List ℕ) (top links node first : ℕ) → IsChain u above top links node → IsLink u above first node → IsChain u above top (links + 1) first
+pub chain_more : (u : Typed) (above : List ℕ) (top links node first : ℕ) → IsChain u above top links node → IsLink u above first node
+    → IsChain u above top (links + 1) first
 chain_more u above top links node first c l =
     subst (λ k. IsChain u above top k first) (sym (add-one links))
     (subst (λ next. IsLink u above first next × IsChain u above top links next) (sym l.leads) (l, c))
@@ -138,24 +142,28 @@ gives_up u above links rest node d s e = ap (λ k. gives_above u above k node d 
 pub begins_chain : (u : Typed) (above : List ℕ) (top links node : ℕ) → IsChain u above top links node → IsChain u above top (links - 0) node
 begins_chain u above top links node c = let e : links ≡ links - 0 = omega arith in subst (λ k. IsChain u above top k node) e c
 
-pub begins : (u : Typed) (above : List ℕ) (top links node : ℕ) (d : Datum) (s t : State) → IsChain u above top links node → Gives d t ≡ (meaning u node).gives s →
+pub begins : (u : Typed) (above : List ℕ) (top links node : ℕ) (d : Datum) (s t : State) → IsChain u above top links node
+    → Gives d t ≡ (meaning u node).gives s →
     gives_above u above (links - 0) node d t ≡ (meaning u top).gives s
 begins u above top links node d s t c e =
     let same : links - 0 ≡ links = omega arith in
     ap (λ k. gives_above u above k node d t) same ∙ climbs u above top links node (Gives d t) s c refl e
 
-pub step_chain : (u : Typed) (above : List ℕ) (top links link node next : ℕ) → IsChain u above top (links - link) node → link < links → next ≡ slice_index_or above node 0 →
+pub step_chain : (u : Typed) (above : List ℕ) (top links link node next : ℕ) → IsChain u above top (links - link) node → link < links
+    → next ≡ slice_index_or above node 0 →
     IsChain u above top (links - (link + 1)) next
 step_chain u above top links link node next c h e =
     let one : links - link ≡ suc (links - (link + 1)) = omega arith in
     subst (λ n. IsChain u above top (links - (link + 1)) n) (sym e) (chain_up u above top (links - link) (links - (link + 1)) node one c).1
 
-pub step_within : (u : Typed) (above : List ℕ) (top links link node next : ℕ) → IsChain u above top (links - link) node → link < links → next ≡ slice_index_or above node 0 →
+pub step_within : (u : Typed) (above : List ℕ) (top links link node next : ℕ) → IsChain u above top (links - link) node → link < links
+    → next ≡ slice_index_or above node 0 →
     next ≤ top
 step_within u above top links link node next c h e =
     let short = chain_short u above top (links - (link + 1)) next (step_chain u above top links link node next c h e) in omega arith
 
-pub step_gives : (u : Typed) (above : List ℕ) (links link node next : ℕ) (d e : Datum) (s t : State) (o : Outcome) → link < links → next ≡ slice_index_or above node 0 →
+pub step_gives : (u : Typed) (above : List ℕ) (links link node next : ℕ) (d e : Datum) (s t : State) (o : Outcome) → link < links
+    → next ≡ slice_index_or above node 0 →
     gives_above u above (links - link) node d s ≡ o → Gives e t ≡ link_at u next d s → gives_above u above (links - (link + 1)) next e t ≡ o
 step_gives u above links link node next d e s t o h is i g =
     let one : links - link ≡ suc (links - (link + 1)) = omega arith in
@@ -164,7 +172,8 @@ step_gives u above links link node next d e s t o h is i g =
     ∙ sym (gives_up u above (links - link) (links - (link + 1)) node d s one)
     ∙ i
 
-pub step_wrong : (u : Typed) (above : List ℕ) (links link node next at : ℕ) (reason : Reason) (d : Datum) (s t : State) (o : Outcome) → link < links → next ≡ slice_index_or above node 0 →
+pub step_wrong : (u : Typed) (above : List ℕ) (links link node next at : ℕ) (reason : Reason) (d : Datum) (s t : State) (o : Outcome) → link < links
+    → next ≡ slice_index_or above node 0 →
     gives_above u above (links - link) node d s ≡ o → Wrong at reason t ≡ link_at u next d s → Wrong at reason t ≡ o
 step_wrong u above links link node next at reason d s t o h is i g =
     let one : links - link ≡ suc (links - (link + 1)) = omega arith in
@@ -184,11 +193,13 @@ else_next u b next d s e h =
     ∙ ap (λ (m : Meaning). m.does s) (meaning_is u next.node)
     ∙ ap (λ (k : Kind). statement u (meaning_below u next.node) next.node k s) e.kind
 
-pub branch_next : (u : Typed) (b next : Branch) (d : Datum) (own ticked later again : Own) (frame new : List ℕ) → IsElseIf u b next → is_true d ≡ false → ticked ≡ memory.tick own →
+pub branch_next : (u : Typed) (b next : Branch) (d : Datum) (own ticked later again : Own) (frame new : List ℕ) → IsElseIf u b next
+    → is_true d ≡ false → ticked ≡ memory.tick own →
     Gives d (full later new) ≡ value (meaning_below u b.node b.condition) (full ticked frame) → again ≡ memory.tick later →
     branched_at u next (full again new) ≡ branched_at u b (full own frame)
 branch_next u b next d own ticked later again frame new e h one g other =
     ap (λ (o : Own). branched_at u next (full o new)) other
     ∙ sym (else_next u b next d (tick (full later new)) e h)
     ∙ ap (λ (o : Outcome). and_then o (λ a v. taken (meaning_below u b.node) b.body b.otherwise a (tick v))) g
-    ∙ ap (λ (o : Own). and_then (value (meaning_below u b.node b.condition) (full o frame)) (λ a v. taken (meaning_below u b.node) b.body b.otherwise a (tick v))) one
+    ∙ ap (λ (o : Own). and_then (value (meaning_below u b.node b.condition) (full o frame))
+    (λ a v. taken (meaning_below u b.node) b.body b.otherwise a (tick v))) one

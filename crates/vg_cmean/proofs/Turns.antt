@@ -11,15 +11,18 @@ unfolding turns
 turns_none u n body counter bound step s = refl
 
 turns_suc : (u : Typed) (left n : ℕ) (body : Meaning) (counter bound : Value) (step : ℕ) (s : State) →
-    turns u (suc left) n body counter bound step s ≡ (if is_below counter bound then after (turn u n body counter s) (turns u left n body (next_of counter step) bound step) else Next s)
+    turns u (suc left) n body counter bound step s ≡ (if is_below counter bound then after (turn u n body counter s)
+    (turns u left n body (next_of counter step) bound step) else Next s)
 unfolding turns
 turns_suc u left n body counter bound step s = refl
 
 pub turns_next : (u : Typed) (left n : ℕ) (body : Meaning) (counter bound : Value) (step : ℕ) (s : State) → 0 < left →
-    turns u left n body counter bound step s ≡ (if is_below counter bound then after (turn u n body counter s) (turns u (left - 1) n body (next_of counter step) bound step) else Next s)
+    turns u left n body counter bound step s ≡ (if is_below counter bound then after (turn u n body counter s)
+    (turns u (left - 1) n body (next_of counter step) bound step) else Next s)
 turns_next u left n body counter bound step s h =
     let e : left ≡ suc (left - 1) = omega arith in
-    subst (λ k. turns u k n body counter bound step s ≡ (if is_below counter bound then after (turn u n body counter s) (turns u (left - 1) n body (next_of counter step) bound step) else Next s)) (sym e)
+    subst (λ k. turns u k n body counter bound step s ≡ (if is_below counter bound then after (turn u n body counter s)
+    (turns u (left - 1) n body (next_of counter step) bound step) else Next s)) (sym e)
     (turns_suc u (left - 1) n body counter bound step s)
 
 -- no turn is left

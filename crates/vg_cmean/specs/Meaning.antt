@@ -1,6 +1,7 @@
 -- The meaning of each node of a typed C text: what it gives as an expression (C11 6.5), and what it does as a statement (6.8), by what its parts mean.
 -- Operands are evaluated left first, arguments too, and `&&`, `||` and `?:` evaluate only what they need.
-use Rattle.std.specs.Prelude.{ℕ, zero, suc, ◌+◌, ◌-◌, ◌%◌, ◌^◌, nat_eq, nat_le, Bool, true, false, List, [], ◌∷◌, ◌++◌, length, slice_get, Option, Some, None, Result, Ok, Err, if◌then◌else◌}
+use Rattle.std.specs.Prelude.{ℕ, zero, suc, ◌+◌, ◌-◌, ◌%◌, ◌^◌, nat_eq, nat_le, Bool, true, false, List, [], ◌∷◌, ◌++◌, length, slice_get, Option}
+use Rattle.std.specs.Prelude.{Some, None, Result, Ok, Err, if◌then◌else◌}
 use Rattle.vg_core.specs.Syntax.{listed}
 use Rattle.vg_core.specs.Units.{Typed}
 use Rattle.vg_core.specs.declared.reason.Reason.{Reason}
@@ -144,7 +145,8 @@ packet_length s = Gives (data_of.Word (number unsigned_32 (length s.frame))) s
 
 abbrev pub packet_borrow : (at : ℕ) → Datum → State → Outcome
 packet_borrow at d s =
-    or_wrong (borrow s.own (length s.frame) (converted_to unsigned_32 (word_of d)).word) at s (λ own. Gives (data_of.Address (start_of_loan s.own)) (record s { own = own }))
+    or_wrong (borrow s.own (length s.frame) (converted_to unsigned_32 (word_of d)).word) at s
+    (λ own. Gives (data_of.Address (start_of_loan s.own)) (record s { own = own }))
 
 abbrev pub packet_return : (at : ℕ) → Datum → State → Outcome
 packet_return at d s = or_wrong (give_back s.own (pointer_of d)) at s (λ own. Gives data_of.Nothing (record s { own = own }))

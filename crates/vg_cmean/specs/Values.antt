@@ -75,7 +75,8 @@ abbrev pub align_of : Bool → Integer → ℕ
 align_of loose t = if loose then 1 else size_of t
 
 abbrev pub read_integer : Integer → Lvalue → State → Outcome
-read_integer t p s = or_wrong (load s p.pointer p.room (size_of t) (align_of p.loose t)) p.at s (λ word. Gives (data_of.Word (record { of = t; word = word })) s)
+read_integer t p s = or_wrong (load s p.pointer p.room (size_of t) (align_of p.loose t)) p.at s
+    (λ word. Gives (data_of.Word (record { of = t; word = word })) s)
 
 -- an array stands for a pointer to its first element
 abbrev pub read_lvalue : CType → Lvalue → State → Outcome

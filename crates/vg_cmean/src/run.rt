@@ -194,7 +194,8 @@ fn operation(
     right: u32,
 ) -> Result<Datum, Fault>
     requires size { IsShort world.old }
-    ensures value { gives result (seen world.new) ≡ operated op (typings.place_at env.now.unit.now n) (meaning_below env.now.unit.now n right) left (seen world.old) }
+    ensures value { gives result (seen world.new) ≡ operated op (typings.place_at env.now.unit.now n) (meaning_below env.now.unit.now n right) left
+        (seen world.old) }
     ensures same { IsSame world.old world.new }
 {
     match op {
@@ -232,7 +233,8 @@ fn choose(
     other: u32,
 ) -> Result<Datum, Fault>
     requires size { IsShort world.old }
-    ensures value { gives result (seen world.new) ≡ meaning.choice env.now.unit.now n (meaning_below env.now.unit.now n condition) (meaning_below env.now.unit.now n one) (meaning_below env.now.unit.now n other) (seen world.old) }
+    ensures value { gives result (seen world.new) ≡ meaning.choice env.now.unit.now n (meaning_below env.now.unit.now n condition)
+        (meaning_below env.now.unit.now n one) (meaning_below env.now.unit.now n other) (seen world.old) }
     ensures same { IsSame world.old world.new }
 {
     let holds = is_true(part_value(world, env, n, condition)?);
@@ -277,7 +279,8 @@ fn index_of(
 fn call(world: &mut World, env: &Env, n: u32, arguments: &[u32]) -> Result<Datum, Fault>
     requires size { IsShort world.old }
     requires few { length arguments.now < 2 ^ 32 }
-    ensures value { gives result (seen world.new) ≡ meaning.call env.now.unit.now (meaning_below env.now.unit.now n) (typings.place_at env.now.unit.now n) arguments.now (typings.referent_at env.now.unit.now n) (seen world.old) }
+    ensures value { gives result (seen world.new) ≡ meaning.call env.now.unit.now (meaning_below env.now.unit.now n)
+        (typings.place_at env.now.unit.now n) arguments.now (typings.referent_at env.now.unit.now n) (seen world.old) }
     ensures same { IsSame world.old world.new }
 {
     match referent_at(env.unit, n) {
@@ -312,7 +315,8 @@ fn call_function(
 ) -> Result<Datum, Fault>
     requires size { IsShort world.old }
     requires few { length arguments.now < 2 ^ 32 }
-    ensures value { gives result (seen world.new) ≡ meaning.function_called env.now.unit.now (meaning_below env.now.unit.now n) arguments.now answer params.now body (seen world.old) }
+    ensures value { gives result (seen world.new) ≡ meaning.function_called env.now.unit.now (meaning_below env.now.unit.now n) arguments.now answer
+        params.now body (seen world.old) }
     ensures same { IsSame world.old world.new }
 {
     given(world, env, n, arguments, params)?;
@@ -402,7 +406,8 @@ fn given_in_calls(
 #[cycle(machine)]
 fn library(world: &mut World, env: &Env, n: u32, row: u8, arguments: &[u32]) -> Result<Datum, Fault>
     requires size { IsShort world.old }
-    ensures value { gives result (seen world.new) ≡ meaning.library (meaning_below env.now.unit.now n) row (typings.place_at env.now.unit.now n) arguments.now (seen world.old) }
+    ensures value { gives result (seen world.new) ≡ meaning.library (meaning_below env.now.unit.now n) row (typings.place_at env.now.unit.now n)
+        arguments.now (seen world.old) }
     ensures same { IsSame world.old world.new }
 {
     match call_in_row(row) {
@@ -427,7 +432,8 @@ fn frame_call(
 ) -> Result<Datum, Fault>
     requires size { IsShort world.old }
     requires few { length arguments.now ≤ 4 }
-    ensures value { gives result (seen world.new) ≡ meaning.frame_call (meaning_below env.now.unit.now n) row (typings.place_at env.now.unit.now n) [] arguments.now (seen world.old) }
+    ensures value { gives result (seen world.new) ≡ meaning.frame_call (meaning_below env.now.unit.now n) row (typings.place_at env.now.unit.now n) []
+        arguments.now (seen world.old) }
     ensures same { IsSame world.old world.new }
 {
     let mut data = ArrayVec::<Datum, MOST_ARGUMENTS>::new();
@@ -558,7 +564,8 @@ fn assign(
     value: u32,
 ) -> Result<Option<Datum>, Fault>
     requires size { IsShort world.old }
-    ensures value { does result (seen world.new) ≡ meaning.assignment env.now.unit.now n op (meaning_below env.now.unit.now n target) (meaning_below env.now.unit.now n value) (seen world.old) }
+    ensures value { does result (seen world.new) ≡ meaning.assignment env.now.unit.now n op (meaning_below env.now.unit.now n target)
+        (meaning_below env.now.unit.now n value) (seen world.old) }
     ensures same { IsSame world.old world.new }
 {
     world.memory.tick();
@@ -647,7 +654,8 @@ fn turns(
     step: u64,
 ) -> Result<Option<Datum>, Fault>
     requires size { IsShort world.old }
-    ensures value { does result (seen world.new) ≡ meaning.turns env.now.unit.now meaning.most_turns n (meaning_below env.now.unit.now n body) first bound step (seen world.old) }
+    ensures value { does result (seen world.new) ≡ meaning.turns env.now.unit.now meaning.most_turns n (meaning_below env.now.unit.now n body) first
+        bound step (seen world.old) }
     ensures same { IsSame world.old world.new }
 {
     let mut counter = first;

@@ -40,7 +40,8 @@ Leads-same l m a [] b s h = s.0 ∙ h
 Leads-same l m a (x ∷ xs) b s h = (s.0 ∙ h.0, Leads-same l m x xs b s.1 h.1)
 
 -- the last link leads elsewhere
-pub Leads-relink : (l : List ℕ) (a : ℕ) (xs : List ℕ) (b c : ℕ) → AllBelow (length l) (a ∷ xs) → IsDistinct (a ∷ xs) → Leads l a xs b → Leads (set l (last_of a xs) c) a xs c
+pub Leads-relink : (l : List ℕ) (a : ℕ) (xs : List ℕ) (b c : ℕ) → AllBelow (length l) (a ∷ xs) → IsDistinct (a ∷ xs) → Leads l a xs b
+    → Leads (set l (last_of a xs) c) a xs c
 Leads-relink l a [] b c below d h = get_or-set_same l a c 0 below.0
 Leads-relink l a (x ∷ xs) b c below d h = (get_or-set_other l (last_of x xs) a c 0 (last_of-absent a x xs d.0) ∙ h.0, Leads-relink l x xs b c below.1 d.1 h.1)
 
@@ -56,7 +57,8 @@ pub Leads-rest : (l : List ℕ) (a : ℕ) (xs : List ℕ) (y : ℕ) (ys : List �
 Leads-rest l a [] y ys b h = h.1
 Leads-rest l a (x ∷ xs) y ys b h = Leads-rest l x xs y ys b h.1
 
-pub LeadsBack-append : (l : List ℕ) (a : ℕ) (xs : List ℕ) (y : ℕ) (ys : List ℕ) (b : ℕ) → LeadsBack l a xs y → LeadsBack l y ys b → LeadsBack l a (xs ++ y ∷ ys) b
+pub LeadsBack-append : (l : List ℕ) (a : ℕ) (xs : List ℕ) (y : ℕ) (ys : List ℕ) (b : ℕ) → LeadsBack l a xs y → LeadsBack l y ys b
+    → LeadsBack l a (xs ++ y ∷ ys) b
 LeadsBack-append l a [] y ys b h k = (h, k)
 LeadsBack-append l a (x ∷ xs) y ys b h k = (h.0, LeadsBack-append l x xs y ys b h.1 k)
 
@@ -88,6 +90,7 @@ length-indices_after zero l a = refl
 length-indices_after (suc n) l a = ap suc (length-indices_after n l (get_or l a 0))
 
 -- the same list from a place with the same link
-pub indices_after-moved : (n : ℕ) (l m : List ℕ) (a c : ℕ) → get_or m c 0 ≡ get_or l a 0 → Same l m (indices_after n l a) → indices_after n m c ≡ indices_after n l a
+pub indices_after-moved : (n : ℕ) (l m : List ℕ) (a c : ℕ) → get_or m c 0 ≡ get_or l a 0 → Same l m (indices_after n l a)
+    → indices_after n m c ≡ indices_after n l a
 indices_after-moved zero l m a c e s = refl
 indices_after-moved (suc n) l m a c e s = rw e (ap (λ (ys : List ℕ). get_or l a 0 ∷ ys) (indices_after-moved n l m (get_or l a 0) (get_or l a 0) s.0 s.1))

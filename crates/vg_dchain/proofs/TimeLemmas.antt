@@ -1,6 +1,7 @@
 -- Indices with times: look-ups, what is left without an index, and the order of times.
 use Rattle.std.specs.Prelude.{◌≢◌, ◌==◌, Contains, if◌then◌else◌}
-use Rattle.std.proofs.Common.{ℕ, suc, ◌<◌, ◌≤◌, true, Option, Some, None, List, [], ◌∷◌, ◌++◌, length, get_or, set, is_some, inl, inr, sym, refl, ap, ◌∙◌, ◌≡◌, arith}
+use Rattle.std.proofs.Common.{ℕ, suc, ◌<◌, ◌≤◌, true, Option, Some, None, List, [], ◌∷◌, ◌++◌, length, get_or, set, is_some, inl, inr, sym, refl, ap}
+use Rattle.std.proofs.Common.{◌∙◌, ◌≡◌, arith}
 use Rattle.std.specs.Prelude.{unwrap_or}
 use Rattle.std.proofs.lemmas.Bool.{cases_eq, eq-eqb, ne_eqb, lt-ltb, le-ltb, false≢true}
 use Rattle.std.proofs.lemmas.List.{get_or-set_other}
@@ -17,7 +18,8 @@ time_at-past j t i es h = rw (ne_eqb j i h) refl
 -- an index that isn't there has no time
 pub time_at-absent : (times : List (Option ℕ)) (order : List ℕ) (i : ℕ) → IsAbsent i order → time_at (stamps_of times order) i ≡ None
 time_at-absent times [] i a = refl
-time_at-absent times (x ∷ xs) i a = time_at-past x (unwrap_or (get_or times x None) 0) i (stamps_of times xs) (λ (e : x ≡ i). a.0 (sym e)) ∙ time_at-absent times xs i a.1
+time_at-absent times (x ∷ xs) i a = time_at-past x (unwrap_or (get_or times x None) 0) i (stamps_of times xs) (λ (e : x ≡ i). a.0 (sym e))
+    ∙ time_at-absent times xs i a.1
 
 -- an index with a time is there
 pub held : (times : List (Option ℕ)) (order : List ℕ) (i : ℕ) → is_some (time_at (stamps_of times order) i) ≡ true → Contains order i
@@ -26,7 +28,8 @@ held times (x ∷ xs) i h =
     elim (cases_eq x i) [
       | inl e ↦ (0, omega arith, e)
       | inr n ↦
-          let rest : Contains xs i = held times xs i (ap (λ (o : Option ℕ). is_some o) (sym (time_at-past x (unwrap_or (get_or times x None) 0) i (stamps_of times xs) n)) ∙ h) in
+          let rest : Contains xs i = held times xs i
+          (ap (λ (o : Option ℕ). is_some o) (sym (time_at-past x (unwrap_or (get_or times x None) 0) i (stamps_of times xs) n)) ∙ h) in
           (suc rest.0, omega (arith, rest.1), rest.2)
     ]
 
@@ -67,9 +70,11 @@ time_at-others_other (e ∷ es) i j h =
     ]
 
 -- stamps of other indices stay
-pub stamps_of-set : (times : List (Option ℕ)) (i : ℕ) (t : Option ℕ) (order : List ℕ) → IsAbsent i order → stamps_of (set times i t) order ≡ stamps_of times order
+pub stamps_of-set : (times : List (Option ℕ)) (i : ℕ) (t : Option ℕ) (order : List ℕ) → IsAbsent i order
+    → stamps_of (set times i t) order ≡ stamps_of times order
 stamps_of-set times i t [] a = refl
-stamps_of-set times i t (x ∷ xs) a = rw (get_or-set_other times i x t None (λ (e : x ≡ i). a.0 (sym e))) (ap (λ (es : List (ℕ × ℕ)). (x, unwrap_or (get_or times x None) 0) ∷ es) (stamps_of-set times i t xs a.1))
+stamps_of-set times i t (x ∷ xs) a = rw (get_or-set_other times i x t None (λ (e : x ≡ i). a.0 (sym e)))
+    (ap (λ (es : List (ℕ × ℕ)). (x, unwrap_or (get_or times x None) 0) ∷ es) (stamps_of-set times i t xs a.1))
 
 pub stamps_of-append : (times : List (Option ℕ)) (xs ys : List ℕ) → stamps_of times (xs ++ ys) ≡ stamps_of times xs ++ stamps_of times ys
 stamps_of-append times [] ys = refl

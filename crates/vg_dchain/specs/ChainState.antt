@@ -2,7 +2,8 @@
 use Rattle.std.specs.Prelude.{ℕ, ◌+◌, ◌≡◌, ◌<◌, ◌≤◌, ◌==◌, nat_lt, not, if◌then◌else◌, Option, Some, None, List, [], ◌∷◌, ◌++◌, length, map, filter, drop}
 use Rattle.vg_dchain.specs.Indices.{IsDistinct, AllBelow}
 
--- how many indices there are; the index and the last time of each that is handed out, the oldest first; the free ones, the first to be handed out first; the highest time so far
+-- how many indices there are; the index and the last time of each that is handed out, the oldest first; the free ones, the first to be handed out
+-- first; the highest time so far
 pub record ChainState : Type 0 where
   pub range : ℕ
   pub entries : List (ℕ × ℕ)

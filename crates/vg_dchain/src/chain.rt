@@ -1,5 +1,6 @@
 //! The chain: which indices are handed out, with their times, and which are free.
-ghost use Rattle.std.specs.Prelude.{◌≡◌, ◌<◌, ◌≤◌, ◌+◌, ◌↔◌, ℕ, [], ◌∷◌, length, vec_len, slice_set, nat_lt, is_some, IsSome, IsNone, Some, IfOk, IfSome, IfNone};
+ghost use Rattle.std.specs.Prelude.{◌≡◌, ◌<◌, ◌≤◌, ◌+◌, ◌↔◌, ℕ, [], ◌∷◌, length, vec_len, slice_set, nat_lt, is_some, IsSome, IsNone, Some, IfOk};
+ghost use Rattle.std.specs.Prelude.{IfSome, IfNone};
 ghost use Rattle.std.specs.List.{range_with_len};
 ghost use Rattle.vg_dchain.specs.ChainState.{ChainState, IsFree, IsLawful, time_at, oldest_below, after_allocation, after_rejuvenation, after_freeing};
 

@@ -30,7 +30,8 @@ impl Model for Spare {
 
 // Links from the bound to 0, and from each index to the next.
 fn ascending(alloc: Global, bound: u32) -> Result<Vec<u32>, Memory>
-    ensures { IfOk result (λ links. (length links.items ≡ bound + 1) × ((k : ℕ) → k < bound → slice_index links.items k ≡ k + 1) × (slice_index links.items bound ≡ 0)) }
+    ensures { IfOk result (λ links. (length links.items ≡ bound + 1) × ((k : ℕ) → k < bound → slice_index links.items k ≡ k + 1)
+        × (slice_index links.items bound ≡ 0)) }
 {
     let Ok(links) = vec![in alloc; 0; bound as usize + 1] else {
         return Err(Memory);

@@ -1,5 +1,6 @@
 -- The map that the slots stand for: what it has at a key, and what filling, emptying and moving a slot does to it.
-use Rattle.std.proofs.Common.{◌≡◌, ◌≢◌, ◌⊎◌, inl, inr, ℕ, zero, suc, ◌<◌, Bool, true, false, cond, List, [], ◌∷◌, length, set, Option, Some, None, refl, sym, ◌∙◌, ap, subst, arith}
+use Rattle.std.proofs.Common.{◌≡◌, ◌≢◌, ◌⊎◌, inl, inr, ℕ, zero, suc, ◌<◌, Bool, true, false, cond, List, [], ◌∷◌, length, set, Option, Some, None}
+use Rattle.std.proofs.Common.{refl, sym, ◌∙◌, ap, subst, arith}
 use Rattle.std.specs.Ordering.{nat_cmp, eq_by_cmp}
 use Rattle.std.specs.Cmp.Lexicographic.{slice_cmp}
 use Rattle.std.specs.FinMap.{get, insert, remove, find, same_map, get-insert, get-remove, get-from_entries, slice_cmp-IsAntisymmetric, nat_cmp-IsAntisymmetric}
@@ -141,7 +142,8 @@ slot-emptied (x ∷ s) (suc i) zero e at = (λ p. zero_suc i p, at)
 slot-emptied (x ∷ s) (suc i) (suc j) e at = let r = slot-emptied s i j e at in (λ p. r.0 (omega arith), r.1)
 
 -- the slot that was filled, or another one as it was
-pub slot-filled : (slots : List (Option Entry)) (i j : ℕ) (d e : Entry) → slot (set slots i (Some d)) j ≡ Some e → ((j ≡ i) × (d ≡ e)) ⊎ ((j ≢ i) × (slot slots j ≡ Some e))
+pub slot-filled : (slots : List (Option Entry)) (i j : ℕ) (d e : Entry) → slot (set slots i (Some d)) j ≡ Some e → ((j ≡ i) × (d ≡ e))
+    ⊎ ((j ≢ i) × (slot slots j ≡ Some e))
 slot-filled [] i j d e at = cc
 slot-filled (x ∷ s) zero zero d e at = inl (refl, same_entry d e at)
 slot-filled (x ∷ s) zero (suc j) d e at = inr (λ p. zero_suc j (sym p), at)
@@ -178,7 +180,8 @@ map_of-fill k v slots i at h new = same_map nat_list_cmp_total (slice_cmp-IsAnti
     get-map_of (set slots i (Some (k, v))) q ∙ found-fill q k v slots i at h new ∙ ap (cond (same_key q k) (Some v)) (sym (get-map_of slots q))
     ∙ sym (get-insert nat_list_cmp_total (map_of slots) k v q))
 
-pub map_of-empty : (e : Entry) (slots : List (Option Entry)) (i : ℕ) → slot slots i ≡ Some e → StandOnce slots → map_of (set slots i None) ≡ remove (map_of slots) e.0
+pub map_of-empty : (e : Entry) (slots : List (Option Entry)) (i : ℕ) → slot slots i ≡ Some e → StandOnce slots
+    → map_of (set slots i None) ≡ remove (map_of slots) e.0
 map_of-empty e slots i at once = same_map nat_list_cmp_total (slice_cmp-IsAntisymmetric nat_cmp-IsAntisymmetric) _ _ (λ q.
     get-map_of (set slots i None) q ∙ found-empty q e slots i at once ∙ ap (cond (same_key q e.0) None) (sym (get-map_of slots q))
     ∙ sym (get-remove nat_list_cmp_total (map_of slots) e.0 q))
@@ -187,7 +190,8 @@ map_of-empty e slots i at once = same_map nat_list_cmp_total (slice_cmp-IsAntisy
 abbrev pub moved : List (Option Entry) → ℕ → ℕ → List (Option Entry)
 moved slots from to = set (set slots to (slot slots from)) from None
 
-pub moved_is : (slots : List (Option Entry)) (from to : ℕ) (e : Entry) → slot slots from ≡ Some e → to ≢ from → moved slots from to ≡ set (set slots from None) to (Some e)
+pub moved_is : (slots : List (Option Entry)) (from to : ℕ) (e : Entry) → slot slots from ≡ Some e → to ≢ from
+    → moved slots from to ≡ set (set slots from None) to (Some e)
 moved_is slots from to e at ne = ap (λ x. set (set slots to x) from None) at ∙ set_comm slots to from (Some e) None ne
 
 moved_back : (q : List ℕ) (e : Entry) (slots : List (Option Entry)) (from : ℕ) → slot slots from ≡ Some e → StandOnce slots → (q ≡ e.0) ⊎ (q ≢ e.0)
@@ -196,15 +200,19 @@ moved_back q e slots from at once (inl p) =
     ap (λ b. cond b (Some e.1) (cond b None (found q slots))) (same_true q e.0 p) ∙ sym (found_at slots from e once at) ∙ ap (λ k. found k slots) (sym p)
 moved_back q e slots from at once (inr n) = ap (λ b. cond b (Some e.1) (cond b None (found q slots))) (same_false q e.0 n)
 
-pub map_of-moved : (slots : List (Option Entry)) (from to : ℕ) (e : Entry) → slot slots from ≡ Some e → slot slots to ≡ None → to ≢ from → to < length slots → StandOnce slots
+pub map_of-moved : (slots : List (Option Entry)) (from to : ℕ) (e : Entry) → slot slots from ≡ Some e → slot slots to ≡ None → to ≢ from
+    → to < length slots → StandOnce slots
     → map_of (moved slots from to) ≡ map_of slots
 map_of-moved slots from to e at none ne h once = same_map nat_list_cmp_total (slice_cmp-IsAntisymmetric nat_cmp-IsAntisymmetric) _ _ (λ q.
     get-map_of (moved slots from to) q ∙ ap (found q) (moved_is slots from to e at ne)
-    ∙ found-fill q e.0 e.1 (set slots from None) to (get_or-set_other slots from to None None ne ∙ none) (omega (arith, length-set slots from None)) (absent-empty slots from e once at)
+    ∙ found-fill q e.0 e.1 (set slots from None) to (get_or-set_other slots from to None None ne ∙ none) (omega (arith, length-set slots from None))
+    (absent-empty slots from e once at)
     ∙ ap (cond (same_key q e.0) (Some e.1)) (found-empty q e slots from at once)
     ∙ moved_back q e slots from at once (one_or_two q e.0)
     ∙ sym (get-map_of slots q))
 
-pub once-moved : (slots : List (Option Entry)) (from to : ℕ) (e : Entry) → slot slots from ≡ Some e → to ≢ from → StandOnce slots → StandOnce (moved slots from to)
+pub once-moved : (slots : List (Option Entry)) (from to : ℕ) (e : Entry) → slot slots from ≡ Some e → to ≢ from → StandOnce slots
+    → StandOnce (moved slots from to)
 once-moved slots from to e at ne once =
-    subst StandOnce (sym (moved_is slots from to e at ne)) (once-fill (set slots from None) to e (once-empty slots from once) (absent-empty slots from e once at))
+    subst StandOnce (sym (moved_is slots from to e at ne)) (once-fill (set slots from None) to e (once-empty slots from once)
+    (absent-empty slots from e once at))

@@ -1,5 +1,6 @@
 -- How keys stand in the slots: what a search finds, and that each key is still met after a slot is filled or emptied.
-use Rattle.std.proofs.Common.{◌≡◌, ◌≢◌, ◌⊎◌, inl, inr, ℕ, zero, suc, ◌+◌, ◌≤◌, ◌<◌, List, [], ◌∷◌, length, set, Option, Some, None, IsSome, refl, sym, ◌∙◌, ap, subst, arith}
+use Rattle.std.proofs.Common.{◌≡◌, ◌≢◌, ◌⊎◌, inl, inr, ℕ, zero, suc, ◌+◌, ◌≤◌, ◌<◌, List, [], ◌∷◌, length, set, Option, Some, None, IsSome, refl, sym}
+use Rattle.std.proofs.Common.{◌∙◌, ap, subst, arith}
 use Rattle.std.specs.Option.{is_some}
 use Rattle.std.proofs.lemmas.List.{get_or-set_same, get_or-set_other, length-set}
 use Rattle.std.proofs.lemmas.Bool.{cases_eq, cases_lt}
@@ -33,7 +34,8 @@ pub end_is : (key : List ℕ) (o : Option Entry) (e : Entry) → o ≡ Some e �
 end_is key o e at h = subst (IsEnd key) at h
 
 -- where a search ends at an empty slot, the key stands nowhere
-pub absent_at_empty : (homes : Homes) (slots : List (Option Entry)) (key : List ℕ) (at : ℕ) → AreMet homes slots → EndsAt slots key (home_of homes key) at → slot slots at ≡ None → IsAbsent key slots
+pub absent_at_empty : (homes : Homes) (slots : List (Option Entry)) (key : List ℕ) (at : ℕ) → AreMet homes slots
+    → EndsAt slots key (home_of homes key) at → slot slots at ≡ None → IsAbsent key slots
 absent_at_empty homes slots key at met ends none i e here same =
     let m = met i e here in
     let from : home_of homes key ≤ i = subst (λ k. home_of homes k ≤ i) same m.home in
@@ -54,7 +56,8 @@ pub empty_if_absent : (slots : List (Option Entry)) (key : List ℕ) (home at : 
 empty_if_absent slots key home at ends new = empty_else (slot slots at) (λ e here. new at e here (end_is key _ e here ends.end))
 
 -- what the map has at the key
-pub found_at_end : (homes : Homes) (slots : List (Option Entry)) (key : List ℕ) (at : ℕ) (v : ℕ) (k : List ℕ) → StandOnce slots → EndsAt slots key (home_of homes key) at → slot slots at ≡ Some (k, v) → found key slots ≡ Some v
+pub found_at_end : (homes : Homes) (slots : List (Option Entry)) (key : List ℕ) (at : ℕ) (v : ℕ) (k : List ℕ) → StandOnce slots
+    → EndsAt slots key (home_of homes key) at → slot slots at ≡ Some (k, v) → found key slots ≡ Some v
 found_at_end homes slots key at v k once ends here = ap (λ q. found q slots) (sym (end_is key _ (k, v) here ends.end)) ∙ found_at slots at (k, v) once here
 
 pub full_before : (slots : List (Option Entry)) (key : List ℕ) (home at : ℕ) → EndsAt slots key home at → (j : ℕ) → home ≤ j → j < at → IsSome (slot slots j)
@@ -69,7 +72,8 @@ full_filled (x ∷ s) zero (suc j) d h full = full
 full_filled (x ∷ s) (suc at) zero d h full = full
 full_filled (x ∷ s) (suc at) (suc j) d h full = full_filled s at j d (omega arith) full
 
-pub met-fill : (homes : Homes) (slots : List (Option Entry)) (d : Entry) (at : ℕ) → at < length slots → home_of homes d.0 ≤ at → ((j : ℕ) → home_of homes d.0 ≤ j → j < at → IsSome (slot slots j))
+pub met-fill : (homes : Homes) (slots : List (Option Entry)) (d : Entry) (at : ℕ) → at < length slots → home_of homes d.0 ≤ at
+    → ((j : ℕ) → home_of homes d.0 ≤ j → j < at → IsSome (slot slots j))
     → AreMet homes slots → AreMet homes (set slots at (Some d))
 met-fill homes slots d at within from full met i e here = elim (slot-filled slots at i d e here) [
   | inl r ↦ record {
@@ -84,7 +88,8 @@ met-fill homes slots d at within from full met i e here = elim (slot-filled slot
 
 -- ---- a slot is emptied, and its gap closed
 
-pub gap-start : (homes : Homes) (slots : List (Option Entry)) (at : ℕ) → at < length slots → AreMet homes slots → StandOnce slots → HasGap homes (set slots at None) at (at + 1)
+pub gap-start : (homes : Homes) (slots : List (Option Entry)) (at : ℕ) → at < length slots → AreMet homes slots → StandOnce slots
+    → HasGap homes (set slots at None) at (at + 1)
 gap-start homes slots at within met once = record {
   empty = get_or-set_same slots at None None within;
   home = λ i e here. (met i e (slot-emptied slots at i e here).1).home;
@@ -95,14 +100,16 @@ gap-start homes slots at within met once = record {
   once = once-empty slots at once;
 }
 
-stays : (homes : Homes) (slots : List (Option Entry)) (gap at i j : ℕ) (e f : Entry) → slot slots at ≡ Some e → slot slots i ≡ Some f → i ≡ at → j ≡ gap → gap < home_of homes e.0 → home_of homes f.0 ≤ j → ⊥
+stays : (homes : Homes) (slots : List (Option Entry)) (gap at i j : ℕ) (e f : Entry) → slot slots at ≡ Some e → slot slots i ≡ Some f → i ≡ at
+    → j ≡ gap → gap < home_of homes e.0 → home_of homes f.0 ≤ j → ⊥
 stays homes slots gap at i j e f here there p q behind a =
     let same : e ≡ f = same_entry e f (sym here ∙ ap (slot slots) (sym p) ∙ there) in
     let a' : home_of homes e.0 ≤ j = subst (λ (x : Entry). home_of homes x.0 ≤ j) (sym same) a in
     absurd (omega arith)
 
 -- what stands at `at` has its home behind the gap, and stays
-pub gap-stay : (homes : Homes) (slots : List (Option Entry)) (gap at : ℕ) (e : Entry) → HasGap homes slots gap at → slot slots at ≡ Some e → gap < home_of homes e.0 → HasGap homes slots gap (at + 1)
+pub gap-stay : (homes : Homes) (slots : List (Option Entry)) (gap at : ℕ) (e : Entry) → HasGap homes slots gap at → slot slots at ≡ Some e
+    → gap < home_of homes e.0 → HasGap homes slots gap (at + 1)
 gap-stay homes slots gap at e g here behind = record {
   empty = g.empty;
   home = g.home;
@@ -116,14 +123,18 @@ gap-stay homes slots gap at e g here behind = record {
   once = g.once;
 }
 
-full_moved : (slots : List (Option Entry)) (from to j : ℕ) (e : Entry) → slot slots from ≡ Some e → to ≢ from → to < length slots → j ≢ from → IsSome (slot slots j) → IsSome (slot (moved slots from to) j)
+full_moved : (slots : List (Option Entry)) (from to j : ℕ) (e : Entry) → slot slots from ≡ Some e → to ≢ from → to < length slots → j ≢ from
+    → IsSome (slot slots j) → IsSome (slot (moved slots from to) j)
 full_moved slots from to j e here ne within other full =
     subst (λ s. IsSome (slot s j)) (sym (moved_is slots from to e here ne))
-    (full_filled (set slots from None) to j e (omega (arith, length-set slots from None)) (subst IsSome (sym (get_or-set_other slots from j None None other)) full))
+    (full_filled (set slots from None) to j e (omega (arith, length-set slots from None)) (subst IsSome
+    (sym (get_or-set_other slots from j None None other)) full))
 
-full_at_gap : (slots : List (Option Entry)) (from to : ℕ) (e : Entry) → slot slots from ≡ Some e → to ≢ from → to < length slots → IsSome (slot (moved slots from to) to)
+full_at_gap : (slots : List (Option Entry)) (from to : ℕ) (e : Entry) → slot slots from ≡ Some e → to ≢ from → to < length slots
+    → IsSome (slot (moved slots from to) to)
 full_at_gap slots from to e here ne within =
-    some_is _ e (ap (λ s. slot s to) (moved_is slots from to e here ne) ∙ get_or-set_same (set slots from None) to (Some e) None (omega (arith, length-set slots from None)))
+    some_is _ e (ap (λ s. slot s to) (moved_is slots from to e here ne) ∙ get_or-set_same (set slots from None) to (Some e) None
+    (omega (arith, length-set slots from None)))
 
 -- a full slot after the move: the one that was moved, or another as it was
 moved_slot : (slots : List (Option Entry)) (from to i : ℕ) (e f : Entry) → slot slots from ≡ Some e → to ≢ from → slot (moved slots from to) i ≡ Some f
@@ -134,7 +145,8 @@ moved_slot slots from to i e f here ne there =
       | inr r ↦ inr (slot-emptied slots from i f r.1).1
     ]
 
-full_below : (homes : Homes) (slots : List (Option Entry)) (gap at : ℕ) (e : Entry) → HasGap homes slots gap at → slot slots at ≡ Some e → gap < at → at < length slots
+full_below : (homes : Homes) (slots : List (Option Entry)) (gap at : ℕ) (e : Entry) → HasGap homes slots gap at → slot slots at ≡ Some e → gap < at
+    → at < length slots
     → (i j : ℕ) (f : Entry) → i ≡ gap → e ≡ f → home_of homes f.0 ≤ j → j < i → IsSome (slot (moved slots at gap) j)
 full_below homes slots gap at e g here order within i j f p same a b =
     let ne : gap ≢ at = λ p. absurd (omega arith) in
@@ -143,7 +155,8 @@ full_below homes slots gap at e g here order within i j f p same a b =
       | inr r ↦ absurd (omega arith)
     ]
 
-full_else : (homes : Homes) (slots : List (Option Entry)) (gap at : ℕ) (e : Entry) → HasGap homes slots gap at → slot slots at ≡ Some e → gap < at → at < length slots
+full_else : (homes : Homes) (slots : List (Option Entry)) (gap at : ℕ) (e : Entry) → HasGap homes slots gap at → slot slots at ≡ Some e → gap < at
+    → at < length slots
     → (i j : ℕ) (f : Entry) → slot slots i ≡ Some f → home_of homes f.0 ≤ j → j < i → IsSome (slot (moved slots at gap) j) ⊎ ((j ≡ at) × (at + 1 ≤ i))
 full_else homes slots gap at e g here order within i j f there a b =
     let ne : gap ≢ at = λ p. absurd (omega arith) in
@@ -156,7 +169,8 @@ full_else homes slots gap at e g here order within i j f there a b =
     ]
 
 -- what stands at `at` has its home at the gap or before, and moves into it: the gap is now at `at`
-pub gap-move : (homes : Homes) (slots : List (Option Entry)) (gap at : ℕ) (e : Entry) → HasGap homes slots gap at → slot slots at ≡ Some e → gap < at → at < length slots → home_of homes e.0 ≤ gap
+pub gap-move : (homes : Homes) (slots : List (Option Entry)) (gap at : ℕ) (e : Entry) → HasGap homes slots gap at → slot slots at ≡ Some e → gap < at
+    → at < length slots → home_of homes e.0 ≤ gap
     → HasGap homes (moved slots at gap) at (at + 1)
 gap-move homes slots gap at e g here order within before =
     let ne : gap ≢ at = λ p. absurd (omega arith) in

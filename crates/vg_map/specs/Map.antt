@@ -30,4 +30,5 @@ empty_map capacity key_len = record { indices = empty; capacity = capacity; key_
 -- a map is stored as the tuple of its fields
 abbrev pub map_code : Coded FixedMap
 map_code =
-    code_by (Indices × (ℕ × ℕ)) (coded× (code (coded_list coded_ℕ) coded_ℕ) (coded× coded_ℕ coded_ℕ)) (λ m. (m.indices, (m.capacity, m.key_len))) (λ p. record { indices = p.0; capacity = p.1.0; key_len = p.1.1 }) (λ _. refl)
+    code_by (Indices × (ℕ × ℕ)) (coded× (code (coded_list coded_ℕ) coded_ℕ) (coded× coded_ℕ coded_ℕ)) (λ m. (m.indices, (m.capacity, m.key_len)))
+    (λ p. record { indices = p.0; capacity = p.1.0; key_len = p.1.1 }) (λ _. refl)

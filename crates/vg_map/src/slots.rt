@@ -19,7 +19,8 @@ fn key_at(keys: &[u8], key_len: usize, at: usize) -> &[u8]
 fn has_other(keys: &[u8], indices: &[Option<u32>], key: &[u8], at: usize) -> bool
     requires bytes { length keys.now ≡ length indices.now * length key.now }
     requires within { at < length indices.now }
-    ensures { MatchBool result (IsOther key.now (slot (slots_of (length key.now) keys.now indices.now) at)) (IsEnd key.now (slot (slots_of (length key.now) keys.now indices.now) at)) }
+    ensures { MatchBool result (IsOther key.now (slot (slots_of (length key.now) keys.now indices.now) at))
+        (IsEnd key.now (slot (slots_of (length key.now) keys.now indices.now) at)) }
 {
     indices[at].is_some() && key_at(keys, key.len(), at) != key
 }
@@ -52,7 +53,8 @@ fn shift(keys: &mut [u8], indices: &mut [Option<u32>], key_len: usize, from: usi
     requires order { to < from }
     requires within { from < length indices.old }
     requires full { IsSome (get_or indices.old from None) }
-    ensures slots { slots_of key_len keys.new indices.new ≡ set (set (slots_of key_len keys.old indices.old) to (slot (slots_of key_len keys.old indices.old) from)) from None }
+    ensures slots { slots_of key_len keys.new indices.new ≡ set (set (slots_of key_len keys.old indices.old) to
+        (slot (slots_of key_len keys.old indices.old) from)) from None }
     ensures indices { indices.new ≡ set (set indices.old to (get_or indices.old from None)) from None }
     ensures bytes { length keys.new ≡ length keys.old }
 {

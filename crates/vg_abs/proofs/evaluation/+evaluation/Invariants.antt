@@ -22,8 +22,10 @@ decreases-part l = l.before * 10 + 1
 
 abbrev pub invariant-chain-loop-operation : goal.invariant-chain-loop-operation
 invariant-chain-loop-operation l =
-    fold (λ left operation. expressions.operate operation.operator left (values_before l.code l.number operation.operand (scope_of l.scope))) l.left (drop l.operation-index l.operations)
-    ≡ fold (λ left operation. expressions.operate operation.operator left (values_before l.code l.number operation.operand (scope_of l.scope))) l.fn.first l.operations
+    fold (λ left operation. expressions.operate operation.operator left (values_before l.code l.number operation.operand (scope_of l.scope))) l.left
+    (drop l.operation-index l.operations)
+    ≡ fold (λ left operation. expressions.operate operation.operator left (values_before l.code l.number operation.operand (scope_of l.scope)))
+    l.fn.first l.operations
 
 abbrev pub invariant-values-loop-argument : goal.invariant-values-loop-argument
 invariant-values-loop-argument l = record {

@@ -6,4 +6,5 @@ use Rattle.vg_cmean.proofs.calls.parameters.Given as goal
 abbrev pub invariant-loop-k : goal.invariant-loop-k
 invariant-loop-k l =
     IsSame l.initial.world l.world
-    × (set_below l.unit l.params l.arguments (length l.arguments - l.k) (seen l.world) ≡ set_below l.unit l.params l.arguments (length l.arguments) (seen l.initial.world))
+    × (set_below l.unit l.params l.arguments (length l.arguments - l.k) (seen l.world) ≡ set_below l.unit l.params l.arguments (length l.arguments)
+    (seen l.initial.world))

@@ -30,7 +30,8 @@ expression-link-requires t c =
 
 pub expression-returns-in_err-datum-2-clause-value : goal.expression-returns-in_err-datum-2-clause-value
 expression-returns-in_err-datum-2-clause-value t c =
-    let wrong = step_wrong _ _ _ _ _ _ _ _ _ _ _ _ c.loop-link-test.true c.above-at.ensures c.loop-link.invariant.2 c.in_err-datum-2.ensures.value in search rules
+    let wrong = step_wrong _ _ _ _ _ _ _ _ _ _ _ _ c.loop-link-test.true c.above-at.ensures c.loop-link.invariant.2 c.in_err-datum-2.ensures.value in
+    search rules
 
 pub expression-loop-link-preserved : goal.expression-loop-link-preserved
 expression-loop-link-preserved t c = (
@@ -47,7 +48,8 @@ branch-loop-branch-preserved t c =
     let within = c.loop-branch.invariant.1 in (
       search rules,
       omega arith,
-      branch_next _ _ _ _ _ _ _ _ _ _ c.in-Some.ensures (sym c.is_true.ensures ∙ c.if-is_true.false) c.tick.ensures.value c.in_ok-condition.ensures.value c.tick-in-loop-branch.ensures.value
+      branch_next _ _ _ _ _ _ _ _ _ _ c.in-Some.ensures (sym c.is_true.ensures ∙ c.if-is_true.false) c.tick.ensures.value
+          c.in_ok-condition.ensures.value c.tick-in-loop-branch.ensures.value
           ∙ c.loop-branch.invariant.2,
     )
 
@@ -60,7 +62,8 @@ given_waiting-loop-k-preserved t c =
     let room : c.loop-k.k < length c.loop-k.evaluated = omega arith in (
       search rules,
       search rules,
-      waits c.args.env.now.unit.now (meaning_below c.args.env.now.unit.now c.args.n) c.args.arguments.now c.args.params.now c.loop-k.evaluated c.loop-k.k c.in_ok-evaluated.field-0
+      waits c.args.env.now.unit.now (meaning_below c.args.env.now.unit.now c.args.n) c.args.arguments.now c.args.params.now c.loop-k.evaluated
+          c.loop-k.k c.in_ok-evaluated.field-0
           (seen c.loop-k.world) (seen c.part_value.new.world) _ inside paired room c.in_ok-evaluated.ensures.value c.loop-k.invariant.2,
     )
 
@@ -68,7 +71,8 @@ pub given_waiting-returns-in_err-evaluated-clause-value : goal.given_waiting-ret
 given_waiting-returns-in_err-evaluated-clause-value t c =
     let inside : c.loop-k.k < length c.args.arguments.now = omega (arith, c.requires.room) in
     let paired : c.loop-k.k < length c.args.params.now = omega (arith, c.requires.room) in
-    let wrong = waits_wrong c.args.env.now.unit.now (meaning_below c.args.env.now.unit.now c.args.n) c.args.arguments.now c.args.params.now c.loop-k.evaluated c.loop-k.k _ _
+    let wrong = waits_wrong c.args.env.now.unit.now (meaning_below c.args.env.now.unit.now c.args.n) c.args.arguments.now c.args.params.now
+    c.loop-k.evaluated c.loop-k.k _ _
     (seen c.loop-k.world) (seen c.part_value.new.world) _ inside paired c.in_err-evaluated.ensures.value c.loop-k.invariant.2 in search rules
 
 pub given_waiting-returns-clause-value : goal.given_waiting-returns-clause-value
@@ -76,5 +80,6 @@ given_waiting-returns-clause-value t c =
     let all : min (length c.args.arguments.now) (length c.args.params.now) ≤ c.loop-k.k = omega (arith, c.requires.room) in
     let same : c.loop-k.k ≡ length c.loop-k.evaluated = omega arith in
     c.parameters.ensures.value
-    ∙ all_wait c.args.env.now.unit.now (meaning_below c.args.env.now.unit.now c.args.n) c.args.arguments.now c.args.params.now c.loop-k.evaluated c.loop-k.k _ c.loop-k.world.memory.now c.tick.new.self
+    ∙ all_wait c.args.env.now.unit.now (meaning_below c.args.env.now.unit.now c.args.n) c.args.arguments.now c.args.params.now c.loop-k.evaluated
+    c.loop-k.k _ c.loop-k.world.memory.now c.tick.new.self
     c.loop-k.world.frame.now _ all same c.tick.ensures.value c.loop-k.invariant.2

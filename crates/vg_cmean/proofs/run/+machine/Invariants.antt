@@ -84,18 +84,21 @@ decreases-part_value l = 2 ^ 33 * (3 * l.n) + 1
 
 abbrev pub invariant-run_all-loop-p : goal.invariant-run_all-loop-p
 invariant-run_all-loop-p l =
-    IsSame l.initial.world l.world × (meaning.run_all (meaning_below l.env.unit.now l.n) (drop l.p-index l.list) (seen l.world) ≡ meaning.run_all (meaning_below l.env.unit.now l.n) l.list (seen l.initial.world))
+    IsSame l.initial.world l.world × (meaning.run_all (meaning_below l.env.unit.now l.n) (drop l.p-index l.list) (seen l.world) ≡ meaning.run_all
+    (meaning_below l.env.unit.now l.n) l.list (seen l.initial.world))
 
 abbrev pub invariant-turns-loop-turn : goal.invariant-turns-loop-turn
 invariant-turns-loop-turn l =
-    IsSame l.initial.world l.world × (meaning.turns l.env.unit.now (meaning.most_turns - l._turn) l.n (meaning_below l.env.unit.now l.n l.body) l.counter l.bound l.step (seen l.world)
+    IsSame l.initial.world l.world × (meaning.turns l.env.unit.now (meaning.most_turns - l._turn) l.n (meaning_below l.env.unit.now l.n l.body)
+    l.counter l.bound l.step (seen l.world)
     ≡ meaning.turns l.env.unit.now meaning.most_turns l.n (meaning_below l.env.unit.now l.n l.body) l.fn.first l.bound l.step (seen l.initial.world))
 
 abbrev pub invariant-expression-loop-link : goal.invariant-expression-loop-link
 invariant-expression-loop-link l =
     IsSame l.fn.world l.world
     × IsChain l.env.unit.now l.env.above.now l.n (l.links - l._link) l.at
-    × (gives_above l.env.unit.now l.env.above.now (l.links - l._link) l.at l.datum (seen l.world) ≡ (meaning.meaning l.env.unit.now l.n).gives (seen l.fn.world))
+    × (gives_above l.env.unit.now l.env.above.now (l.links - l._link) l.at l.datum (seen l.world) ≡ (meaning.meaning l.env.unit.now l.n).gives
+    (seen l.fn.world))
 
 abbrev pub invariant-branch-loop-branch : goal.invariant-branch-loop-branch
 invariant-branch-loop-branch l =

@@ -15,12 +15,17 @@ loop-at-preserved c =
     c.of.ensures.home ∙ ap (home_of c.args.homes) c.key_at.ensures in
     elim c.if-of-gap.branch [
       | then-of-gap w ↦
-          let slots_are : slots_of c.args.key_len c.if-of-gap.keys c.if-of-gap.indices ≡ moved (slots_of c.args.key_len c.loop-at.keys c.loop-at.indices) c.loop-at.at c.loop-at.gap = cc in
-          let next = closing-move c.args.homes c.args.key_len c.args.keys.now c.args.indices.now c.loop-at.keys c.loop-at.indices c.loop-at.gap c.loop-at.at full.0 c.if-of-gap.keys c.if-of-gap.indices
-          c.loop-at.invariant c.loop-at-test.true full.1 (omega (arith, at_home)) slots_are (w.indices-is ∙ w.shift.ensures.indices) (ap length w.keys-is ∙ w.shift.ensures.bytes) in
-          subst (λ gap. Closing c.args.homes c.args.key_len c.args.keys.now c.args.indices.now c.if-of-gap.keys c.if-of-gap.indices gap (c.loop-at.at + 1)) (sym w.gap-is) next
+          let slots_are : slots_of c.args.key_len c.if-of-gap.keys c.if-of-gap.indices ≡ moved
+          (slots_of c.args.key_len c.loop-at.keys c.loop-at.indices) c.loop-at.at c.loop-at.gap = cc in
+          let next = closing-move c.args.homes c.args.key_len c.args.keys.now c.args.indices.now c.loop-at.keys c.loop-at.indices c.loop-at.gap
+          c.loop-at.at full.0 c.if-of-gap.keys c.if-of-gap.indices
+          c.loop-at.invariant c.loop-at-test.true full.1 (omega (arith, at_home)) slots_are (w.indices-is ∙ w.shift.ensures.indices)
+          (ap length w.keys-is ∙ w.shift.ensures.bytes) in
+          subst (λ gap. Closing c.args.homes c.args.key_len c.args.keys.now c.args.indices.now c.if-of-gap.keys c.if-of-gap.indices gap
+          (c.loop-at.at + 1)) (sym w.gap-is) next
       | else-of-gap w ↦
-          rw (w.keys-is, w.indices-is, w.gap-is) (closing-stay c.args.homes c.args.key_len c.args.keys.now c.args.indices.now c.loop-at.keys c.loop-at.indices c.loop-at.gap c.loop-at.at full.0 c.loop-at.invariant full.1 (omega (arith, at_home)))
+          rw (w.keys-is, w.indices-is, w.gap-is) (closing-stay c.args.homes c.args.key_len c.args.keys.now c.args.indices.now c.loop-at.keys
+          c.loop-at.indices c.loop-at.gap c.loop-at.at full.0 c.loop-at.invariant full.1 (omega (arith, at_home)))
     ]
 
 pub returns-else-is_some-clause-closed : goal.returns-else-is_some-clause-closed

@@ -10,4 +10,5 @@ returns-then-is_some c =
     (c.ne.ensures ∙ ap (λ own. not (bytes_eq own c.args.key.now)) c.key_at.ensures)
 
 pub returns-else-is_some : goal.returns-else-is_some
-returns-else-is_some c = told_by_mark (length c.args.key.now) c.args.keys.now c.args.indices.now c.args.key.now c.args.at c.is_some.result c.is_some.ensures c.if-is_some.false
+returns-else-is_some c = told_by_mark (length c.args.key.now) c.args.keys.now c.args.indices.now c.args.key.now c.args.at c.is_some.result
+    c.is_some.ensures c.if-is_some.false

@@ -1,0 +1,4 @@
+pub mod FrameWords
+pub mod Values
+pub mod Step
+pub mod Worked

@@ -1,0 +1,10 @@
+//! What a specification's step means, as definitions, with worked steps. The step itself isn't built yet.
+#![tactic(auto)]
+
+ghost use Rattle.vg_smean.specs.Worked.{WorkedSteps};
+
+/// Small steps, each with what comes of it by the definitions, worked by hand. It does nothing: its contract is what it says.
+#[tactic(auto, using(crate::proofs::Worked::worked_steps))]
+pub fn steps_are_as_worked()
+    ensures { WorkedSteps }
+{}
