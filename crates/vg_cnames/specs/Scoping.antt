@@ -1,6 +1,7 @@
--- The scope of a declaration (C11 6.2.1), as a part of the tree, without an order of looking. A block's declarations, a function's parameters and the
--- counter of a loop end with the block, function or loop; the declarations of a file hold to its end. A tag's scope begins behind the tag, any other
--- name's behind its declarator (6.2.1 p7): so a variable's has its initializer, a function's has its parameters and its body.
+-- The scope of a declaration (C11 6.2.1), as a part of the tree, without an order of looking. A block's declarations, a
+-- function's parameters and the counter of a loop end with the block, function or loop; the declarations of a file hold to
+-- its end. A tag's scope begins behind the tag, any other name's behind its declarator (6.2.1 p7): so a variable's has its
+-- initializer, a function's has its parameters and its body.
 use Rattle.std.specs.Prelude.{◌≡◌, ℕ, ◌<◌, List, [], ◌∷◌, ◌++◌, Contains, true, option_to_list}
 use Rattle.vg_core.specs.Syntax.{Syntax, listed, parts_of}
 use Rattle.vg_core.specs.declared.tree.Kind.{Kind}
@@ -15,8 +16,8 @@ rest_of tree (nodes.Declare base pointer name count value) = option_to_list valu
 rest_of tree (nodes.For of counter start tested bound stepped step body) = start ∷ bound ∷ option_to_list step ++ body ∷ []
 rest_of tree kind = []
 
--- parts of which each lies in the scopes of the declarations before it: the items of a file, the fields of a struct, the parameters of a function and
--- its body, and the statements of a block
+-- parts of which each lies in the scopes of the declarations before it: the items of a file, the fields of a struct, the
+-- parameters of a function and its body, and the statements of a block
 abbrev pub row_of : Syntax → Kind → List ℕ
 row_of tree (nodes.Unit items) = listed tree.items items
 row_of tree (nodes.Struct tag fields attribute) = listed tree.items fields
@@ -28,8 +29,8 @@ row_of tree kind = []
 pub data Begins (tree : Syntax) (d n : ℕ) : Type 0 where
   in_it : Contains (rest_of tree (kind_at tree d)) n → Begins tree d n
   -- parts are numbered in the order of the text
-  after : (whole : ℕ) → declares (kind_at tree d) ≡ true → Contains (row_of tree (kind_at tree whole)) d → Contains (row_of tree (kind_at tree whole)) n → d < n →
-      Begins tree d n
+  after : (whole : ℕ) → declares (kind_at tree d) ≡ true → Contains (row_of tree (kind_at tree whole)) d →
+      Contains (row_of tree (kind_at tree whole)) n → d < n → Begins tree d n
 
 -- the parts of a node that lie where it lies. A file lies in no scope
 abbrev pub within : Syntax → Kind → List ℕ

@@ -1,5 +1,5 @@
--- What a name names (C11 6.2.1 p4, 6.2.3): of the declarations in whose scopes it stands, with its spelling and in its name space, the innermost. The
--- others are hidden.
+-- What a name names (C11 6.2.1 p4, 6.2.3): of the declarations in whose scopes it stands, with its spelling and in its
+-- name space, the innermost. The others are hidden.
 use Rattle.std.specs.Prelude.{◌≡◌, ℕ, List, true, Some}
 use Rattle.vg_core.specs.Syntax.{Syntax, IsOrdered, IsUsedOnce}
 use Rattle.vg_cscope.specs.Scopes.{kind_at, standings_of}
@@ -11,7 +11,8 @@ use Rattle.vg_cnames.specs.Scoping.{IsInScope}
 abbrev pub IsWanted : List ℕ → Syntax → Wanted → ℕ → Type 0
 IsWanted text tree what d = is_wanted text what (kind_at tree d) ≡ true
 
--- what is looked for at a node is this declaration: the node lies in its scope, and in that of no other that stands in that scope itself
+-- what is looked for at a node is this declaration: the node lies in its scope, and in that of no other that stands in
+-- that scope itself
 pub record IsVisible (text : List ℕ) (tree : Syntax) (what : Wanted) (n d : ℕ) : Type 0 where
   pub wanted : IsWanted text tree what d
   pub in_scope : IsInScope tree d n
@@ -19,13 +20,13 @@ pub record IsVisible (text : List ℕ) (tree : Syntax) (what : Wanted) (n d : �
 
 -- a name names one declaration or none
 abbrev pub NamesAreOne : Type 0
-NamesAreOne = (text : List ℕ) (tree : Syntax) (what : Wanted) (n d e : ℕ) → IsOrdered tree → IsUsedOnce tree → IsVisible text tree what n d →
-    IsVisible text tree what n e → d ≡ e
+NamesAreOne = (text : List ℕ) (tree : Syntax) (what : Wanted) (n d e : ℕ) → IsOrdered tree → IsUsedOnce tree →
+    IsVisible text tree what n d → IsVisible text tree what n e → d ≡ e
 
 -- it is found
 abbrev pub VisibleAreFound : Type 0
-VisibleAreFound = (text : List ℕ) (tree : Syntax) (what : Wanted) (n d : ℕ) → IsOrdered tree → IsUsedOnce tree → IsVisible text tree what n d →
-    found (scoped text tree (standings_of tree)) what n ≡ Some d
+VisibleAreFound = (text : List ℕ) (tree : Syntax) (what : Wanted) (n d : ℕ) → IsOrdered tree → IsUsedOnce tree →
+    IsVisible text tree what n d → found (scoped text tree (standings_of tree)) what n ≡ Some d
 
 -- and nothing else is
 abbrev pub FoundAreVisible : Type 0
