@@ -3,3 +3,4 @@ pub mod Numbers
 pub mod Named
 pub mod Given
 pub mod Lines
+pub mod Reading

@@ -1,6 +1,6 @@
 -- The lines of a configuration's text: `NAME NUMBER` gives a declared number, `route TABLE A.B.C.D/LEN NUMBER` adds a route, and
 -- `cell VECTOR INDEX FIELD NUMBER` fills a field of a cell. Empty lines and those that begin with `#` are skipped.
-use Rattle.std.specs.Prelude.{ℕ, ◌+◌, ◌^◌, ◌==◌, nat_le, nat_lt, ◌&&◌, Bool, true, List, [], ◌∷◌, ◌++◌, codes, slice_get, slice_set, Option, Some, None, Result, Ok, Err, if◌then◌else◌}
+use Rattle.std.specs.Prelude.{ℕ, ◌+◌, ◌^◌, ◌==◌, nat_le, nat_lt, ◌&&◌, Bool, true, List, [], ◌∷◌, ◌++◌, length, codes, slice_get, slice_set, Option, Some, None, Result, Ok, Err, if◌then◌else◌}
 use Rattle.std.specs.Str.{bytes_eq}
 use Rattle.vg_stree.specs.declared.shape.Number.{Number}
 use Rattle.vg_stree.specs.declared.shape.Field.{Field}
@@ -53,11 +53,20 @@ prefix_by _ = None
 abbrev pub prefix_in : List ℕ → Option Prefix
 prefix_in word = prefix_by (pieces 47 word)
 
--- a route is added to a table, by the table's kind: its value lies in the table's range
-abbrev pub add_in : ℕ → Gathered → ℕ → ℕ → ObjectKind → Prefix → ℕ → Answer
-add_in line given table at (kinds.Table low high) prefix value =
-    if is_within low high value then Ok (record given { routes = given.routes ++ record { table = table; address = prefix.address; len = prefix.len; value = value } ∷ [] })
+-- how many routes a configuration may have
+abbrev pub most_routes : ℕ
+most_routes = 65536
+
+-- a route is added to a table with a range, where there is room: its value lies in the range
+abbrev pub add_within : ℕ → Gathered → ℕ → ℕ → ℕ → ℕ → Prefix → ℕ → Answer
+add_within line given table at low high prefix value =
+    if nat_le most_routes (length given.routes) then Err (faults.Line line)
+    else if is_within low high value then Ok (record given { routes = given.routes ++ record { table = table; address = prefix.address; len = prefix.len; value = value } ∷ [] })
     else Err (faults.Range at)
+
+-- a route is added to a table, by the table's kind
+abbrev pub add_in : ℕ → Gathered → ℕ → ℕ → ObjectKind → Prefix → ℕ → Answer
+add_in line given table at (kinds.Table low high) prefix value = add_within line given table at low high prefix value
 add_in line given table at _ prefix value = Err (faults.Line line)
 
 abbrev pub add : ℕ → Gathered → ℕ → Option Object → Prefix → ℕ → Answer

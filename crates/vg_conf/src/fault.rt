@@ -9,7 +9,7 @@ use vg_parts::Memory;
 /// Why a configuration is refused. A name is told by the place at which it is declared in the specification's text.
 #[derive(Clone, Copy, Debug, PartialEq, Eq, Error)]
 pub enum ConfFault {
-    /// A line, counted from 1, is of no form, has an unknown name or a number too large, or names a cell that isn't there.
+    /// A line, counted from 1, is of no form, has an unknown name or a number too large, names a cell that isn't there, or is the 65,537th route.
     #[error("a line of the configuration can't be read")]
     Line(u64),
     /// A declared number is given again.

@@ -1,4 +1,4 @@
-//! Configurations: what the lines of their texts give.
+//! Configurations: what their texts give, checked against the specification.
 #![tactic(auto)]
 
 mod fault;
@@ -7,6 +7,7 @@ mod lines;
 mod named;
 mod numbers;
 mod pieces;
+mod reading;
 #[cfg(test)]
 mod tests;
 
@@ -14,3 +15,4 @@ pub use fault::ConfFault;
 pub use given::{CellLine, Given};
 pub use lines::gathered;
 pub use numbers::{address_in, number_in};
+pub use reading::read_conf;

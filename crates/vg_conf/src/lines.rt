@@ -15,6 +15,9 @@ use std::alloc::Global;
 use vg_parts::Memory;
 use vg_stree::{FieldType, Number, Object, ObjectKind, Route, Spec};
 
+// How many routes a configuration may have.
+const MOST_ROUTES: usize = 65536;
+
 // Whether a value lies in a range.
 fn is_within(low: u64, high: u64, value: u64) -> bool
     ensures { result ≡ lines.is_within low high value }
@@ -141,7 +144,8 @@ fn as_number(place: usize) -> Result<u16, Memory>
     }
 }
 
-// `route TABLE A.B.C.D/LEN NUMBER`, by the table's number among the objects, the prefix and the value: that lies in the table's range.
+// `route TABLE A.B.C.D/LEN NUMBER`, by the table's number among the objects, the prefix and the value: that lies in the table's range, and there is
+// room for one more route.
 fn route_line(
     spec: &Spec,
     line: u64,
@@ -162,6 +166,9 @@ fn route_line(
     let ObjectKind::Table { low, high } = object.kind else {
         return Err(ConfFault::Line(line));
     };
+    if given.routes.len() >= MOST_ROUTES {
+        return Err(ConfFault::Line(line));
+    }
     if !is_within(u64::from(low), u64::from(high), value) {
         return Err(ConfFault::Range(object.at));
     }

@@ -3,8 +3,8 @@ use std::alloc::Global;
 use std::test::Fail;
 use vg_parts::Memory;
 use vg_stree::{
-    Code, Field, FieldType, Names, Number, Object, ObjectKind, Parts, Shape, Size, Spec, Struct,
-    Width,
+    Code, Field, FieldType, Names, Number, Object, ObjectKind, Operation, Operator, Parts, Rule,
+    SExpr, Shape, Size, Spec, Struct, Width,
 };
 
 const EMPTY: Parts = Parts { from: 0, count: 0 };
@@ -68,6 +68,90 @@ fn lines_of_each_form(rt: HostRuntime) -> Result<(), Fail> {
     let spec = made(rt.alloc())?;
     for (text, expected) in ROWS {
         let fault = gathered(rt.alloc(), &spec, text.as_bytes()).err();
+        assert_eq!(rt; fault, expected, "{text}");
+    }
+    Ok(())
+}
+
+// `NAME : u64 LOW .. HIGH`.
+fn number(at: u32, low: u64, high: u64) -> Number {
+    Number {
+        at,
+        of: Width::Bits64,
+        low,
+        high,
+    }
+}
+
+// What nat declares of its numbers, with its premise `start_port + capacity <= 65536`; and a vector of 2 cells of a byte `owner`, with the
+// rule `cell.owner < 4`.
+fn made_nat(alloc: Global) -> Result<Spec, Memory> {
+    let mut names = Names::new(alloc);
+    for (at, name) in [
+        (10, "start_port"),
+        (20, "capacity"),
+        (30, "owners"),
+        (40, "owner"),
+    ] {
+        names.add(alloc, at, name)?;
+    }
+    let mut code = Code::new(alloc);
+    let mut shape = Shape::new(alloc, 2);
+    shape.add_number(number(10, 1, 65535))?;
+    shape.add_number(number(20, 1, 65535))?;
+    let start = code.add_expression(SExpr::Config(0))?;
+    let capacity = code.add_expression(SExpr::Config(1))?;
+    let sum = chain(&mut code, start, Operator::Add, capacity)?;
+    let end = code.add_expression(SExpr::Number(65536))?;
+    shape.add_premise(chain(&mut code, sum, Operator::LessEqual, end)?)?;
+    let of = FieldType::Number(Width::Bits8);
+    shape.add_field(Field { at: 40, of })?;
+    let fields = Parts { from: 0, count: 1 };
+    shape.add_struct(Struct { at: 50, fields })?;
+    let length = Size::Count(2);
+    let kind = ObjectKind::Vector { cell: 0, length };
+    shape.add_object(Object { at: 30, kind })?;
+    let owner = code.add_expression(SExpr::CellField(0))?;
+    let four = code.add_expression(SExpr::Number(4))?;
+    let value = chain(&mut code, owner, Operator::Less, four)?;
+    shape.add_rule(Rule { vector: 0, value })?;
+    Spec::new(alloc, names, shape, code, EMPTY)
+}
+
+fn chain(code: &mut Code, first: u32, operator: Operator, operand: u32) -> Result<u32, Memory> {
+    let rest = code.add_operations(&[Operation { operator, operand }])?;
+    code.add_expression(SExpr::Chain { first, rest })
+}
+
+// Each fault of a whole text, in the order in which they come.
+const WHOLE: [(&str, Option<ConfFault>); 8] = [
+    ("start_port 1024\ncapacity 64512", None),
+    (
+        "start_port 1024\ncapacity 64513",
+        Some(ConfFault::Premise(1)),
+    ),
+    ("start_port 1024\ncapacity 0", Some(ConfFault::Range(20))),
+    ("capacity 1\ncapacity 1", Some(ConfFault::Twice(20))),
+    ("capacity 64513", Some(ConfFault::Absent(10))),
+    (
+        "start_port 9\ncapacity 65535\ncell owners 2 owner 4",
+        Some(ConfFault::Premise(1)),
+    ),
+    (
+        "start_port 9\ncapacity 9\ncell owners 1 owner 4\ncell owners 2 owner 0",
+        Some(ConfFault::Line(4)),
+    ),
+    (
+        "start_port 9\ncapacity 9\ncell owners 1 owner 4",
+        Some(ConfFault::Rule(1)),
+    ),
+];
+
+#[test]
+fn whole_texts(rt: HostRuntime) -> Result<(), Fail> {
+    let spec = made_nat(rt.alloc())?;
+    for (text, expected) in WHOLE {
+        let fault = read_conf(rt.alloc(), &spec, text.as_bytes()).err();
         assert_eq!(rt; fault, expected, "{text}");
     }
     Ok(())
