@@ -1,5 +1,6 @@
 -- Lists of numbers: what is in them, and how often.
-use Rattle.std.proofs.Common.{◌≡◌, ◌≢◌, ◌∙◌, ◌<◌, ◌≤◌, ◌+◌, ◌⊎◌, inl, inr, ℕ, zero, suc, cond, List, [], ◌∷◌, ◌++◌, length, get_or, set, slice_get, Some, refl, sym, ap, subst, arith, eq-eqb}
+use Rattle.std.proofs.Common.{◌≡◌, ◌≢◌, ◌∙◌, ◌<◌, ◌≤◌, ◌+◌, ◌⊎◌, inl, inr, ℕ, zero, suc, cond, List, [], ◌∷◌, ◌++◌, length, get_or, set, slice_get}
+use Rattle.std.proofs.Common.{Some, refl, sym, ap, subst, arith, eq-eqb}
 use Rattle.std.specs.Prelude.{flat_map, count_by, AllPairs, Contains, ◌==◌}
 use Rattle.std.proofs.lemmas.Bool.{cases_lt}
 use Rattle.std.proofs.lemmas.Bool.Decides.{eqb_tells}
@@ -81,7 +82,8 @@ module _ {X : Type 0} (f : X → List ℕ) (n : ℕ) where
   one_place (x ∷ xs) zero a e h = omega (arith, in_times n (f x) (subst (λ y. In n (f y)) (sym (same_Some x a e)) h), times-flat x xs)
   one_place (x ∷ xs) (suc i) a e h = omega (arith, one_place xs i a e h, times-flat x xs)
 
-  pub two_places : (xs : List X) (i j : ℕ) (a b : X) → i < j → slice_get xs i ≡ Some a → In n (f a) → slice_get xs j ≡ Some b → In n (f b) → 2 ≤ times n (flat_map f xs)
+  pub two_places : (xs : List X) (i j : ℕ) (a b : X) → i < j → slice_get xs i ≡ Some a → In n (f a) → slice_get xs j ≡ Some b → In n (f b)
+      → 2 ≤ times n (flat_map f xs)
   two_places xs i zero a b l e h g k = absurd (omega (arith, l))
   two_places [] zero (suc j) a b l e h g k = absurd (cc)
   two_places [] (suc i) (suc j) a b l e h g k = absurd (cc)

@@ -1,5 +1,6 @@
 -- The declaration that is found is the one that is visible.
-use Rattle.std.proofs.Common.{◌≡◌, ◌∙◌, ◌<◌, ◌≤◌, ◌⊎◌, inl, inr, ℕ, eqb, List, [], ◌∷◌, length, Bool, true, false, ◌||◌, if◌then◌else◌, Option, Some, None, refl, sym, ap, subst, arith}
+use Rattle.std.proofs.Common.{◌≡◌, ◌∙◌, ◌<◌, ◌≤◌, ◌⊎◌, inl, inr, ℕ, eqb, List, [], ◌∷◌, length, Bool, true, false, ◌||◌, if◌then◌else◌, Option, Some}
+use Rattle.std.proofs.Common.{None, refl, sym, ap, subst, arith}
 use Rattle.std.specs.Prelude.{Contains}
 use Rattle.std.specs.List.{IsDistinct, AllByRecursion, list_any}
 use Rattle.std.proofs.lemmas.Bool.{cases_Bool}
@@ -117,8 +118,11 @@ module _ (tree : Syntax) where
     first_found [] seen d e = absurd (cc)
     first_found (x ∷ xs) None d e = absurd (cc)
     first_found (x ∷ xs) (Some a) d e = elim (cases_Bool (wanted a)) [
-      | inl is ↦ subst (First (Some a)) (same_Some a d (sym (ap (λ (b : Bool). if b then Some a else looked_up (scoped text tree stood) what xs (seen_at stood a)) is) ∙ e)) (it a is)
-      | inr isnt ↦ skip a d isnt (first_found xs (seen_at stood a) d (sym (ap (λ (b : Bool). if b then Some a else looked_up (scoped text tree stood) what xs (seen_at stood a)) isnt) ∙ e))
+      | inl is ↦ subst (First (Some a))
+          (same_Some a d (sym (ap (λ (b : Bool). if b then Some a else looked_up (scoped text tree stood) what xs (seen_at stood a)) is) ∙ e))
+          (it a is)
+      | inr isnt ↦ skip a d isnt (first_found xs (seen_at stood a) d
+          (sym (ap (λ (b : Bool). if b then Some a else looked_up (scoped text tree stood) what xs (seen_at stood a)) isnt) ∙ e))
     ]
 
     first_seen : (seen : Option ℕ) (d : ℕ) → First seen d → Chain stood seen d
@@ -147,7 +151,8 @@ module _ (tree : Syntax) where
     all_path P _ _ (here d) h = (h d (here d), tt)
     all_path P _ d (further e _ c) h = (h e (here e), all_path P (seen_at stood e) d c (λ y r. h y (further e y r)))
 
-    missed : (nodes : List Node) (seen : Option ℕ) (d : ℕ) (c : Chain stood seen d) → wanted d ≡ true → looked_up (scoped text tree stood) what nodes seen ≡ None →
+    missed : (nodes : List Node) (seen : Option ℕ) (d : ℕ) (c : Chain stood seen d) → wanted d ≡ true
+        → looked_up (scoped text tree stood) what nodes seen ≡ None →
         length nodes < length (path seen d c)
     missed [] _ _ (here d) w e = omega arith
     missed [] _ d (further a _ c) w e = omega arith
@@ -157,7 +162,8 @@ module _ (tree : Syntax) where
       | inl is ↦ absurd (none_some a (sym (ap (λ (b : Bool). if b then Some a else looked_up (scoped text tree stood) what xs (seen_at stood a)) is) ∙ e))
       | inr isnt ↦
           let more : length xs < length (path (seen_at stood a) d c) =
-          missed xs (seen_at stood a) d c w (sym (ap (λ (b : Bool). if b then Some a else looked_up (scoped text tree stood) what xs (seen_at stood a)) isnt) ∙ e) in
+          missed xs (seen_at stood a) d c w
+          (sym (ap (λ (b : Bool). if b then Some a else looked_up (scoped text tree stood) what xs (seen_at stood a)) isnt) ∙ e) in
           omega (arith, more)
     ]
 
@@ -171,7 +177,8 @@ module _ (tree : Syntax) where
       distinct_path : (seen : Option ℕ) (d : ℕ) (c : Chain stood seen d) → IsDistinct eqb (path seen d c)
       distinct_path _ _ (here d) = IsDistinct-cons eqb d [] tt (IsDistinct-from_AllPairs Decides-eqb [] (λ i j x one two. absurd (omega (arith, two))))
       distinct_path _ d (further e _ c) =
-          IsDistinct-cons eqb e (path (seen_at stood e) d c) (all_path (λ y. eqb e y ≡ false) (seen_at stood e) d c (λ y r. unlike e y r)) (distinct_path (seen_at stood e) d c)
+          IsDistinct-cons eqb e (path (seen_at stood e) d c) (all_path (λ y. eqb e y ≡ false) (seen_at stood e) d c (λ y r. unlike e y r))
+          (distinct_path (seen_at stood e) d c)
 
       some_below : (q most : ℕ) (xs : List ℕ) → AllByRecursion (λ y. y < most) xs → list_any (eqb q) xs ≡ true → q < most
       some_below q most [] h e = absurd (cc)
@@ -208,7 +215,8 @@ module _ (tree : Syntax) where
             in_scope = seen_scope tree ordered once d n (first_seen (seen_at stood n) d f);
             not_hidden = λ x w s h. elim (first_before (seen_at stood n) d x f w (scope_seen tree ordered once x n s)) [
               | inl one ↦ not_itself ordered once d (subst (λ z. IsInScope tree d z) (sym one) h)
-              | inr r ↦ not_itself ordered once d (seen_scope tree ordered once d d (chain_on stood (seen_at stood d) x d r (scope_seen tree ordered once d x h)))
+              | inr r ↦ not_itself ordered once d
+                  (seen_scope tree ordered once d d (chain_on stood (seen_at stood d) x d r (scope_seen tree ordered once d x h)))
             ];
           }
 

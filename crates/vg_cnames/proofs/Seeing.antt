@@ -1,5 +1,6 @@
 -- What a node sees, one declaration behind the other, are the declarations in whose scopes it lies.
-use Rattle.std.proofs.Common.{◌≡◌, ◌∙◌, ◌<◌, ◌≤◌, ◌+◌, ◌⊎◌, inl, inr, ℕ, zero, suc, List, [], ◌∷◌, ◌++◌, length, slice_get, Bool, true, if◌then◌else◌, Option, Some, None, refl, sym, ap, subst, arith}
+use Rattle.std.proofs.Common.{◌≡◌, ◌∙◌, ◌<◌, ◌≤◌, ◌+◌, ◌⊎◌, inl, inr, ℕ, zero, suc, List, [], ◌∷◌, ◌++◌, length, slice_get, Bool, true, if◌then◌else◌}
+use Rattle.std.proofs.Common.{Option, Some, None, refl, sym, ap, subst, arith}
 use Rattle.std.specs.Prelude.{replicate}
 use Rattle.std.proofs.lemmas.Bool.{cases_lt, cases_Bool}
 use Rattle.std.proofs.lemmas.Option.{same_Some}
@@ -17,11 +18,13 @@ pub data Chain (standings : List Standing) : Option ℕ → ℕ → Type 0 where
   here : (d : ℕ) → Chain standings (Some d) d
   further : (e d : ℕ) → Chain standings (seen_at standings e) d → Chain standings (Some e) d
 
-pub chain_on : (standings : List Standing) (seen : Option ℕ) (e d : ℕ) → Chain standings seen e → Chain standings (seen_at standings e) d → Chain standings seen d
+pub chain_on : (standings : List Standing) (seen : Option ℕ) (e d : ℕ) → Chain standings seen e → Chain standings (seen_at standings e) d
+    → Chain standings seen d
 chain_on standings _ _ d (here x) c = further x d c
 chain_on standings _ e d (further x _ a) c = further x d (chain_on standings (seen_at standings x) e d a c)
 
-pub chain_from : (standings : List Standing) (seen : Option ℕ) (d : ℕ) → Chain standings seen d → (x : ℕ) → seen ≡ Some x → (x ≡ d) ⊎ Chain standings (seen_at standings x) d
+pub chain_from : (standings : List Standing) (seen : Option ℕ) (d : ℕ) → Chain standings seen d → (x : ℕ) → seen ≡ Some x → (x ≡ d)
+    ⊎ Chain standings (seen_at standings x) d
 chain_from standings _ _ (here d) x e = inl (sym (same_Some d x e))
 chain_from standings _ d (further y _ c) x e = inr (subst (λ z. Chain standings (seen_at standings z) d) (same_Some y x e) c)
 
@@ -93,7 +96,8 @@ module _ (tree : Syntax) where
     | inr doesnt ↦ subst (λ (b : Bool). Seen (if b then Some x else s) d) (sym doesnt) c
   ]
 
-  row_forward : (s : Option ℕ) (xs : List ℕ) → AreTold (in_row tree s xs) → (d : ℕ) → Seen s d → (n : ℕ) (seen : Option ℕ) → Sees n seen (in_row tree s xs) → Seen seen d
+  row_forward : (s : Option ℕ) (xs : List ℕ) → AreTold (in_row tree s xs) → (d : ℕ) → Seen s d → (n : ℕ) (seen : Option ℕ)
+      → Sees n seen (in_row tree s xs) → Seen seen d
   row_forward s [] h d c n seen i = absurd i
   row_forward s (x ∷ xs) h d c n seen (inl e) = subst (λ o. Seen o d) e.1 c
   row_forward s (x ∷ xs) h d c n seen (inr i) =
@@ -122,7 +126,8 @@ module _ (tree : Syntax) where
     | inr doesnt ↦ inl (subst (λ (b : Bool). Seen (if b then Some x else s) d) doesnt c)
   ]
 
-  row_back : (s : Option ℕ) (xs : List ℕ) → AreTold (in_row tree s xs) → Rising xs → (d n : ℕ) (seen : Option ℕ) → Sees n seen (in_row tree s xs) → Seen seen d →
+  row_back : (s : Option ℕ) (xs : List ℕ) → AreTold (in_row tree s xs) → Rising xs → (d n : ℕ) (seen : Option ℕ) → Sees n seen (in_row tree s xs)
+      → Seen seen d →
       Seen s d ⊎ StandsBefore xs d n
   row_back s [] h r d n seen i c = absurd i
   row_back s (x ∷ xs) h r d n seen (inl e) c = inl (subst (λ o. Seen o d) (sym e.1) c)
@@ -165,7 +170,8 @@ module _ (tree : Syntax) where
         In d xs → In n xs → d < n → Seen (seen_at stood n) d
     by_place m s xs e f d n does j i l =
         let t = in_row_sees s xs n i in
-        subst (λ o. Seen o d) (sym (told_row m (in_row tree s xs) e n t.0 t.1)) (row_behind s xs (told_row m (in_row tree s xs) e) (row_rises m xs f) d n does j l t.0 t.1)
+        subst (λ o. Seen o d) (sym (told_row m (in_row tree s xs) e n t.0 t.1)) (row_behind s xs (told_row m (in_row tree s xs) e) (row_rises m xs f)
+        d n does j l t.0 t.1)
 
     rest_sees : (d n : ℕ) → Looks tree d (seen_at stood d) (kind_at tree d) → In n (rest_of tree (kind_at tree d)) → Seen (seen_at stood n) d
     rest_sees d n (file e f g h) i = absurd (subst (λ xs. In n xs) h i)
@@ -193,7 +199,8 @@ module _ (tree : Syntax) where
           | inr b ↦ subst (λ o. Seen o d) (sym (seen_so ∙ all_same n t.0 (Some m) back b)) (further m d c)
         ]
 
-    part_sees_on : (m n d : ℕ) → Looks tree m (seen_at stood m) (kind_at tree m) → Seen (seen_at stood m) d → In n (within tree (kind_at tree m)) → Seen (seen_at stood n) d
+    part_sees_on : (m n d : ℕ) → Looks tree m (seen_at stood m) (kind_at tree m) → Seen (seen_at stood m) d → In n (within tree (kind_at tree m))
+        → Seen (seen_at stood n) d
     part_sees_on m n d (file e f g h) c i = absurd (subst (λ xs. In n xs) g i)
     part_sees_on m n d (opens e f g h) c i = by_row m (Some m) (row_of tree (kind_at tree m)) e d n (further m d c) (subst (λ xs. In n xs) (g ∙ f) i)
     part_sees_on m n d (block e f g h) c i = by_row m (seen_at stood m) (row_of tree (kind_at tree m)) e d n c (subst (λ xs. In n xs) (g ∙ f) i)
@@ -225,7 +232,8 @@ module _ (tree : Syntax) where
         let t = in_row_sees s xs n i in
         row_back s xs (told_row m (in_row tree s xs) e) (row_rises m xs f) d n t.0 t.1 (subst (λ o. Seen o d) (told_row m (in_row tree s xs) e n t.0 t.1) c)
 
-    part_scope : (m n d : ℕ) → Looks tree m (seen_at stood m) (kind_at tree m) → ((x : ℕ) → Seen (seen_at stood m) x → IsInScope tree x m) → In n (parts_at tree m) →
+    part_scope : (m n d : ℕ) → Looks tree m (seen_at stood m) (kind_at tree m) → ((x : ℕ) → Seen (seen_at stood m) x → IsInScope tree x m)
+        → In n (parts_at tree m) →
         Seen (seen_at stood n) d → IsInScope tree d n
     part_scope m n d (file e f g h) up i c =
         let its : In n (row_of tree (kind_at tree m)) = subst (λ xs. In n xs) f i in
@@ -263,7 +271,8 @@ module _ (tree : Syntax) where
     -- a node that is no part sees nothing
     last_sees : (n : ℕ) → length tree.nodes ≤ n + 1 → seen_at stood n ≡ None
     last_sees n l =
-        ap seen_of (below_other tree (length tree.nodes) (replicate (length tree.nodes) alone) n (λ j less i. absurd (omega (arith, l, less, part_before tree ordered j n i))))
+        ap seen_of (below_other tree (length tree.nodes) (replicate (length tree.nodes) alone) n
+        (λ j less i. absurd (omega (arith, l, less, part_before tree ordered j n i))))
         ∙ lone (length tree.nodes) n
 
     seen_below : (g n : ℕ) → length tree.nodes ≤ n + g → (d : ℕ) → Seen (seen_at stood n) d → IsInScope tree d n

@@ -25,16 +25,20 @@ parts_row tree seen [] = refl
 parts_row tree seen (x ∷ xs) = ap (λ zs. x ∷ zs) (parts_row tree (behind tree seen x) xs)
 
 -- one more in a row
-row_push : (tree : Syntax) (seen : Option ℕ) (xs : List ℕ) (y : ℕ) → in_row tree seen xs ++ all_see (seen_behind tree seen xs) (y ∷ []) ≡ in_row tree seen (xs ++ y ∷ [])
+row_push : (tree : Syntax) (seen : Option ℕ) (xs : List ℕ) (y : ℕ) → in_row tree seen xs ++ all_see (seen_behind tree seen xs) (y ∷ []) ≡ in_row tree
+    seen (xs ++ y ∷ [])
 row_push tree seen [] y = refl
 row_push tree seen (x ∷ xs) y = ap (λ zs. (x, seen) ∷ zs) (row_push tree (behind tree seen x) xs y)
 
 pub data Looks (tree : Syntax) (n : ℕ) (seen : Option ℕ) (kind : Kind) : Type 0 where
-  file : sight tree n seen kind ≡ in_row tree None (row_of tree kind) → parts_of tree.items kind ≡ row_of tree kind → within tree kind ≡ [] → rest_of tree kind ≡ [] →
+  file : sight tree n seen kind ≡ in_row tree None (row_of tree kind) → parts_of tree.items kind ≡ row_of tree kind → within tree kind ≡ []
+      → rest_of tree kind ≡ [] →
       Looks tree n seen kind
-  opens : sight tree n seen kind ≡ in_row tree (Some n) (row_of tree kind) → parts_of tree.items kind ≡ row_of tree kind → within tree kind ≡ parts_of tree.items kind →
+  opens : sight tree n seen kind ≡ in_row tree (Some n) (row_of tree kind) → parts_of tree.items kind ≡ row_of tree kind
+      → within tree kind ≡ parts_of tree.items kind →
       rest_of tree kind ≡ row_of tree kind → Looks tree n seen kind
-  block : sight tree n seen kind ≡ in_row tree seen (row_of tree kind) → parts_of tree.items kind ≡ row_of tree kind → within tree kind ≡ parts_of tree.items kind →
+  block : sight tree n seen kind ≡ in_row tree seen (row_of tree kind) → parts_of tree.items kind ≡ row_of tree kind
+      → within tree kind ≡ parts_of tree.items kind →
       rest_of tree kind ≡ [] → Looks tree n seen kind
   splits : (front back : List ℕ) → sight tree n seen kind ≡ all_see seen front ++ all_see (Some n) back → parts_of tree.items kind ≡ front ++ back →
       within tree kind ≡ parts_of tree.items kind → rest_of tree kind ≡ back → row_of tree kind ≡ [] → Looks tree n seen kind

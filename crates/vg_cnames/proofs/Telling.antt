@@ -28,13 +28,15 @@ part_sees p (x ∷ xs) (inr i) = let s = part_sees p xs i in (s.0, inr s.1)
 told_other : (m p : ℕ) (xs : Sight) (s : List Standing) → (In p (parts_in xs) → ⊥) → slice_get (told m xs s) p ≡ slice_get s p
 told_other m p [] s h = refl
 told_other m p (x ∷ xs) s h =
-    told_other m p xs (set s x.0 (record { within = m; seen = x.1 })) (λ i. h (inr i)) ∙ get_set_other s x.0 p (record { within = m; seen = x.1 }) (λ e. h (inl e))
+    told_other m p xs (set s x.0 (record { within = m; seen = x.1 })) (λ i. h (inr i)) ∙ get_set_other s x.0 p (record { within = m; seen = x.1 })
+    (λ e. h (inl e))
 
 told_length : (m : ℕ) (xs : Sight) (s : List Standing) → length (told m xs s) ≡ length s
 told_length m [] s = refl
 told_length m (x ∷ xs) s = told_length m xs (set s x.0 (record { within = m; seen = x.1 })) ∙ length-set s x.0 (record { within = m; seen = x.1 })
 
-told_here : (m p : ℕ) (seen : Option ℕ) (xs : Sight) (s : List Standing) → Rising (parts_in xs) → Sees p seen xs → p < length s → seen_of (slice_get (told m xs s) p) ≡ seen
+told_here : (m p : ℕ) (seen : Option ℕ) (xs : Sight) (s : List Standing) → Rising (parts_in xs) → Sees p seen xs → p < length s
+    → seen_of (slice_get (told m xs s) p) ≡ seen
 told_here m p seen [] s r i l = absurd i
 told_here m p seen (x ∷ xs) s r (inl e) l =
     ap seen_of (told_other m p xs (set s x.0 (record { within = m; seen = x.1 })) (λ i. absurd (omega (arith, r.0 p i, e.0)))
@@ -52,7 +54,8 @@ module _ (tree : Syntax) where
   below_other zero s p h = refl
   below_other (suc k) s p h =
       below_other k (next_told k s) p (λ i l. h i (omega (arith, l)))
-      ∙ told_other k p (sight tree k (seen_at s k) (kind_at tree k)) s (λ i. h k (omega arith) (subst (λ xs. In p xs) (sight_parts tree k (seen_at s k) (kind_at tree k)) i))
+      ∙ told_other k p (sight tree k (seen_at s k) (kind_at tree k)) s (λ i. h k (omega arith)
+      (subst (λ xs. In p xs) (sight_parts tree k (seen_at s k) (kind_at tree k)) i))
 
   module _ (ordered : IsOrdered tree) (once : IsUsedOnce tree) where
     told_own : (m p : ℕ) (seen : Option ℕ) (s : List Standing) → length s ≡ length tree.nodes →
@@ -67,7 +70,8 @@ module _ (tree : Syntax) where
         let rising : Rising (parts_in (sight tree m (seen_at s m) (kind_at tree m))) =
         subst (λ xs. Rising xs) (sym (sight_parts tree m (seen_at s m) (kind_at tree m))) (parts_rise tree ordered m) in
         ap seen_of (below_other m (next_told m s) p (λ j l k. absurd (omega (arith, l, one_whole tree ordered once j m p k its))))
-        ∙ told_here m p seen (sight tree m (seen_at s m) (kind_at tree m)) s rising here (omega (arith, long, part_before tree ordered m p its, within_tree tree m p its))
+        ∙ told_here m p seen (sight tree m (seen_at s m) (kind_at tree m)) s rising here (omega
+        (arith, long, part_before tree ordered m p its, within_tree tree m p its))
 
     told_some : (k : ℕ) (s : List Standing) (m p : ℕ) (seen : Option ℕ) → length s ≡ length tree.nodes → m < k →
         Sees p seen (sight tree m (seen_at (told_below tree k s) m) (kind_at tree m)) → seen_at (told_below tree k s) p ≡ seen

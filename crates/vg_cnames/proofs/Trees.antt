@@ -1,5 +1,6 @@
 -- The parts of a tree that is ordered and uses each node once.
-use Rattle.std.proofs.Common.{◌≡◌, ◌∙◌, ◌<◌, ◌≤◌, ◌+◌, inl, inr, ℕ, List, length, slice_get, Bool, true, false, if◌then◌else◌, Option, Some, None, refl, sym, ap, subst, arith}
+use Rattle.std.proofs.Common.{◌≡◌, ◌∙◌, ◌<◌, ◌≤◌, ◌+◌, inl, inr, ℕ, List, length, slice_get, Bool, true, false, if◌then◌else◌, Option, Some, None}
+use Rattle.std.proofs.Common.{refl, sym, ap, subst, arith}
 use Rattle.std.specs.Prelude.{◌==◌}
 use Rattle.std.proofs.lemmas.Bool.{cases_lt}
 use Rattle.std.proofs.lemmas.Bool.Decides.{eqb_tells}
@@ -21,7 +22,8 @@ module _ (tree : Syntax) where
   parts_in_node node = parts_of tree.items node.kind
 
   -- a node that has a part
-  node_at : (m n : ℕ) (o : Option Node) → slice_get tree.nodes m ≡ o → In n (parts_of tree.items (kind_of o)) → (a : Node) × (slice_get tree.nodes m ≡ Some a) × In n (parts_in_node a)
+  node_at : (m n : ℕ) (o : Option Node) → slice_get tree.nodes m ≡ o → In n (parts_of tree.items (kind_of o)) → (a : Node)
+      × (slice_get tree.nodes m ≡ Some a) × In n (parts_in_node a)
   node_at m n None e i = absurd i
   node_at m n (Some a) e i = (a, e, i)
 

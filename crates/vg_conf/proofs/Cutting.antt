@@ -7,7 +7,8 @@ use Rattle.vg_conf.specs.Pieces.{pieces, with_first}
 
 -- a byte more, which is no mark
 pub cut_on : (mark left end : ℕ) (text : List ℕ) (rest : List (List ℕ)) → 0 < left → left ≤ end → end ≤ length text → slice_index text (left - 1) ≢ mark →
-    take (end - left) (drop left text) ∷ rest ≡ pieces mark (drop left text) → take (end - (left - 1)) (drop (left - 1) text) ∷ rest ≡ pieces mark (drop (left - 1) text)
+    take (end - left) (drop left text) ∷ rest ≡ pieces mark (drop left text) → take (end - (left - 1)) (drop (left - 1) text)
+    ∷ rest ≡ pieces mark (drop (left - 1) text)
 cut_on mark left end text rest some below within ne so_far =
     let byte : ℕ = slice_index text (left - 1) in
     let same : left - 1 + 1 ≡ left = omega arith in

@@ -6,7 +6,8 @@ use Rattle.vg_conf.specs.Given.{Gathered}
 use Rattle.vg_conf.specs.Lines.{after_words}
 
 -- a line whose words are as many as those of no form
-pub other_words : {X : Type 0} (see : X → List ℕ) (spec : Specification) (line : ℕ) (given : Gathered) (words : List X) → length words ≢ 2 → length words ≢ 4 → length words ≢ 5 →
+pub other_words : {X : Type 0} (see : X → List ℕ) (spec : Specification) (line : ℕ) (given : Gathered) (words : List X) → length words ≢ 2
+    → length words ≢ 4 → length words ≢ 5 →
     after_words spec line given (map see words) ≡ Err (faults.Line line)
 other_words see spec line given [] two four five = refl
 other_words see spec line given (a ∷ []) two four five = refl

@@ -1,6 +1,7 @@
 -- The lines of a configuration's text: `NAME NUMBER` gives a declared number, `route TABLE A.B.C.D/LEN NUMBER` adds a route, and
 -- `cell VECTOR INDEX FIELD NUMBER` fills a field of a cell. Empty lines and those that begin with `#` are skipped.
-use Rattle.std.specs.Prelude.{ℕ, ◌+◌, ◌^◌, ◌==◌, nat_le, nat_lt, ◌&&◌, Bool, true, List, [], ◌∷◌, ◌++◌, length, codes, slice_get, slice_set, Option, Some, None, Result, Ok, Err, if◌then◌else◌}
+use Rattle.std.specs.Prelude.{ℕ, ◌+◌, ◌^◌, ◌==◌, nat_le, nat_lt, ◌&&◌, Bool, true, List, [], ◌∷◌, ◌++◌, length, codes, slice_get, slice_set, Option}
+use Rattle.std.specs.Prelude.{Some, None, Result, Ok, Err, if◌then◌else◌}
 use Rattle.std.specs.Str.{bytes_eq}
 use Rattle.vg_stree.specs.declared.shape.Number.{Number}
 use Rattle.vg_stree.specs.declared.shape.Field.{Field}
@@ -61,7 +62,8 @@ most_routes = 65536
 abbrev pub add_within : ℕ → Gathered → ℕ → ℕ → ℕ → ℕ → Prefix → ℕ → Answer
 add_within line given table at low high prefix value =
     if nat_le most_routes (length given.routes) then Err (faults.Line line)
-    else if is_within low high value then Ok (record given { routes = given.routes ++ record { table = table; address = prefix.address; len = prefix.len; value = value } ∷ [] })
+    else if is_within low high value then Ok
+    (record given { routes = given.routes ++ record { table = table; address = prefix.address; len = prefix.len; value = value } ∷ [] })
     else Err (faults.Range at)
 
 -- a route is added to a table, by the table's kind
@@ -91,7 +93,10 @@ struct_in (Some object) = struct_of object.kind
 abbrev pub put_in : ℕ → Gathered → ℕ → ℕ → ℕ → Option Field → ℕ → Answer
 put_in line given vector index place None value = Err (faults.Line line)
 put_in line given vector index place (Some field) value =
-    if nat_lt value (256 ^ field_bytes field.of) then Ok (record given { cells = given.cells ++ record { line = line; vector = vector; index = index; field = place; value = value } ∷ [] })
+    if nat_lt value (256 ^ field_bytes field.of) then Ok (record given {
+      cells = given.cells
+          ++ record { line = line; vector = vector; index = index; field = place; value = value } ∷ [];
+    })
     else Err (faults.Line line)
 
 abbrev pub put_at : Specification → ℕ → Gathered → ℕ → ℕ → ℕ → Option ℕ → ℕ → Answer
@@ -104,7 +109,8 @@ put spec line given vector index (Some cell) word value = put_at spec line given
 
 -- `cell VECTOR INDEX FIELD NUMBER`, by the vector's number among the objects, the index, the word for the field, and the value
 abbrev pub cell_line : Specification → ℕ → Gathered → Option ℕ → Option ℕ → List ℕ → Option ℕ → Answer
-cell_line spec line given (Some vector) (Some index) word (Some value) = put spec line given vector index (struct_in (slice_get spec.shape.objects vector)) word value
+cell_line spec line given (Some vector) (Some index) word (Some value) = put spec line given vector index
+    (struct_in (slice_get spec.shape.objects vector)) word value
 cell_line spec line given _ _ word _ = Err (faults.Line line)
 
 -- a line of four words, and one of five
@@ -114,7 +120,8 @@ after_four spec line given first table prefix number =
 
 abbrev pub after_five : Specification → ℕ → Gathered → List ℕ → List ℕ → List ℕ → List ℕ → List ℕ → Answer
 after_five spec line given first vector index field number =
-    if bytes_eq first (codes "cell") then cell_line spec line given (vector_named spec vector) (number_in index) field (number_in number) else Err (faults.Line line)
+    if bytes_eq first (codes "cell") then cell_line spec line given (vector_named spec vector) (number_in index) field (number_in number) else Err
+    (faults.Line line)
 
 -- a line, by its words: their number tells its form
 abbrev pub after_words : Specification → ℕ → Gathered → List (List ℕ) → Answer

@@ -13,7 +13,8 @@ digit_of byte = if is_from_to 48 57 byte then byte - 48 else if is_from_to 97 10
 -- a number with a digit more, where that is one of the base and the number stays below 2 ^ 64
 abbrev pub with_digit : ℕ → Option ℕ → ℕ → Option ℕ
 with_digit base None byte = None
-with_digit base (Some number) byte = if nat_lt (digit_of byte) base && nat_lt (number * base + digit_of byte) (2 ^ 64) then Some (number * base + digit_of byte) else None
+with_digit base (Some number) byte = if nat_lt (digit_of byte) base && nat_lt (number * base + digit_of byte) (2 ^ 64) then Some
+    (number * base + digit_of byte) else None
 
 -- the number of a row of digits
 abbrev pub number_of : ℕ → List ℕ → Option ℕ

@@ -86,7 +86,8 @@ fn number_line(
     number: &[u8],
 ) -> Result<Given, ConfFault>
     ensures done { IfOk result (λ next. lines.number_line spec.now line given (named.number_named spec.now name.now) (numbers.number_in number.now) ≡ Ok next) }
-    ensures refused { IfErr result (λ fault. fault ≢ faults.Memory → lines.number_line spec.now line given (named.number_named spec.now name.now) (numbers.number_in number.now) ≡ Err fault) }
+    ensures refused { IfErr result (λ fault. fault ≢ faults.Memory → lines.number_line spec.now line given (named.number_named spec.now name.now)
+        (numbers.number_in number.now) ≡ Err fault) }
 {
     let value = number_in(alloc, number)?;
     let (Some(place), Some(value)) = (number_named(spec, name), value) else {
@@ -252,7 +253,8 @@ fn after_four(
     number: &[u8],
 ) -> Result<Given, ConfFault>
     ensures done { IfOk result (λ next. lines.after_four spec.now line given first.now table.now prefix.now number.now ≡ Ok next) }
-    ensures refused { IfErr result (λ fault. fault ≢ faults.Memory → lines.after_four spec.now line given first.now table.now prefix.now number.now ≡ Err fault) }
+    ensures refused { IfErr result (λ fault. fault ≢ faults.Memory → lines.after_four spec.now line given first.now table.now prefix.now number.now ≡
+        Err fault) }
 {
     if first != b"route".as_slice() {
         return Err(ConfFault::Line(line));
@@ -275,7 +277,8 @@ fn after_five(
     number: &[u8],
 ) -> Result<Given, ConfFault>
     ensures done { IfOk result (λ next. lines.after_five spec.now line given first.now vector.now index.now field.now number.now ≡ Ok next) }
-    ensures refused { IfErr result (λ fault. fault ≢ faults.Memory → lines.after_five spec.now line given first.now vector.now index.now field.now number.now ≡ Err fault) }
+    ensures refused { IfErr result (λ fault. fault ≢ faults.Memory → lines.after_five spec.now line given first.now vector.now index.now field.now
+        number.now ≡ Err fault) }
 {
     if first != b"cell".as_slice() {
         return Err(ConfFault::Line(line));
