@@ -27,4 +27,12 @@ worked_steps = record {
   used_up = rw (get-empty (slice_cmp nat_cmp) (0 ∷ [])) refl;
   key_asked = rw (get-empty (slice_cmp nat_cmp) (0 ∷ [])) refl;
   index_asked = rw (get-insert {X = Option ℕ} nat_list_cmp_total empty (0 ∷ []) None (0 ∷ []), get-empty nat_cmp 1) refl;
+  untold_missing = rw (get-insert {X = Option ℕ} nat_list_cmp_total empty (0 ∷ []) None (0 ∷ [])) refl;
+  untold_beyond = rw (get-insert {X = Option ℕ} nat_list_cmp_total empty (0 ∷ []) None (0 ∷ [])) refl;
+  branched = refl;
+  name_gone = refl;
+  own_names = refl;
+  both_asked = rw (get-empty nat_cmp 1) refl;
+  not_touched = rw (get-empty nat_cmp 1) refl;
+  found = rw (get-insert {X = Option ℕ} nat_list_cmp_total empty (0 ∷ []) (Some 1) (0 ∷ [])) refl;
 }

@@ -1,5 +1,5 @@
 -- What a specification's step does with a frame: a plain recursion over its statements, on the tables of the library.
-use Rattle.std.specs.Prelude.{ℕ, ◌+◌, ◌%◌, ◌^◌, ◌==◌, nat_lt, zero, suc, Bool, true, false, List, [], ◌∷◌, ◌++◌, take, slice_get, Option, Some, None}
+use Rattle.std.specs.Prelude.{ℕ, ◌+◌, ◌%◌, ◌^◌, ◌==◌, nat_lt, zero, suc, Bool, true, false, List, [], ◌∷◌, ◌++◌, slice_get, Option, Some, None}
 use Rattle.std.specs.Prelude.{if◌then◌else◌}
 use Rattle.std.specs.FinMap.{get}
 use Rattle.vg_core.specs.declared.verdict.Verdict.{Verdict}
@@ -66,15 +66,15 @@ key_bytes fields [] = []
 key_bytes (field ∷ fields) (value ∷ values) = bytes_in field.of value ++ key_bytes fields values
 
 -- a struct's bytes with a number in a field, which stands at a place
-abbrev pub with_field_found : (at value : ℕ) → List ℕ → Option Field → List ℕ
-with_field_found at value bytes None = bytes
-with_field_found at value bytes (Some field) = with_field at field.of value bytes
+abbrev pub with_number_in : (at value : ℕ) → List ℕ → Option Field → List ℕ
+with_number_in at value bytes None = bytes
+with_number_in at value bytes (Some field) = with_field at field.of value bytes
 
 -- the bytes of a vector's cell with a number in a field, taken modulo the field's size
-abbrev pub with_field_of : Declarations → (vector field value : ℕ) → List ℕ → List ℕ
-with_field_of shape vector field value bytes =
+abbrev pub with_field_in_cell : Declarations → (vector field value : ℕ) → List ℕ → List ℕ
+with_field_in_cell shape vector field value bytes =
     let of = cell_struct shape vector in
-    with_field_found (field_place shape of field) value bytes (slice_get (fields_of shape of) field)
+    with_number_in (field_place shape of field) value bytes (slice_get (fields_of shape of) field)
 
 -- an index is handed out with a time, its cell holds a key, and the key is mapped to it
 abbrev pub with_entry : Link → List ℕ → (index now : ℕ) → Link
@@ -122,7 +122,7 @@ module _ (spec : Specification) (numbers : List ℕ) (port now : ℕ) where
   store_field place vector index field value =
       if nat_lt index (vector_of place.state vector).cell_count then
       told (get (vector_of place.state vector).cells index) (λ bytes.
-      Goes (record place { state = with_bytes place.state vector index (with_field_of spec.shape vector field value bytes) }))
+      Goes (record place { state = with_bytes place.state vector index (with_field_in_cell spec.shape vector field value bytes) }))
       else Goes place
 
   -- exactly the indices of a link with a time before a bound are freed

@@ -8,7 +8,6 @@ use Rattle.vg_stree.specs.declared.code.SExpr.TheVariants as expressions
 use Rattle.vg_stree.specs.Declarations.{fields_of}
 use Rattle.vg_stree.specs.Specification.{Specification}
 use Rattle.vg_stree.specs.Syntax.{listed}
-use Rattle.vg_abs.specs.Tables.{Vector}
 use Rattle.vg_abs.specs.State.{State, link_of_map, vector_of}
 use Rattle.vg_abs.specs.Answers.{time_of}
 use Rattle.vg_abs.specs.Shape.{cell_struct}
@@ -36,11 +35,6 @@ asking (Some answer) next = next answer
 -- both are told, and this comes of them
 abbrev pub both : {A B C : Type 0} → (A → B → C) → Option A → Option B → Option C
 both f one other = asking one (λ a. option_map (λ b. f a b) other)
-
--- all of them, where each is told
-abbrev pub all_told : {A : Type 0} → List (Option A) → Option (List A)
-all_told [] = Some []
-all_told (one ∷ more) = both (λ a rest. a ∷ rest) one (all_told more)
 
 -- ---- expressions
 

@@ -1,7 +1,7 @@
 -- Small steps, each with what comes of it: the definitions on examples that can be worked by hand.
 use Rattle.std.specs.Prelude.{ℕ, ◌≡◌, List, [], ◌∷◌, Bool, true, false, Some, None}
 use Rattle.std.specs.FinMap.{empty, insert}
-use Rattle.vg_core.specs.declared.verdict.Verdict.TheVariants.{Drop, Send}
+use Rattle.vg_core.specs.declared.verdict.Verdict.TheVariants.{Drop, Send, Flood}
 use Rattle.vg_stree.specs.declared.code.Parts.{Parts}
 use Rattle.vg_stree.specs.declared.code.SExpr.{SExpr}
 use Rattle.vg_stree.specs.declared.code.SExpr.TheVariants.{Number, Port, Local, Length, Frame}
@@ -23,7 +23,7 @@ use Rattle.vg_abs.specs.Tables.{Link}
 use Rattle.vg_abs.specs.State.{State}
 use Rattle.vg_smean.specs.Step.{StepEnd, Done, ChoiceRefused, AsksMore, step}
 
--- a specification of two ports whose step is its last statement alone
+-- a specification of two ports whose step is this statement
 abbrev pub of_statement : List SExpr → List Operation → SStmt → Specification
 of_statement expressions operations statement = record {
   names = [];
@@ -89,9 +89,9 @@ adding = record {
   step = record { from = 2; count = 2 };
 }
 
--- what it comes to with a frame of one byte at port 0, at time 5
+-- what it comes to with a frame of two bytes, whose length is no port, at port 0 and time 5
 abbrev pub adds : State → List ℕ → StepEnd
-adds s choices = step adding [] s 0 (7 ∷ []) 5 choices
+adds s choices = step adding [] s 0 (7 ∷ 7 ∷ []) 5 choices
 
 -- the link once index 1 was handed out to the key 0
 abbrev pub entered : Link
@@ -108,13 +108,66 @@ entered = record (empty_link 2) {
 abbrev pub told_absent : Link
 told_absent = record (empty_link 2) { keys = insert empty (0 ∷ []) None }
 
+-- ---- several statements
+
+-- a specification of two ports with that link, whose step is the last so many of these statements, which stand behind the items
+abbrev pub of_statements : List SExpr → List SStmt → List ℕ → (from count : ℕ) → Specification
+of_statements expressions statements items from count = record {
+  names = [];
+  shape = adding.shape;
+  code = record { expressions = expressions; operations = []; statements = statements; items = items };
+  step = record { from = from; count = count };
+}
+
+-- what its step comes to with no frame's bytes at port 1, at time 5
+abbrev pub ends : Specification → State → List ℕ → StepEnd
+ends spec s choices = step spec [] s 1 [] 5 choices
+
+-- `if port { flood; } else { drop; }`
+abbrev pub branching : Specification
+branching =
+    of_statements (Port ∷ [])
+    (statements.Flood ∷ statements.Drop ∷ statements.If 0 (record { from = 0; count = 1 }) (record { from = 1; count = 1 }) ∷ [])
+    (0 ∷ 1 ∷ 2 ∷ []) 2 1
+
+-- `if 1 { let a = 1; } let b = 0; send b;`: the second name is again the first that is in scope
+abbrev pub scoped : Specification
+scoped =
+    of_statements (Number 1 ∷ Number 0 ∷ Local 0 ∷ [])
+    (statements.Let 0 ∷ statements.If 0 (record { from = 0; count = 1 }) (record { from = 0; count = 0 }) ∷ statements.Let 1 ∷ statements.Send 2 ∷ [])
+    (0 ∷ 1 ∷ 2 ∷ 3 ∷ []) 1 3
+
+-- `define f(a) = a;` and `let x = 0; send f(1);`: a define sees its own parameters alone
+abbrev pub calling : Specification
+calling =
+    of_statements (Local 0 ∷ Number 0 ∷ Number 1 ∷ expressions.Call 0 (record { from = 0; count = 1 }) ∷ [])
+    (statements.Let 1 ∷ statements.Send 3 ∷ []) (2 ∷ 0 ∷ 1 ∷ []) 1 2
+
+-- `let x = 1 ? 0 : has(L, 1); drop;`
+abbrev pub choosing : Specification
+choosing =
+    of_statements (Number 1 ∷ Number 0 ∷ expressions.Has 0 0 ∷ expressions.Choose 0 1 2 ∷ [])
+    (statements.Let 3 ∷ statements.Drop ∷ []) (0 ∷ 1 ∷ []) 0 2
+
+-- `touch L 1;`
+abbrev pub touching : Specification
+touching = of_statements (Number 1 ∷ []) (statements.Touch 0 0 ∷ []) (0 ∷ []) 0 1
+
+-- `find L {256} as i { send i; } else { flood; }`, whose key is one byte
+abbrev pub finding : Specification
+finding =
+    of_statements (Number 256 ∷ Local 0 ∷ [])
+    (statements.Send 1 ∷ statements.Flood
+    ∷ statements.Find 0 (record { from = 0; count = 1 }) (record { from = 0; count = 1 }) (record { from = 1; count = 1 }) ∷ [])
+    (0 ∷ 1 ∷ 2 ∷ []) 2 1
+
 pub record WorkedSteps : Type 0 where
   -- `send 1 - port;` exchanges two ports
   pub swap : comes_to (sending Subtract (Number 1) Port) 0 [] ≡ Done (Send 1) nothing (1 ∷ 2 ∷ 3 ∷ [])
   pub swapped : comes_to (sending Subtract (Number 1) Port) 1 [] ≡ Done (Send 0) nothing (1 ∷ 2 ∷ 3 ∷ [])
   -- a difference stops at 0, and doesn't wrap
   pub no_less : comes_to (sending Subtract Port (Number 5)) 1 [] ≡ Done (Send 0) nothing (1 ∷ 2 ∷ 3 ∷ [])
-  -- a shift by 64 gives 0, and no other value
+  -- a shift by 64 gives 0; it isn't one by 64 modulo 64
   pub shifted_out : comes_to (sending ShiftLeft (Number 1) (Number 64)) 0 [] ≡ Done (Send 0) nothing (1 ∷ 2 ∷ 3 ∷ [])
   -- what is no port is a drop
   pub no_port : comes_to (sending Multiply (Number 2) (Number 1)) 0 [] ≡ Done Drop nothing (1 ∷ 2 ∷ 3 ∷ [])
@@ -127,14 +180,27 @@ pub record WorkedSteps : Type 0 where
   pub read_past : step (of_statement (Number 3 ∷ Frame U8 0 ∷ []) [] (statements.Send 1)) [] nothing 1 (1 ∷ 1 ∷ 1 ∷ []) 0 []
       ≡ Done (Send 0) nothing (1 ∷ 1 ∷ 1 ∷ [])
   -- an index that is free is handed out, and the step ends in the block
-  pub added : adds (with_this true (empty_link 2)) (1 ∷ []) ≡ Done (Send 1) (with_this true entered) (7 ∷ [])
+  pub added : adds (with_this true (empty_link 2)) (1 ∷ []) ≡ Done (Send 1) (with_this true entered) (7 ∷ 7 ∷ [])
   -- an index has to be there, below the capacity, and free
   pub no_choice : adds (with_this true (empty_link 2)) [] ≡ ChoiceRefused
   pub beyond : adds (with_this true (empty_link 2)) (2 ∷ []) ≡ ChoiceRefused
   pub in_use : adds (with_this true (record (empty_link 2) { times = insert empty 1 (Some 0); count = 1 })) (1 ∷ []) ≡ ChoiceRefused
   -- where the key is present, or no index is free, none is taken
-  pub present : adds (with_this true entered) [] ≡ Done (Send 1) (with_this true entered) (7 ∷ [])
-  pub used_up : adds (with_this true (empty_link 0)) [] ≡ Done (Send 1) (with_this true (empty_link 0)) (7 ∷ [])
+  pub present : adds (with_this true entered) [] ≡ Done Drop (with_this true entered) (7 ∷ 7 ∷ [])
+  pub used_up : adds (with_this true (empty_link 0)) [] ≡ Done Drop (with_this true (empty_link 0)) (7 ∷ 7 ∷ [])
   -- a partial state that doesn't tell of the key, or of the index, is asked
   pub key_asked : adds (with_this false (empty_link 2)) (1 ∷ []) ≡ AsksMore
   pub index_asked : adds (with_this false told_absent) (1 ∷ []) ≡ AsksMore
+  pub untold_missing : adds (with_this false told_absent) [] ≡ ChoiceRefused
+  pub untold_beyond : adds (with_this false told_absent) (2 ∷ []) ≡ ChoiceRefused
+  -- what isn't 0 is true
+  pub branched : ends branching nothing [] ≡ Done Flood nothing []
+  -- a name goes with its block, and a define sees its parameters alone
+  pub name_gone : ends scoped nothing [] ≡ Done (Send 0) nothing []
+  pub own_names : ends calling nothing [] ≡ Done (Send 1) nothing []
+  -- both sides of a choice are evaluated, and so ask
+  pub both_asked : ends choosing (with_this false (empty_link 2)) [] ≡ AsksMore
+  -- a free index isn't touched, and the highest time stays
+  pub not_touched : ends touching (with_this true (empty_link 2)) [] ≡ Done Drop (with_this true (empty_link 2)) []
+  -- a key's bytes are its values modulo the sizes of its fields: 256 in one byte is the key 0
+  pub found : ends finding (with_this true entered) [] ≡ Done (Send 1) (with_this true entered) []
