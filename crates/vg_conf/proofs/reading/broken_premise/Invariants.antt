@@ -2,7 +2,6 @@ use Rattle.std.proofs.Common.{◌≡◌, ◌+◌, [], drop}
 use Rattle.std.specs.Prelude.{◌==◌}
 use Rattle.vg_abs.specs.Expressions.{value_of}
 use Rattle.vg_conf.specs.Named as named
-use Rattle.vg_conf.specs.Reading as reading
 use Rattle.vg_conf.proofs.reading.broken_premise.Given as goal
 
 abbrev pub invariant-loop-premise : goal.invariant-loop-premise
