@@ -23,7 +23,6 @@ use Rattle.std.proofs.lemmas.Bool.{cases_eq}
 use Rattle.vg_abs.specs.State.{State}
 use Rattle.vg_abs.specs.Lawful.{Holds}
 use Rattle.vg_abs.specs.Expressions.{PremiseHolds, value_of}
-use Rattle.vg_abs.specs.Shape.{size_of}
 use Rattle.vg_abs.specs.Opening.{IsInRange, AreInRange, FitsKind, FitsTable, FitsCells, FitsVector, IsValid}
 use Rattle.vg_conf.specs.declared.fault.ConfFault.{ConfFault}
 use Rattle.vg_conf.specs.declared.fault.ConfFault.TheVariants as faults

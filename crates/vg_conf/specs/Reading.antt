@@ -1,7 +1,6 @@
 -- What comes of a configuration's whole text: the configuration, or the first fault, in this order: those of lines, a number that isn't given,
 -- a premise that is 0, a cell whose index is out of range, a rule that an opening cell breaks.
-use Rattle.std.specs.Prelude.{ℕ, ◌+◌, ◌≡◌, ◌<◌, ◌⊎◌, ◌==◌, nat_lt, List, [], ◌∷◌, ◌++◌, length, All, slice_get, Option, Some, None, Result, Ok, Err}
-use Rattle.std.specs.Prelude.{if◌then◌else◌}
+use Rattle.std.specs.Prelude.{ℕ, ◌+◌, ◌≡◌, ◌<◌, ◌⊎◌, ◌==◌, nat_lt, List, [], ◌∷◌, ◌++◌, length, All, slice_get, Option, Some, None, Result, Ok, Err, Bool, if◌then◌else◌}
 use Rattle.vg_stree.specs.declared.config.Fill.{Fill}
 use Rattle.vg_stree.specs.declared.shape.Number.{Number}
 use Rattle.vg_stree.specs.declared.shape.Object.{Object}
@@ -35,13 +34,16 @@ value_for number _ = Err (faults.Absent number.at)
 -- the values of all declared numbers, in order of declaration, behind those of the numbers before
 abbrev pub values_from : List (Option ℕ) → List ℕ → List Number → Result (List ℕ) ConfFault
 values_from given values [] = Ok values
-values_from given values (number ∷ numbers) = after (value_for number (slice_get given (length values)))
-    (λ value. values_from given (values ++ value ∷ []) numbers)
+values_from given values (number ∷ numbers) =
+    after (value_for number (slice_get given (length values))) (λ value. values_from given (values ++ value ∷ []) numbers)
+
+-- a premise is 0
+abbrev pub is_broken : Specification → List ℕ → ℕ → Bool
+is_broken spec numbers premise = value_of spec.code premise (record { numbers = numbers; cell = []; names = [] }) == 0
 
 -- the first premise that is 0, counted from 1
 abbrev pub broken_premise : Specification → List ℕ → Option ℕ
-broken_premise spec numbers = first_from (λ premise. value_of spec.code premise (record { numbers = numbers; cell = []; names = [] }) == 0) 1
-    spec.shape.premises
+broken_premise spec numbers = first_from (is_broken spec numbers) 1 spec.shape.premises
 
 -- how many cells a vector of its own has
 abbrev pub count_of : List ℕ → ObjectKind → ℕ
@@ -55,8 +57,8 @@ count_in numbers (Some object) = count_of numbers object.kind
 -- the fill of a line, whose cell is there
 abbrev pub fill_for : Specification → List ℕ → CellLine → Result Fill ConfFault
 fill_for spec numbers cell =
-    if nat_lt cell.index (count_in numbers (slice_get spec.shape.objects cell.vector)) then Ok
-    (record { vector = cell.vector; index = cell.index; field = cell.field; value = cell.value })
+    if nat_lt cell.index (count_in numbers (slice_get spec.shape.objects cell.vector))
+    then Ok (record { vector = cell.vector; index = cell.index; field = cell.field; value = cell.value })
     else Err (faults.Line cell.line)
 
 -- the fills of lines, behind those of the lines before

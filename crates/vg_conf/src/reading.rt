@@ -1,6 +1,5 @@
 //! A configuration from its whole text.
 ghost use Rattle.std.specs.Prelude.{◌≡◌, ◌≢◌, ◌==◌, [], All, None, IfOk, IfErr, IfSome, slice_get};
-ghost use Rattle.vg_abs.specs.Expressions.{value_of};
 ghost use Rattle.vg_abs.specs.Lawful.{Holds};
 ghost use Rattle.vg_abs.specs.Shape as shapes;
 ghost use Rattle.vg_abs.specs.Opening.{IsValid};
@@ -41,7 +40,7 @@ fn values_of(alloc: Global, spec: &Spec, given: &[Option<u64>]) -> Result<Vec<u6
 
 // Whether a premise is 0.
 fn is_broken(spec: &Spec, numbers: &[u64], premise: u32) -> bool
-    ensures { result ≡ (value_of spec.now.code premise (record { numbers = numbers.now; cell = []; names = [] }) == 0) }
+    ensures { result ≡ reading.is_broken spec.now numbers.now premise }
 {
     let cell = Cell {
         fields: &[],

@@ -1,8 +1,7 @@
-use Rattle.std.proofs.Common.{◌≡◌, ◌<◌, ◌≤◌, ◌∙◌, ℕ, true, false, length, arith, rules, sym, subst, List, Some, ap}
+use Rattle.std.proofs.Common.{◌≡◌, ◌<◌, ◌≤◌, ℕ, true, false, length, arith, rules, subst, List, Some}
 use Rattle.std.specs.Prelude.{slice_get}
 use Rattle.vg_stree.specs.declared.shape.Rule.{Rule}
 use Rattle.vg_abs.specs.Lawful.{Holds}
-use Rattle.vg_conf.specs.Reading.{IsFirstBroken}
 use Rattle.vg_conf.proofs.Validity.{first_broken, one_holds, all_hold}
 use Rattle.vg_conf.proofs.reading.broken_rule.Goals as goal
 
