@@ -1,14 +1,15 @@
 -- The scope of a declaration (C11 6.2.1), as a part of the tree, without an order of looking. A block's declarations, a
 -- function's parameters and the counter of a loop end with the block, function or loop; the declarations of a file hold to
--- its end. A tag's scope begins behind the tag, any other name's behind its declarator (6.2.1 p7): so a variable's has its
--- initializer, a function's has its parameters and its body.
+-- its end, and those of a struct's members to the end of the struct: what stands behind `.` and `->` is looked up in it by
+-- typing, and isn't told here. A tag's scope begins behind the tag, a variable's behind its declarator (6.2.1 p7), so that it
+-- has the initializer. A function's begins at its own name: C11 begins it behind the parameters, among which nothing can tell.
 use Rattle.std.specs.Prelude.{◌≡◌, ℕ, ◌<◌, List, [], ◌∷◌, ◌++◌, Contains, true, option_to_list}
 use Rattle.vg_core.specs.Syntax.{Syntax, listed, parts_of}
 use Rattle.vg_core.specs.declared.tree.Kind.{Kind}
 use Rattle.vg_core.specs.declared.tree.Kind.TheVariants as nodes
 use Rattle.vg_cscope.specs.Scopes.{kind_at, declares}
 
--- what stands behind the declarator of a declaration, in it
+-- the parts of a declaration that lie in its own scope
 abbrev pub rest_of : Syntax → Kind → List ℕ
 rest_of tree (nodes.Struct tag fields attribute) = listed tree.items fields
 rest_of tree (nodes.Function is_static is_inline answer name params body) = listed tree.items params ++ body ∷ []
@@ -25,7 +26,7 @@ row_of tree (nodes.Function is_static is_inline answer name params body) = liste
 row_of tree (nodes.Block statements end) = listed tree.items statements
 row_of tree kind = []
 
--- a part with all of which the scope of a declaration begins
+-- a part with which the scope of a declaration begins: it lies in it whole
 pub data Begins (tree : Syntax) (d n : ℕ) : Type 0 where
   in_it : Contains (rest_of tree (kind_at tree d)) n → Begins tree d n
   -- parts are numbered in the order of the text

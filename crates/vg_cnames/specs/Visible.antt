@@ -1,5 +1,5 @@
 -- What a name names (C11 6.2.1 p4, 6.2.3): of the declarations in whose scopes it stands, with its spelling and in its
--- name space, the innermost. The others are hidden.
+-- name space, the innermost. The others are hidden. A `return` looks for its function so, whose spelling doesn't matter.
 use Rattle.std.specs.Prelude.{◌≡◌, ℕ, List, true, Some}
 use Rattle.vg_core.specs.Syntax.{Syntax, IsOrdered, IsUsedOnce}
 use Rattle.vg_cscope.specs.Scopes.{kind_at, standings_of}
