@@ -59,7 +59,7 @@ def unused(name, count):
 def names(name, count):
     text = ["static int f0(int a) { return a; }\n"]
     for i in range(1, count):
-        text.append(f"static int f{i}(int a{i}) {{ int b{i} = a{i}; int c{i} = b{i}; return c{i}; }}\n")
+        text.append(f"static int f{i}(int a{i}) {{ int8_t b{i} = a{i}; int8_t c{i} = b{i}; return c{i}; }}\n")
     write(name, "".join(text) + HEAD + f"return f{count - 1}(port);\n}}\n")
 
 
