@@ -1,0 +1,2 @@
+pub mod RealTables
+pub mod RealLinks
