@@ -1,14 +1,14 @@
 -- A link of the real library: what is in its containers, its table, and what its calls do to the order of its indices.
-use Rattle.std.specs.Prelude.{ℕ, ◌≡◌, ◌++◌, List, Bool, length, take, drop, reverse, refl}
-use Rattle.std.specs.FinMap.{empty, len}
+use Rattle.std.specs.Prelude.{ℕ, ◌≡◌, ◌++◌, List, Bool, length, take, drop, reverse, fold, slice_get, unwrap_or, [], Some, refl}
+use Rattle.std.specs.FinMap.{get, empty, len}
 use Rattle.std.specs.Coded.{Coded, code_by, coded×, coded_list, coded_bool, coded_ℕ}
-use Rattle.vg_map.specs.Map.{FixedMap, map_code}
-use Rattle.vg_dchain.specs.ChainState.{ChainState, IsLawful, indices}
+use Rattle.vg_map.specs.Map.{FixedMap, without_key, map_code}
+use Rattle.vg_dchain.specs.ChainState.{ChainState, IsLawful, time_at, indices}
 use Rattle.vg_vector.specs.Cells.{CellList}
 use Rattle.vg_abs.specs.Tables.{Link}
-use Rattle.vg_plain.specs.PlainTables.{time_table, cell_table}
+use Rattle.vg_plain.specs.PlainTables.{cell_table}
 use Rattle.vg_plain.specs.LinkStates.{LinkState}
-use Rattle.vg_store.specs.RealTables.{key_table, times_of}
+use Rattle.vg_store.specs.RealTables.{key_table, age_table}
 
 -- the map's keys, the chain's indices by age and those that are free, and the vector's cells
 pub record Parts : Type 0 where
@@ -33,7 +33,7 @@ link_of p = record {
   capacity = p.ages.range;
   key_length = p.keys.key_len;
   keys = key_table p.keys.indices;
-  times = time_table 0 (times_of p.ages.range p.ages.entries);
+  times = age_table p.ages.entries;
   cells = cell_table 0 p.cells.cells;
   size = len p.keys.indices;
   count = length p.ages.entries;
@@ -51,7 +51,16 @@ pub record AreLinked (p : Parts) : Type 0 where
   pub cells : length p.cells.cells ≡ p.ages.range
   pub loans : length p.cells.lent ≡ p.ages.range
   pub size : p.cells.size ≡ p.keys.key_len
+  pub long : (key : List ℕ) (index : ℕ) → get p.keys.indices key ≡ Some index → length key ≡ p.keys.key_len
   pub lawful : IsLawful p.ages
+
+-- the cell of each index that is handed out is a key that is mapped to it
+abbrev pub AreTied : FixedMap → List (ℕ × ℕ) → List (List ℕ) → Type 0
+AreTied keys ages cells = (index time : ℕ) → time_at ages index ≡ Some time → (key : List ℕ) × (slice_get cells index ≡ Some key) × (get keys.indices key ≡ Some index)
+
+-- the map without the keys in the cells of these indices
+abbrev pub without_keys : List (List ℕ) → FixedMap → List (ℕ × ℕ) → FixedMap
+without_keys cells keys ages = fold (λ left entry. without_key left (unwrap_or (slice_get cells entry.0) [])) keys ages
 
 -- so many of the oldest indices are free; the youngest of them is handed out next
 abbrev pub after_expiry : ChainState → ℕ → ChainState

@@ -26,9 +26,11 @@ impl Model for RealChain {
 impl RealChain {
     /// A chain whose indices below `range` are all free, to be handed out from 0 upwards. No other call takes memory.
     pub fn new(alloc: Global, range: u32) -> Result<RealChain, Memory>
-        ensures { IfOk result (λ made. made ≡ record { range = range; entries = []; free = range_with_len 0 range; highest = 0 }) }
+        ensures opens { IfOk result (λ made. made ≡ record { range = range; entries = []; free = range_with_len 0 range; highest = 0 }) }
+        ensures lawful { IfOk result IsLawful }
     {
         let chain = Chain::new(alloc, range)?;
+        let _handed_out = chain.count();
         Ok(RealChain { chain })
     }
 
@@ -40,6 +42,7 @@ impl RealChain {
         ensures first { IfSome result (λ i. self.old.free ≡ i ∷ self.new.free) }
         ensures free { IfSome result (λ i. IsFree self.old i) }
         ensures allocated { IfSome result (λ i. self.new ≡ after_allocation self.old i now) }
+        ensures lawful { IsLawful self.new }
     {
         allocate::<Brand>(&mut self.chain, now, Blank::new(1))
     }
@@ -48,7 +51,8 @@ impl RealChain {
     pub fn rejuvenate(&mut self, index: u32, now: u64)
         requires allocated { IsSome (time_at self.old.entries index) }
         requires time { self.old.highest ≤ now }
-        ensures { self.new ≡ after_rejuvenation self.old index now }
+        ensures rejuvenated { self.new ≡ after_rejuvenation self.old index now }
+        ensures lawful { IsLawful self.new }
     {
         rejuvenate::<Brand>(&mut self.chain, index, now, Blank::new(1));
     }
@@ -56,7 +60,8 @@ impl RealChain {
     /// Takes a handed-out index back. It is the next to be handed out.
     pub fn free(&mut self, index: u32)
         requires { IsSome (time_at self.old.entries index) }
-        ensures { self.new ≡ after_freeing self.old index }
+        ensures freed { self.new ≡ after_freeing self.old index }
+        ensures lawful { IsLawful self.new }
     {
         free::<Brand>(&mut self.chain, index, Blank::new(1));
     }
@@ -66,6 +71,7 @@ impl RealChain {
         ensures oldest { result ≡ oldest_below before self.old.entries }
         ensures freed { IfSome result (λ i. self.new ≡ after_freeing self.old i) }
         ensures kept { IfNone result (self.new ≡ self.old) }
+        ensures lawful { IsLawful self.new }
     {
         expire_one::<Brand>(&mut self.chain, before, Blank::new(1))
     }
@@ -98,6 +104,8 @@ impl RealChain {
     }
 }
 
+// In what follows the count is asked for, since with it a chain tells that it is lawful.
+
 fn allocate<L: Ledger>(chain: &mut Chain, now: u64, blank: Blank) -> Option<u32>
     requires name { blank.name ≡ L.name }
     requires parts { blank.parts ≡ L.parts }
@@ -108,8 +116,11 @@ fn allocate<L: Ledger>(chain: &mut Chain, now: u64, blank: Blank) -> Option<u32>
     ensures first { IfSome result (λ i. chain.old.free ≡ i ∷ chain.new.free) }
     ensures free { IfSome result (λ i. IsFree chain.old i) }
     ensures allocated { IfSome result (λ i. chain.new ≡ after_allocation chain.old i now) }
+    ensures lawful { IsLawful chain.new }
 {
-    chain.allocate(now, &mut Steps::<L>::new(blank))
+    let allocated = chain.allocate(now, &mut Steps::<L>::new(blank));
+    let _handed_out = chain.count();
+    allocated
 }
 
 fn rejuvenate<L: Ledger>(chain: &mut Chain, index: u32, now: u64, blank: Blank)
@@ -118,9 +129,11 @@ fn rejuvenate<L: Ledger>(chain: &mut Chain, index: u32, now: u64, blank: Blank)
     requires backed { 0 < blank.parts }
     requires allocated { IsSome (time_at chain.old.entries index) }
     requires time { chain.old.highest ≤ now }
-    ensures { chain.new ≡ after_rejuvenation chain.old index now }
+    ensures rejuvenated { chain.new ≡ after_rejuvenation chain.old index now }
+    ensures lawful { IsLawful chain.new }
 {
     chain.rejuvenate(index, now, &mut Steps::<L>::new(blank));
+    let _handed_out = chain.count();
 }
 
 fn free<L: Ledger>(chain: &mut Chain, index: u32, blank: Blank)
@@ -128,9 +141,11 @@ fn free<L: Ledger>(chain: &mut Chain, index: u32, blank: Blank)
     requires parts { blank.parts ≡ L.parts }
     requires backed { 0 < blank.parts }
     requires allocated { IsSome (time_at chain.old.entries index) }
-    ensures { chain.new ≡ after_freeing chain.old index }
+    ensures freed { chain.new ≡ after_freeing chain.old index }
+    ensures lawful { IsLawful chain.new }
 {
     chain.free(index, &mut Steps::<L>::new(blank));
+    let _handed_out = chain.count();
 }
 
 fn expire_one<L: Ledger>(chain: &mut Chain, before: u64, blank: Blank) -> Option<u32>
@@ -140,6 +155,9 @@ fn expire_one<L: Ledger>(chain: &mut Chain, before: u64, blank: Blank) -> Option
     ensures oldest { result ≡ oldest_below before chain.old.entries }
     ensures freed { IfSome result (λ i. chain.new ≡ after_freeing chain.old i) }
     ensures kept { IfNone result (chain.new ≡ chain.old) }
+    ensures lawful { IsLawful chain.new }
 {
-    chain.expire_one(before, &mut Steps::<L>::new(blank))
+    let expired = chain.expire_one(before, &mut Steps::<L>::new(blank));
+    let _handed_out = chain.count();
+    expired
 }

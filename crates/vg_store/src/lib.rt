@@ -2,9 +2,13 @@
 #![tactic(auto)]
 
 mod chain;
+mod expiry;
+mod link;
 mod routes;
+mod telling;
 mod vector;
 
 pub use chain::RealChain;
+pub use link::RealLink;
 pub use routes::RealRoutes;
 pub use vector::RealVector;

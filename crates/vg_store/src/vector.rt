@@ -51,6 +51,13 @@ impl RealVector {
         Ok(RealVector { count, cells })
     }
 
+    /// How many cells there are.
+    pub fn count(&self) -> u32
+        ensures { result ≡ length self.now.cells }
+    {
+        self.count
+    }
+
     /// The bytes of a cell that is there.
     pub fn cell(&self, index: u32) -> &[u8]
         requires { index < length self.now.cells }
