@@ -1,16 +1,19 @@
 -- What a call on one of its containers makes of a link.
-use Rattle.std.proofs.Common.{◌≡◌, ℕ, suc, ◌+◌, ◌-◌, ◌<◌, List, [], ◌∷◌, ◌++◌, length, set, Option, Some, None, slice_get, refl, sym, ◌∙◌, ap, arith, Bool, true, false}
-use Rattle.std.specs.Prelude.{IsSome}
+use Rattle.std.proofs.Common.{◌≡◌, ℕ, suc, ◌+◌, ◌-◌, ◌<◌, List, [], ◌∷◌, ◌++◌, length, set, Option, Some, None, slice_get, refl, sym, ◌∙◌, ap, arith, Bool, true, false, cond}
+use Rattle.std.specs.Prelude.{IsSome, IfSome}
+use Rattle.std.specs.Option.{option_map}
 use Rattle.std.specs.FinMap.{get, insert, remove}
+use Rattle.std.specs.Str.{bytes_eq}
 use Rattle.std.proofs.lemmas.List.{length-append, length_push}
 use Rattle.vg_map.specs.Map as maps
-use Rattle.vg_dchain.specs.ChainState.{ChainState, IsLawful, time_at, others, after_allocation, after_rejuvenation, after_freeing}
+use Rattle.vg_dchain.specs.ChainState.{ChainState, IsFree, IsLawful, time_at, others, after_allocation, after_rejuvenation, after_freeing}
 use Rattle.vg_vector.specs.Cells as cells
 use Rattle.vg_abs.specs.Effects.{with_key, without_key, with_index, with_time, without_index, with_cell}
 use Rattle.vg_plain.specs.LinkStates.{with_link, with_lent}
+use Rattle.vg_plain.proofs.ListPlaces.{none_some, bytes_true}
 use Rattle.vg_plain.proofs.Places.{cell_is, cell_set}
-use Rattle.vg_store.specs.RealLinks.{Parts, link_of, seen}
-use Rattle.vg_store.proofs.TableLaws.{table_put, table_erased, size_put, size_erased, ages_pushed, ages_freed, ages_moved}
+use Rattle.vg_store.specs.RealLinks.{Parts, AreLinked, link_of, seen}
+use Rattle.vg_store.proofs.TableLaws.{age_is, index_put, index_erased, table_put, table_erased, size_put, size_erased, ages_pushed, ages_freed, ages_moved}
 
 pub put_seen : (p : Parts) (key : List ℕ) (index : ℕ) → get p.keys.indices key ≡ None → seen (record p { keys = maps.with_key p.keys key index }) ≡ with_link (seen p) (with_key (link_of p) key index)
 put_seen p key index absent = rw (table_put p.keys.indices key index, size_put p.keys.indices key index absent) refl
@@ -39,3 +42,62 @@ cell_seen p i = cell_is p.cells.cells i
 
 pub store_seen : (p : Parts) (i : ℕ) (bytes : List ℕ) → i < length p.cells.cells → seen (record p { cells = cells.with_cell p.cells i bytes }) ≡ with_link (seen p) (with_cell (link_of p) i bytes)
 store_seen p i bytes inside = rw (cell_set p.cells.cells i bytes inside) refl
+
+-- the parts stay of one link
+long_put : (length_is : ℕ) (b : Bool) (key other : List ℕ) (index new : ℕ) (found : Option ℕ) → length key ≡ length_is → (b ≡ true → other ≡ key) → (found ≡ Some index → length other ≡ length_is) → cond b (Some new) found ≡ Some index → length other ≡ length_is
+long_put length_is true key other index new found long same was is = ap (λ (k : List ℕ). length k) (same refl) ∙ long
+long_put length_is false key other index new found long same was is = was is
+
+long_erased : (length_is : ℕ) (b : Bool) (other : List ℕ) (index : ℕ) (found : Option ℕ) → (found ≡ Some index → length other ≡ length_is) → cond b None found ≡ Some index → length other ≡ length_is
+long_erased length_is true other index found was is = absurd (none_some index is)
+long_erased length_is false other index found was is = was is
+
+pub put_linked : (p : Parts) (key : List ℕ) (index : ℕ) → AreLinked p → length key ≡ p.keys.key_len → AreLinked (record p { keys = maps.with_key p.keys key index })
+put_linked p key index linked long = record {
+  room = linked.room;
+  cells = linked.cells;
+  loans = linked.loans;
+  size = linked.size;
+  long = λ other at is. long_put p.keys.key_len (bytes_eq other key) key other at index (get p.keys.indices other) long (bytes_true other key) (linked.long other at) (sym (index_put p.keys.indices key other index) ∙ is);
+  lawful = linked.lawful;
+}
+
+pub erase_linked : (p : Parts) (key : List ℕ) → AreLinked p → AreLinked (record p { keys = maps.without_key p.keys key })
+erase_linked p key linked = record {
+  room = linked.room;
+  cells = linked.cells;
+  loans = linked.loans;
+  size = linked.size;
+  long = λ other at is. long_erased p.keys.key_len (bytes_eq key other) other at (get p.keys.indices other) (linked.long other at) (sym (index_erased p.keys.indices key other) ∙ is);
+  lawful = linked.lawful;
+}
+
+pub ages_linked : (p : Parts) (ages : ChainState) → AreLinked p → ages.range ≡ p.ages.range → IsLawful ages → AreLinked (record p { ages = ages })
+ages_linked p ages linked same lawful = record {
+  room = linked.room ∙ sym same;
+  cells = linked.cells ∙ sym same;
+  loans = linked.loans ∙ sym same;
+  size = linked.size;
+  long = linked.long;
+  lawful = lawful;
+}
+
+pub cells_linked : (p : Parts) (now : cells.CellList) → AreLinked p → length now.cells ≡ length p.cells.cells → length now.lent ≡ length p.cells.lent → now.size ≡ p.cells.size → AreLinked (record p { cells = now })
+cells_linked p now linked cells loans size = record {
+  room = linked.room;
+  cells = cells ∙ linked.cells;
+  loans = loans ∙ linked.loans;
+  size = size ∙ linked.size;
+  long = linked.long;
+  lawful = linked.lawful;
+}
+
+-- an allocation
+pub free_time : (p : Parts) (i : Option ℕ) → IfSome i (λ index. IsFree p.ages index) → IfSome i (λ index. get (link_of p).times index ≡ None)
+free_time p None free = tt
+free_time p (Some i) free = age_is p.ages.entries i ∙ ap (λ (o : Option ℕ). option_map Some o) free.not_handed
+
+pub handed_seen : (p : Parts) (ages : ChainState) (now : ℕ) (i : Option ℕ) → IfSome i (λ index. IsFree p.ages index) → IfSome i (λ index. ages ≡ after_allocation p.ages index now) →
+    IfSome i (λ index. seen (record p { ages = ages }) ≡ with_link (seen p) (with_index (link_of p) index now))
+handed_seen p ages now None free is = tt
+handed_seen p ages now (Some i) free is = rw is (allocate_seen p i now free.not_handed)
