@@ -1,5 +1,6 @@
 //! Expiry, the oldest first.
-ghost use Rattle.std.specs.Prelude.{◌≡◌, ◌≤◌, ◌<◌, ℕ, length, take, drop, All};
+ghost use Rattle.std.specs.Prelude.{◌≡◌, ◌≤◌, ◌<◌, ◌+◌, ℕ, length, take, drop, All};
+ghost use Rattle.std.specs.FinMap.{len};
 ghost use Rattle.vg_dchain.specs.ChainState.{IsLawful};
 ghost use Rattle.vg_store.specs.RealLinks.{AreTied, without_keys, after_expiry};
 
@@ -21,6 +22,7 @@ pub fn expire_oldest(
     ensures ages { ages.new ≡ after_expiry ages.old result }
     ensures lawful { IsLawful ages.new }
     ensures keys { keys.new ≡ without_keys cells.now.cells keys.old (take result ages.old.entries) }
+    ensures counted { len keys.new.indices + result ≡ len keys.old.indices }
     ensures some { result ≤ length ages.old.entries }
     ensures early { All (λ entry. entry.1 < before) (take result ages.old.entries) }
     ensures late { All (λ entry. before ≤ entry.1) (drop result ages.old.entries) }
