@@ -1,14 +1,18 @@
 -- Times by index.
-use Rattle.std.proofs.Common.{◌≡◌, ℕ, zero, suc, ◌+◌, ◌<◌, ◌≤◌, List, [], ◌∷◌, length, set, get_or, replicate, Some, None, Option, refl, sym, ◌∙◌, ap, arith, Bool, true, false, cond, inl, inr}
+use Rattle.std.proofs.Common.{◌≡◌, ℕ, zero, suc, ◌+◌, ◌<◌, ◌≤◌, List, [], ◌∷◌, length, set, get_or, replicate, Some, None, Option, refl, sym, ◌∙◌, ap, subst, arith, Bool, true, false, cond, inl, inr}
 use Rattle.std.specs.Prelude.{slice_get, count_by, nat_lt, ◌==◌}
 use Rattle.std.specs.Option.{option_map}
 use Rattle.std.proofs.lemmas.Bool.{cases_lt}
 use Rattle.std.proofs.lemmas.List.{length-set, length-replicate, get_or-replicate}
 use Rattle.std.proofs.lemmas.List.Sums.{sum_by-cons, sum_by-set}
 use Rattle.std.proofs.lemmas.Option.{slice_get-get_or, slice_get_past, get_or_from_slice_get}
+use Rattle.std.specs.FinMap.{get}
+use Rattle.vg_abs.specs.Tables.{TimeTable}
+use Rattle.vg_abs.specs.Agreement.{BothTell}
+use Rattle.vg_abs.specs.Answers.{listed_or_none}
 use Rattle.vg_dchain.specs.Indices.{IsAbsent, IsDistinct, AllBelow}
 use Rattle.vg_dchain.specs.ChainState.{time_at, indices}
-use Rattle.vg_plain.specs.PlainTables.{time_table}
+use Rattle.vg_plain.specs.PlainTables.{time_table, joined}
 use Rattle.vg_plain.specs.Expiring.{is_early}
 use Rattle.vg_plain.proofs.ListPlaces.{set_at}
 use Rattle.vg_plain.proofs.Places.{same_numbers, time_is, listed}
@@ -63,3 +67,19 @@ early_times before range (e ∷ es) below distinct =
     let none : f (get_or (times_of range es) e.0 None) ≡ 0 = ap f free in
     let rest = early_times before range es below.1 distinct.1 in
     omega (arith, one, none, rest, sum_by-cons (λ (entry : ℕ × ℕ). cond (nat_lt entry.1 before) 1 0) e es)
+
+-- times tell by index what they tell by list
+joined_at : (range : ℕ) (es : List (ℕ × ℕ)) (i : ℕ) → AllBelow range (indices es) → i < range → joined (slice_get (times_of range es) i) ≡ time_at es i
+joined_at range es i below less = ap joined (times_at range es i below less)
+
+pub times_told : (range : ℕ) (es : List (ℕ × ℕ)) (full : Bool) (table : TimeTable) → AllBelow range (indices es) → ((i : ℕ) → i < range → BothTell (Some (time_at es i)) (listed_or_none full (get table i))) →
+    (i : ℕ) → i < length (times_of range es) → BothTell (Some (joined (slice_get (times_of range es) i))) (listed_or_none full (get table i))
+times_told range es full table below told i less =
+    let inside : i < range = omega (arith, less, length_times range es) in
+    subst (λ (o : Option ℕ). BothTell (Some o) (listed_or_none full (get table i))) (sym (joined_at range es i below inside)) (told i inside)
+
+pub told_times : (range : ℕ) (es : List (ℕ × ℕ)) (full : Bool) (table : TimeTable) → AllBelow range (indices es) →
+    ((i : ℕ) → i < length (times_of range es) → BothTell (Some (joined (slice_get (times_of range es) i))) (listed_or_none full (get table i))) →
+    (i : ℕ) → i < range → BothTell (Some (time_at es i)) (listed_or_none full (get table i))
+told_times range es full table below told i inside =
+    subst (λ (o : Option ℕ). BothTell (Some o) (listed_or_none full (get table i))) (joined_at range es i below inside) (told i (omega (arith, inside, length_times range es)))
