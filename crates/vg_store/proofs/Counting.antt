@@ -15,6 +15,9 @@ use Rattle.vg_abs.specs.Tables.{KeyTable}
 use Rattle.vg_abs.specs.Agreement.{BothTell}
 use Rattle.vg_plain.proofs.ListPlaces.{none_some, bytes_same, bytes_true, ties}
 use Rattle.vg_plain.proofs.KeySlots.{bytes_cases}
+use Rattle.vg_abs.specs.Answers.{listed_or_none}
+use Rattle.vg_plain.proofs.TellingLaws.{told_all, told_full}
+use Rattle.vg_store.specs.RealTables.{indexed}
 use Rattle.vg_store.proofs.TableLaws.{index_erased, size_erased}
 
 abbrev pub Answers : Type 0
@@ -24,8 +27,8 @@ abbrev pub in_list : List ℕ → Answers → Option (Option ℕ)
 in_list key es = find (slice_cmp nat_cmp) key es
 
 -- how many keys have an index
-abbrev pub indexed : Answers → ℕ
-indexed es = count_by (λ entry. is_some entry.1) es
+abbrev pub listed_with : Answers → ℕ
+listed_with es = count_by (λ entry. is_some entry.1) es
 
 -- no key stands twice
 abbrev pub StandOnce : Answers → Type 0
@@ -74,9 +77,9 @@ abbrev pub ListsAll : Indices → Answers → Type 0
 ListsAll m es = (key : List ℕ) → in_list key es ≡ None → get m key ≡ None
 
 pub record Counts (m : Indices) (es : Answers) : Type 0 where
-  pub few : indexed es ≤ len m
-  pub to : len m ≤ indexed es → ListsAll m es
-  pub from : ListsAll m es → len m ≤ indexed es
+  pub few : listed_with es ≤ len m
+  pub to : len m ≤ listed_with es → ListsAll m es
+  pub from : ListsAll m es → len m ≤ listed_with es
 
 told_none : (index : Option ℕ) (listed : Option (Option ℕ)) → listed ≡ None → BothTell (Some index) listed
 told_none index None is = tt
@@ -116,7 +119,7 @@ told_is index answer (Some x) is told = told ∙ ap (λ o. unwrap_or o index) is
 -- the first key has no index
 absent_first : (m : Indices) (key : List ℕ) (es : Answers) → Tells m ((key, None) ∷ es) → in_list key es ≡ None → Counts m es → Counts m ((key, None) ∷ es)
 absent_first m key es told once rest =
-    let same : indexed ((key, None) ∷ es) ≡ indexed es = omega (arith, sum_by-cons (λ (entry : List ℕ × Option ℕ). cond (is_some entry.1) 1 0) (key, None) es) in
+    let same : listed_with ((key, None) ∷ es) ≡ listed_with es = omega (arith, sum_by-cons (λ (entry : List ℕ × Option ℕ). cond (is_some entry.1) 1 0) (key, None) es) in
     let absent : get m key ≡ None = told_is (get m key) None (in_list key ((key, None) ∷ es)) (listed_here (key, None) es) (told key) in
     record {
       few = (let less = rest.few in omega (arith, same));
@@ -133,7 +136,7 @@ absent_first m key es told once rest =
 -- the first key has one
 indexed_first : (m : Indices) (key : List ℕ) (i : ℕ) (es : Answers) → Tells m ((key, Some i) ∷ es) → in_list key es ≡ None → Counts (remove m key) es → Counts m ((key, Some i) ∷ es)
 indexed_first m key i es told once rest =
-    let one : indexed ((key, Some i) ∷ es) ≡ suc (indexed es) = omega (arith, sum_by-cons (λ (entry : List ℕ × Option ℕ). cond (is_some entry.1) 1 0) (key, Some i) es) in
+    let one : listed_with ((key, Some i) ∷ es) ≡ suc (listed_with es) = omega (arith, sum_by-cons (λ (entry : List ℕ × Option ℕ). cond (is_some entry.1) 1 0) (key, Some i) es) in
     let mapped : get m key ≡ Some i = told_is (get m key) (Some i) (in_list key ((key, Some i) ∷ es)) (listed_here (key, Some i) es) (told key) in
     let size = size_erased m key (ap is_some mapped) in
     let some = some_keys m key (ap is_some mapped) in
@@ -156,3 +159,9 @@ counts ((key, Some i) ∷ es) m once told = indexed_first m key i es told once.0
 
 pub told_counts : (m : Indices) (table : KeyTable) → ((key : List ℕ) → BothTell (Some (get m key)) (get table key)) → Counts m (entries table)
 told_counts m table told = counts (entries table) m (sorted_once (entries table) (entries_sorted table)) (λ key. subst (λ (l : Option (Option ℕ)). BothTell (Some (get m key)) l) (get-entries table key) (told key))
+
+pub told_if : (m : Indices) (table : KeyTable) → ((key : List ℕ) → BothTell (Some (get m key)) (get table key)) → len m ≤ indexed table → (key : List ℕ) → BothTell (Some (get m key)) (listed_or_none true (get table key))
+told_if m table told many key = told_all true (get m key) (get table key) (told key) (λ _ none. (told_counts m table told).to many key (sym (get-entries table key) ∙ none))
+
+pub told_then : (m : Indices) (table : KeyTable) → ((key : List ℕ) → BothTell (Some (get m key)) (get table key)) → ((key : List ℕ) → BothTell (Some (get m key)) (listed_or_none true (get table key))) → len m ≤ indexed table
+told_then m table told all = (told_counts m table told).from (λ key none. told_full (get m key) (get table key) (all key) (get-entries table key ∙ none))

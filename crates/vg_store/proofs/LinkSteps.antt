@@ -1,19 +1,25 @@
 -- What a call on one of its containers makes of a link.
-use Rattle.std.proofs.Common.{◌≡◌, ℕ, suc, ◌+◌, ◌-◌, ◌<◌, List, [], ◌∷◌, ◌++◌, length, set, Option, Some, None, slice_get, refl, sym, ◌∙◌, ap, arith, Bool, true, false, cond}
+use Rattle.std.proofs.Common.{◌≡◌, ℕ, suc, ◌+◌, ◌-◌, ◌<◌, List, [], ◌∷◌, ◌++◌, length, set, replicate, Option, Some, None, slice_get, refl, sym, ◌∙◌, ap, arith, Bool, true, false, cond}
 use Rattle.std.specs.Prelude.{IsSome, IfSome}
 use Rattle.std.specs.Option.{option_map}
-use Rattle.std.specs.FinMap.{get, insert, remove}
+use Rattle.std.specs.FinMap.{get, insert, remove, empty, len, get-empty, len-empty}
+use Rattle.std.specs.List.{range_with_len}
+use Rattle.std.specs.Ordering.{nat_cmp}
+use Rattle.std.specs.Cmp.Lexicographic.{slice_cmp}
+use Rattle.vg_abs.specs.Opening.{opening_link}
+use Rattle.vg_plain.proofs.KeySlots.{same_keys}
+use Rattle.vg_store.specs.RealTables.{key_table}
 use Rattle.std.specs.Str.{bytes_eq}
-use Rattle.std.proofs.lemmas.List.{length-append, length_push}
+use Rattle.std.proofs.lemmas.List.{length_push, length-replicate}
 use Rattle.vg_map.specs.Map as maps
 use Rattle.vg_dchain.specs.ChainState.{ChainState, IsFree, IsLawful, time_at, others, after_allocation, after_rejuvenation, after_freeing}
 use Rattle.vg_vector.specs.Cells as cells
 use Rattle.vg_abs.specs.Effects.{with_key, without_key, with_index, with_time, without_index, with_cell}
 use Rattle.vg_plain.specs.LinkStates.{with_link, with_lent}
 use Rattle.vg_plain.proofs.ListPlaces.{none_some, bytes_true}
-use Rattle.vg_plain.proofs.Places.{cell_is, cell_set}
+use Rattle.vg_plain.proofs.Places.{cell_is, cell_set, zeros}
 use Rattle.vg_store.specs.RealLinks.{Parts, AreLinked, link_of, seen}
-use Rattle.vg_store.proofs.TableLaws.{age_is, index_put, index_erased, table_put, table_erased, size_put, size_erased, ages_pushed, ages_freed, ages_moved}
+use Rattle.vg_store.proofs.TableLaws.{key_is, age_is, index_put, index_erased, table_put, table_erased, size_put, size_erased, ages_pushed, ages_freed, ages_moved}
 
 pub put_seen : (p : Parts) (key : List ℕ) (index : ℕ) → get p.keys.indices key ≡ None → seen (record p { keys = maps.with_key p.keys key index }) ≡ with_link (seen p) (with_key (link_of p) key index)
 put_seen p key index absent = rw (table_put p.keys.indices key index, size_put p.keys.indices key index absent) refl
@@ -101,3 +107,30 @@ pub handed_seen : (p : Parts) (ages : ChainState) (now : ℕ) (i : Option ℕ) �
     IfSome i (λ index. seen (record p { ages = ages }) ≡ with_link (seen p) (with_index (link_of p) index now))
 handed_seen p ages now None free is = tt
 handed_seen p ages now (Some i) free is = rw is (allocate_seen p i now free.not_handed)
+
+-- a link at the start
+pub record Opens (p : Parts) (capacity key_length : ℕ) : Type 0 where
+  pub keys : p.keys ≡ maps.empty_map capacity key_length
+  pub ages : p.ages ≡ record { range = capacity; entries = []; free = range_with_len 0 capacity; highest = 0 }
+  pub lawful : IsLawful p.ages
+  pub size : p.cells.size ≡ key_length
+  pub zeros : p.cells.cells ≡ replicate capacity (replicate key_length 0)
+  pub free : p.cells.lent ≡ replicate capacity false
+
+pub opens_linked : (p : Parts) (capacity key_length : ℕ) → Opens p capacity key_length → AreLinked p
+opens_linked p capacity key_length opens =
+    let range : p.ages.range ≡ capacity = ap (λ (a : ChainState). a.range) opens.ages in
+    record {
+      room = ap (λ (m : maps.FixedMap). m.capacity) opens.keys ∙ sym range;
+      cells = ap length opens.zeros ∙ length-replicate capacity (replicate key_length 0) ∙ sym range;
+      loans = ap length opens.free ∙ length-replicate capacity false ∙ sym range;
+      size = opens.size ∙ sym (ap (λ (m : maps.FixedMap). m.key_len) opens.keys);
+      long = λ key index is. absurd (none_some index (sym (get-empty (slice_cmp nat_cmp) key) ∙ sym (ap (λ (m : maps.FixedMap). get m.indices key) opens.keys) ∙ is));
+      lawful = opens.lawful;
+    }
+
+no_keys : key_table empty ≡ empty
+no_keys = same_keys _ _ (λ key. key_is empty key ∙ ap (λ (o : Option ℕ). option_map Some o) (get-empty (slice_cmp nat_cmp) key) ∙ sym (get-empty (slice_cmp nat_cmp) key))
+
+pub opens_seen : (p : Parts) (capacity key_length : ℕ) → Opens p capacity key_length → seen p ≡ record { link = opening_link capacity key_length; lent = replicate capacity false }
+opens_seen p capacity key_length opens = rw (opens.keys, opens.ages, opens.zeros, opens.free, no_keys, len-empty (slice_cmp nat_cmp) ℕ, zeros capacity key_length) refl

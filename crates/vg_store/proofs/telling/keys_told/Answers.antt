@@ -1,20 +1,18 @@
-use Rattle.std.proofs.Common.{ℕ, ◌≡◌, ◌∙◌, sym, ap, map, subst, refl, arith, List, Option, Some, None, true, false, rules}
-use Rattle.std.specs.Ordering.{nat_cmp}
-use Rattle.std.specs.Cmp.Lexicographic.{slice_cmp}
-use Rattle.std.specs.FinMap.{get, find, get-entries}
+use Rattle.std.proofs.Common.{◌≡◌, ◌≤◌, ℕ, sym, subst, true, rules}
+use Rattle.std.specs.FinMap.{get, entries, get-entries}
 use Rattle.vg_abs.specs.Agreement.{BothTell}
-use Rattle.vg_plain.proofs.StateLaws.{not_missed}
-use Rattle.vg_plain.proofs.TellingLaws.{told_none, told_more}
+use Rattle.vg_abs.specs.Answers.{listed_or_none}
+use Rattle.vg_plain.proofs.TellingLaws.{told_all, told_part, told_full}
+use Rattle.vg_store.specs.RealTables.{indexed}
+use Rattle.vg_store.proofs.Counting.{told_if, told_then}
 use Rattle.vg_store.proofs.telling.keys_told.Goals as goal
 
-pub loop-key-init : goal.loop-key-init
-loop-key-init c = ?
-
-pub loop-key-preserved : goal.loop-key-preserved
-loop-key-preserved c = ?
-
-pub returns-then-ne : goal.returns-then-ne
-returns-then-ne c = ?
-
 pub returns : goal.returns
-returns c = ?
+returns c =
+    let yes : c.are_listed.result ≡ true = search rules in
+    let full : c.args.full ≡ true = search rules in
+    let told = c.are_listed.ensures.0 yes in
+    rw full (
+      λ all key. told_if c.args.keys.now.indices c.args.table.now told (subst (λ (n : ℕ). n ≤ indexed c.args.table.now) c.size.ensures.size (c.lists.ensures.0 all)) key,
+      λ agree. c.lists.ensures.1 (subst (λ (n : ℕ). n ≤ indexed c.args.table.now) (sym c.size.ensures.size) (told_then c.args.keys.now.indices c.args.table.now told agree)),
+    )
