@@ -1,5 +1,5 @@
 -- Two tables of which one tells what the other does: it lists all keys where it lists as many.
-use Rattle.std.proofs.Common.{T, ◌≡◌, ℕ, zero, suc, ◌+◌, ◌<◌, ◌≤◌, ◌≢◌, List, [], ◌∷◌, length, Some, None, Option, refl, sym, ◌∙◌, ap, subst, arith, Bool, true, false, cond, inl, inr}
+use Rattle.std.proofs.Common.{T, ◌≡◌, ℕ, zero, suc, ◌+◌, ◌-◌, ◌<◌, ◌≤◌, ◌≢◌, List, [], ◌∷◌, length, Some, None, Option, refl, sym, ◌∙◌, ap, subst, arith, Bool, true, false, cond, inl, inr}
 use Rattle.std.specs.Prelude.{◌⊎◌, ◌&&◌, is_some, IsSome, count_by, unwrap_or}
 use Rattle.std.specs.Str.{bytes_eq}
 use Rattle.std.specs.Ordering.{nat_cmp, is_lt, is_eq, eq_by_cmp}
@@ -165,3 +165,28 @@ told_if m table told many key = told_all true (get m key) (get table key) (told 
 
 pub told_then : (m : Indices) (table : KeyTable) → ((key : List ℕ) → BothTell (Some (get m key)) (get table key)) → ((key : List ℕ) → BothTell (Some (get m key)) (listed_or_none true (get table key))) → len m ≤ indexed table
 told_then m table told all = (told_counts m table told).from (λ key none. told_full (get m key) (get table key) (all key) (get-entries table key ∙ none))
+
+-- one answer is counted
+pub record Counted (count total left : ℕ) (rest : Answers) : Type 0 where
+  pub fewer : listed_with rest ≤ total
+  pub left_is : left ≡ count - (total - listed_with rest)
+
+counted_none : (count total left next : ℕ) (key : List ℕ) (rest : Answers) → Counted count total left ((key, None) ∷ rest) → next ≡ left → Counted count total next rest
+counted_none count total left next key rest c is =
+    let same : listed_with ((key, None) ∷ rest) ≡ listed_with rest = omega (arith, sum_by-cons (λ (entry : List ℕ × Option ℕ). cond (is_some entry.1) 1 0) (key, None) rest) in
+    record { fewer = omega (arith, same, c.fewer); left_is = is ∙ c.left_is ∙ ap (λ (k : ℕ). count - (total - k)) same }
+
+counted_some : (count total left next i : ℕ) (key : List ℕ) (rest : Answers) → Counted count total left ((key, Some i) ∷ rest) → next ≡ left - 1 → Counted count total next rest
+counted_some count total left next i key rest c is =
+    let one : listed_with ((key, Some i) ∷ rest) ≡ suc (listed_with rest) = omega (arith, sum_by-cons (λ (entry : List ℕ × Option ℕ). cond (is_some entry.1) 1 0) (key, Some i) rest) in
+    record { fewer = omega (arith, one, c.fewer); left_is = omega (arith, one, c.fewer, c.left_is, is) }
+
+pub counted_step : (count total left next : ℕ) (key : List ℕ) (answer : Option ℕ) (rest : Answers) → Counted count total left ((key, answer) ∷ rest) → next ≡ cond (is_some answer) (left - 1) left → Counted count total next rest
+counted_step count total left next key None rest c is = counted_none count total left next key rest c is
+counted_step count total left next key (Some i) rest c is = counted_some count total left next i key rest c is
+
+pub counted_start : (count : ℕ) (es : Answers) (total : ℕ) → listed_with es ≡ total → Counted count total count es
+counted_start count es total is = record { fewer = omega (arith, is); left_is = omega (arith, is) }
+
+pub counted_end : (count total left : ℕ) → Counted count total left [] → (left ≡ 0 → count ≤ total) × (count ≤ total → left ≡ 0)
+counted_end count total left c = (λ none. omega (arith, c.left_is), λ less. omega (arith, c.left_is))
