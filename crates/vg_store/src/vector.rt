@@ -67,14 +67,13 @@ impl RealVector {
         self.cells.cell(index)
     }
 
-    /// Bytes are written into a cell, from a place on.
-    pub fn write(&mut self, index: u32, from: u32, bytes: &[u8])
+    /// A cell holds these bytes.
+    pub fn fill(&mut self, index: u32, bytes: &[u8])
         requires inside { index < length self.old.cells }
-        requires within { (cell : List ℕ) → slice_get self.old.cells index ≡ Some cell → from + length bytes.now ≤ length cell }
-        ensures { (cell : List ℕ) → slice_get self.old.cells index ≡ Some cell →
-            self.new ≡ with_cell self.old index (take from cell ++ bytes.now ++ drop (from + length bytes.now) cell) }
+        requires whole { length bytes.now ≡ self.old.size }
+        ensures { self.new ≡ with_cell self.old index bytes.now }
     {
-        write_cell(&mut self.cells, index, from, bytes);
+        self.cells.cell_mut(index).copy_from_slice(bytes);
     }
 
     /// Lends a cell that isn't lent.
