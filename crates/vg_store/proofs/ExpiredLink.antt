@@ -4,7 +4,6 @@ use Rattle.std.specs.Prelude.{All, slice_get, unwrap_or, nat_lt, ◌&&◌, ◌||
 use Rattle.std.specs.List.{list_any}
 use Rattle.std.specs.Option.{option_map}
 use Rattle.std.specs.Str.{bytes_eq}
-use Rattle.std.specs.Ordering.{nat_cmp}
 use Rattle.std.specs.Cmp.{nat_cmp_total}
 use Rattle.std.specs.Cmp.Lexicographic.{nat_list_cmp_total}
 use Rattle.std.specs.FinMap.{get, len, entries, nat_cmp-IsAntisymmetric, slice_cmp-IsAntisymmetric}
@@ -15,11 +14,9 @@ use Rattle.vg_map.specs.Map.{FixedMap, without_key}
 use Rattle.vg_dchain.specs.Indices.{IsDistinct, AllBelow}
 use Rattle.vg_dchain.specs.ChainState.{ChainState, IsLawful, time_at, indices}
 use Rattle.vg_dchain.proofs.IndexLemmas.{IsDistinct-front, AllBelow-front}
-use Rattle.vg_abs.specs.Tables.{Link}
-use Rattle.vg_abs.specs.Answers.{time_of, is_before, count_before}
+use Rattle.vg_abs.specs.Answers.{is_before, count_before}
 use Rattle.vg_abs.specs.Effects.{without, expires, is_key_of, key_expires, expired}
 use Rattle.vg_abs.proofs.Forgetting.{forgets}
-use Rattle.vg_plain.specs.Expiring.{is_early}
 use Rattle.vg_plain.specs.LinkStates.{with_link}
 use Rattle.vg_plain.proofs.ListPlaces.{some_is, none_some, bytes_same}
 use Rattle.vg_plain.proofs.KeySlots.{same_keys}

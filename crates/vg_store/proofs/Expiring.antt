@@ -1,6 +1,6 @@
 -- Expiry of the oldest indices, one by one.
-use Rattle.std.proofs.Common.{◌≡◌, ℕ, zero, suc, ◌+◌, ◌<◌, ◌≤◌, ◌≢◌, List, [], ◌∷◌, ◌++◌, length, map, take, drop, Some, None, Option, refl, sym, ◌∙◌, ap, subst, arith, Bool, true, false, cond, inl, inr}
-use Rattle.std.specs.Prelude.{◌⊎◌, All, reverse, fold, slice_get, unwrap_or, is_some, IsSome}
+use Rattle.std.proofs.Common.{◌≡◌, ℕ, suc, ◌+◌, ◌<◌, ◌≤◌, ◌≢◌, List, [], ◌∷◌, ◌++◌, length, take, drop, Some, None, refl, sym, ◌∙◌, ap, subst, arith, false, cond, inl, inr}
+use Rattle.std.specs.Prelude.{◌⊎◌, All, reverse, slice_get, unwrap_or, is_some, IsSome}
 use Rattle.std.specs.Str.{bytes_eq}
 use Rattle.std.specs.Ordering.{nat_cmp}
 use Rattle.std.specs.Cmp.Lexicographic.{slice_cmp}
@@ -11,10 +11,10 @@ use Rattle.std.proofs.lemmas.List.Elements.{All-nil, All-cons, All-append}
 use Rattle.std.proofs.lemmas.List.Sums.{fold-append}
 use Rattle.vg_map.specs.Map.{Indices, FixedMap, without_key}
 use Rattle.vg_dchain.specs.Indices.{IsAbsent, IsDistinct, AllBelow}
-use Rattle.vg_dchain.specs.ChainState.{ChainState, IsLawful, time_at, others, oldest_below, after_freeing, RisesWithin, indices}
+use Rattle.vg_dchain.specs.ChainState.{ChainState, IsLawful, time_at, others, oldest_below, after_freeing, indices}
 use Rattle.vg_dchain.proofs.IndexLemmas.{IsDistinct-front, AllBelow-front}
 use Rattle.vg_vector.specs.Cells.{CellList}
-use Rattle.vg_plain.proofs.ListPlaces.{some_is, none_some, bytes_true}
+use Rattle.vg_plain.proofs.ListPlaces.{some_is, none_some}
 use Rattle.vg_plain.proofs.KeySlots.{bytes_cases}
 use Rattle.vg_store.specs.RealLinks.{AreTied, without_keys, after_expiry}
 use Rattle.vg_store.proofs.TableLaws.{index_erased, size_erased}

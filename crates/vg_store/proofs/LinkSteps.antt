@@ -1,8 +1,8 @@
 -- What a call on one of its containers makes of a link.
-use Rattle.std.proofs.Common.{◌≡◌, ℕ, suc, ◌+◌, ◌-◌, ◌<◌, List, [], ◌∷◌, ◌++◌, length, set, replicate, Option, Some, None, slice_get, refl, sym, ◌∙◌, ap, arith, Bool, true, false, cond}
+use Rattle.std.proofs.Common.{◌≡◌, ℕ, ◌-◌, ◌<◌, List, [], ◌∷◌, ◌++◌, length, replicate, Option, Some, None, slice_get, refl, sym, ◌∙◌, ap, arith, Bool, true, false, cond}
 use Rattle.std.specs.Prelude.{IsSome, IfSome}
 use Rattle.std.specs.Option.{option_map}
-use Rattle.std.specs.FinMap.{get, insert, remove, empty, len, get-empty, len-empty}
+use Rattle.std.specs.FinMap.{get, empty, get-empty, len-empty}
 use Rattle.std.specs.List.{range_with_len}
 use Rattle.std.specs.Ordering.{nat_cmp}
 use Rattle.std.specs.Cmp.Lexicographic.{slice_cmp}
@@ -15,7 +15,7 @@ use Rattle.vg_map.specs.Map as maps
 use Rattle.vg_dchain.specs.ChainState.{ChainState, IsFree, IsLawful, time_at, others, after_allocation, after_rejuvenation, after_freeing}
 use Rattle.vg_vector.specs.Cells as cells
 use Rattle.vg_abs.specs.Effects.{with_key, without_key, with_index, with_time, without_index, with_cell}
-use Rattle.vg_plain.specs.LinkStates.{with_link, with_lent}
+use Rattle.vg_plain.specs.LinkStates.{with_link}
 use Rattle.vg_plain.proofs.ListPlaces.{none_some, bytes_true}
 use Rattle.vg_plain.proofs.Places.{cell_is, cell_set, zeros}
 use Rattle.vg_store.specs.RealLinks.{Parts, AreLinked, link_of, seen}

@@ -1,5 +1,5 @@
 -- Times by index.
-use Rattle.std.proofs.Common.{◌≡◌, ℕ, zero, suc, ◌+◌, ◌<◌, ◌≤◌, List, [], ◌∷◌, length, set, get_or, replicate, Some, None, Option, refl, sym, ◌∙◌, ap, subst, arith, Bool, true, false, cond, inl, inr}
+use Rattle.std.proofs.Common.{◌≡◌, ℕ, zero, suc, ◌<◌, List, [], ◌∷◌, length, set, get_or, replicate, Some, None, Option, refl, sym, ◌∙◌, ap, subst, arith, Bool, true, false, cond, inl, inr}
 use Rattle.std.specs.Prelude.{slice_get, count_by, nat_lt, ◌==◌}
 use Rattle.std.specs.Option.{option_map}
 use Rattle.std.proofs.lemmas.Bool.{cases_lt}
@@ -10,7 +10,7 @@ use Rattle.std.specs.FinMap.{get}
 use Rattle.vg_abs.specs.Tables.{TimeTable}
 use Rattle.vg_abs.specs.Agreement.{BothTell}
 use Rattle.vg_abs.specs.Answers.{listed_or_none}
-use Rattle.vg_dchain.specs.Indices.{IsAbsent, IsDistinct, AllBelow}
+use Rattle.vg_dchain.specs.Indices.{IsDistinct, AllBelow}
 use Rattle.vg_dchain.specs.ChainState.{time_at, indices}
 use Rattle.vg_plain.specs.PlainTables.{time_table, joined}
 use Rattle.vg_plain.specs.Expiring.{is_early}

@@ -1,4 +1,2 @@
 pub mod RealTables
 pub mod RealLinks
-pub mod RealStates
-pub mod Beginning

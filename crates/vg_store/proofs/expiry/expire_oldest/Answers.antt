@@ -1,7 +1,5 @@
-use Rattle.std.proofs.Common.{◌≡◌, ◌∙◌, ℕ, ◌+◌, suc, Some, None, sym, ap, subst, arith, rules}
-use Rattle.vg_dchain.specs.ChainState.{ChainState, oldest_below}
-use Rattle.vg_store.proofs.Ages.{all_late}
-use Rattle.vg_store.proofs.Expiring.{Expiring, cell_inside, present, expiring_next, expiring_start, no_more}
+use Rattle.std.proofs.Common.{◌≡◌, ◌∙◌, ℕ, ◌+◌, suc, None, sym, subst, arith, rules}
+use Rattle.vg_store.proofs.Expiring.{Expiring, cell_inside, present, expiring_next, no_more}
 use Rattle.vg_store.proofs.expiry.expire_oldest.Goals as goal
 
 pub returns-in_default-clause-late : goal.returns-in_default-clause-late

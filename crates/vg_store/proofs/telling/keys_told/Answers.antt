@@ -1,8 +1,4 @@
 use Rattle.std.proofs.Common.{◌≡◌, ◌≤◌, ℕ, sym, subst, true, rules}
-use Rattle.std.specs.FinMap.{get, entries, get-entries}
-use Rattle.vg_abs.specs.Agreement.{BothTell}
-use Rattle.vg_abs.specs.Answers.{listed_or_none}
-use Rattle.vg_plain.proofs.TellingLaws.{told_all, told_part, told_full}
 use Rattle.vg_store.specs.RealTables.{indexed}
 use Rattle.vg_store.proofs.Counting.{told_if, told_then}
 use Rattle.vg_store.proofs.telling.keys_told.Goals as goal

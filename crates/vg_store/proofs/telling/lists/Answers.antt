@@ -1,4 +1,4 @@
-use Rattle.std.proofs.Common.{◌∙◌, ap, map, subst, List, Option, ℕ}
+use Rattle.std.proofs.Common.{◌∙◌, ap, map, subst}
 use Rattle.std.proofs.lemmas.Bool.{eq-eqb, eqb-true}
 use Rattle.vg_store.specs.RealTables.{indexed}
 use Rattle.vg_store.proofs.Counting.{Answers, Counted, listed_with, counted_start, counted_step, counted_end}

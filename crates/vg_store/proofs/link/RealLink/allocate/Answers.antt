@@ -1,7 +1,4 @@
-use Rattle.std.proofs.Common.{ap, subst, None}
-use Rattle.std.specs.Prelude.{IfSome}
-use Rattle.std.specs.FinMap.{get}
-use Rattle.vg_store.specs.RealLinks.{Parts, link_of}
+use Rattle.vg_store.specs.RealLinks.{Parts}
 use Rattle.vg_store.proofs.LinkSteps.{free_time, handed_seen}
 use Rattle.vg_store.proofs.link.RealLink.allocate.Goals as goal
 

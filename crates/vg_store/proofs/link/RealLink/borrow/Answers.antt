@@ -1,11 +1,9 @@
-use Rattle.std.proofs.Common.{◌<◌, ◌∙◌, ap, sym, subst, [], slice_get, length, arith}
+use Rattle.std.proofs.Common.{◌<◌, ◌∙◌, ap, sym, subst, [], arith}
 use Rattle.std.specs.Prelude.{is_some}
 use Rattle.std.specs.FinMap.{get}
-use Rattle.std.proofs.lemmas.List.{length-set}
 use Rattle.std.proofs.lemmas.Option.{slice_get-get_or}
-use Rattle.vg_vector.specs.Cells.{CellList}
 use Rattle.vg_store.specs.RealLinks.{Parts, link_of}
-use Rattle.vg_store.proofs.LinkSteps.{cell_seen, cells_linked}
+use Rattle.vg_store.proofs.LinkSteps.{cell_seen}
 use Rattle.vg_store.proofs.link.RealLink.borrow.Goals as goal
 
 pub returns-clause-cell : goal.returns-clause-cell

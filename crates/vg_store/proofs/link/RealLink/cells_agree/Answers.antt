@@ -1,6 +1,3 @@
-use Rattle.std.proofs.Common.{ℕ, sym, subst, List, slice_get}
-use Rattle.std.specs.FinMap.{get}
-use Rattle.vg_abs.specs.Agreement.{BothTell}
 use Rattle.vg_plain.proofs.Places.{cells_agree_as}
 use Rattle.vg_store.proofs.link.RealLink.cells_agree.Goals as goal
 

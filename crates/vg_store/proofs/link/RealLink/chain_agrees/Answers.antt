@@ -1,9 +1,6 @@
-use Rattle.std.proofs.Common.{ℕ, ◌≡◌, ◌<◌, ◌∙◌, ap, sym, subst, List, Option, Some, slice_get, length, refl, rules}
-use Rattle.std.specs.FinMap.{get}
+use Rattle.std.proofs.Common.{◌≡◌, ◌∙◌, ap, sym, rules}
 use Rattle.vg_dchain.proofs.IndexLemmas.{AllBelow-front}
-use Rattle.vg_dchain.specs.ChainState.{time_at, indices}
-use Rattle.vg_abs.specs.Agreement.{BothTell}
-use Rattle.vg_abs.specs.Answers.{listed_or_none}
+use Rattle.vg_dchain.specs.ChainState.{indices}
 use Rattle.vg_plain.proofs.AgreementLaws.{chains_to, chains_from}
 use Rattle.vg_store.specs.RealLinks.{Parts, link_of}
 use Rattle.vg_store.proofs.TimeLists.{times_of, length_times, age_times, told_times, times_told}

@@ -3,7 +3,7 @@ use Rattle.std.specs.FinMap.{len}
 use Rattle.vg_map.specs.Map.{FixedMap}
 use Rattle.vg_dchain.specs.ChainState.{ChainState}
 use Rattle.vg_plain.specs.LinkStates.{IsKeyed}
-use Rattle.vg_store.specs.RealLinks.{Parts, AreTied, link_of, seen}
+use Rattle.vg_store.specs.RealLinks.{Parts, link_of}
 use Rattle.vg_store.proofs.ExpiredLink.{are_tied, freed_are, expired_seen, expired_linked, same_shape}
 use Rattle.vg_store.proofs.link.RealLink.expire.Goals as goal
 

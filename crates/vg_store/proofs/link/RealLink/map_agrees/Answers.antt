@@ -1,4 +1,4 @@
-use Rattle.std.proofs.Common.{ℕ, ◌≡◌, sym, subst, List, Option, Some, rules}
+use Rattle.std.proofs.Common.{ℕ, ◌≡◌, sym, subst, Option, Some, rules}
 use Rattle.std.specs.FinMap.{get}
 use Rattle.vg_abs.specs.Agreement.{BothTell}
 use Rattle.vg_abs.specs.Answers.{listed_or_none}

@@ -1,4 +1,4 @@
-use Rattle.std.proofs.Common.{◌≡◌, ◌∙◌, ap, sym, subst, None, length}
+use Rattle.std.proofs.Common.{◌≡◌, ◌∙◌, ap, sym, subst, length}
 use Rattle.std.specs.FinMap.{get}
 use Rattle.vg_plain.specs.PlainTables.{joined}
 use Rattle.vg_store.specs.RealLinks.{Parts, link_of}
