@@ -6,3 +6,5 @@ pub mod TimeLists
 pub mod Expiring
 pub mod ExpiredLink
 pub mod Counting
+pub mod RealLaws
+pub mod FewRoutes
