@@ -42,9 +42,10 @@ returns-in-Cells-Cells c =
     let read = c.index.ensures ∙ ap (λ (os : List Object). get_or os c.args.i c.index.result.now) listed in
     let there = slice_get-get_or c.args.state.now.objects c.args.i c.index.result.now inside ∙ ap Some (sym read ∙ c.in-Cells-Cells.is-1) in
     let cells = ap (λ v. v.cells) c.other.view_is in
-    cells_same (plainly c.args.objects.now) c.args.state.now c.args.i c.in-Cells-Cells.vector c.in-Cells-Cells.other c.agrees.result here there
-    (λ yes. subst (λ t. CellsAgree (cell_table 0 c.in-Cells-Cells.vector.cells) t) cells (cells_agree_as.to c.in-Cells-Cells.vector.cells _ (c.agrees.ensures.0 yes)),
-    λ agree. c.agrees.ensures.1 (cells_agree_as.from c.in-Cells-Cells.vector.cells _ (subst (λ t. CellsAgree (cell_table 0 c.in-Cells-Cells.vector.cells) t) (sym cells) agree)))
+    cells_same (plainly c.args.objects.now) c.args.state.now c.args.i c.in-Cells-Cells.vector c.in-Cells-Cells.other c.agrees.result here there (
+      λ yes. subst (λ t. CellsAgree (cell_table 0 c.in-Cells-Cells.vector.cells) t) cells (cells_agree_as.to c.in-Cells-Cells.vector.cells _ (c.agrees.ensures.0 yes)),
+      λ agree. c.agrees.ensures.1 (cells_agree_as.from c.in-Cells-Cells.vector.cells _ (subst (λ t. CellsAgree (cell_table 0 c.in-Cells-Cells.vector.cells) t) (sym cells) agree)),
+    )
 
 pub returns-in_default : goal.returns-in_default
 returns-in_default c =
