@@ -89,7 +89,7 @@ expired_table link bound times same long = same_numbers _ _ (λ q. time_is (map 
     ∙ sym ((forgets nat_cmp_total nat_cmp-IsAntisymmetric).of_full (expires true link bound) (time_table 0 times) q))
 
 -- keys
-both : (a b : Bool) → (a && b) ≡ true → (a ≡ true) × (b ≡ true)
+pub both : (a b : Bool) → (a && b) ≡ true → (a ≡ true) × (b ≡ true)
 both true b is = (refl, is)
 both false b is = absurd (cc)
 
@@ -100,17 +100,17 @@ later : (a b : Bool) → b ≡ true → (a || b) ≡ true
 later true b is = refl
 later false b is = is
 
-same_bool : (a b : Bool) → (a ≡ true → b ≡ true) → (b ≡ true → a ≡ true) → a ≡ b
+pub same_bool : (a b : Bool) → (a ≡ true → b ≡ true) → (b ≡ true → a ≡ true) → a ≡ b
 same_bool true true to from = refl
 same_bool true false to from = sym (to refl)
 same_bool false true to from = from refl
 same_bool false false to from = refl
 
-record Found (test : (ℕ × Option ℕ) → Bool) (start : ℕ) (times : List (Option ℕ)) : Type 0 where
-  index : ℕ
-  time : ℕ
-  there : slice_get times index ≡ Some (Some time)
-  passes : test (start + index, Some time) ≡ true
+pub record Found (test : (ℕ × Option ℕ) → Bool) (start : ℕ) (times : List (Option ℕ)) : Type 0 where
+  pub index : ℕ
+  pub time : ℕ
+  pub there : slice_get times index ≡ Some (Some time)
+  pub passes : test (start + index, Some time) ≡ true
 
 shift : (test : (ℕ × Option ℕ) → Bool) (start : ℕ) (time : Option ℕ) (times : List (Option ℕ)) → Found test (suc start) times → Found test start (time ∷ times)
 shift test start time times found = record {
@@ -132,12 +132,12 @@ one_found test start time times rest true here any = record {
 }
 one_found test start time times rest false here any = shift test start (Some time) times (rest any)
 
-any_found : (test : (ℕ × Option ℕ) → Bool) (start : ℕ) (times : List (Option ℕ)) → list_any test (time_list start times) ≡ true → Found test start times
+pub any_found : (test : (ℕ × Option ℕ) → Bool) (start : ℕ) (times : List (Option ℕ)) → list_any test (time_list start times) ≡ true → Found test start times
 any_found test start [] is = absurd (cc)
 any_found test start (None ∷ times) is = shift test start None times (any_found test (suc start) times is)
 any_found test start (Some time ∷ times) is = one_found test start time times (λ any. any_found test (suc start) times any) (test (start, Some time)) refl is
 
-any_there : (test : (ℕ × Option ℕ) → Bool) (start i time : ℕ) (times : List (Option ℕ)) → slice_get times i ≡ Some (Some time)
+pub any_there : (test : (ℕ × Option ℕ) → Bool) (start i time : ℕ) (times : List (Option ℕ)) → slice_get times i ≡ Some (Some time)
     → test (start + i, Some time) ≡ true → list_any test (time_list start times) ≡ true
 any_there test start i time [] there passes = absurd (none_some (Some time) there)
 any_there test start zero time (None ∷ times) there passes = absurd (none_some time (some_is None (Some time) there))
@@ -156,7 +156,7 @@ any_there test start (suc i) time (Some other ∷ times) there passes =
 abbrev picks : Link → ℕ → List ℕ → (ℕ × Option ℕ) → Bool
 picks link bound key entry = is_before bound (Some entry.1) && is_key_of (get link.cells entry.0) key
 
-of_key : (cell : Option (List ℕ)) (key : List ℕ) → is_key_of cell key ≡ true → cell ≡ Some key
+pub of_key : (cell : Option (List ℕ)) (key : List ℕ) → is_key_of cell key ≡ true → cell ≡ Some key
 of_key None key is = absurd (cc)
 of_key (Some bytes) key is = ap Some (bytes_true bytes key is)
 
@@ -181,7 +181,7 @@ key_to link bound indices keys times cells key tied cells_are found =
     ∙ ap (λ b. b && is_key_of (slice_get cells found.index) key) passes.0
     ∙ ap (λ c. is_key_of c key) pair.1 ∙ ap (λ (k : List ℕ). bytes_eq k key) key_is ∙ bytes_same key
 
-key_from : (link : Link) (bound : ℕ) (times : List (Option ℕ)) (cells : List (List ℕ)) (key : List ℕ) (index : Option ℕ) → link.cells ≡ cell_table 0 cells →
+pub key_from : (link : Link) (bound : ℕ) (times : List (Option ℕ)) (cells : List (List ℕ)) (key : List ℕ) (index : Option ℕ) → link.cells ≡ cell_table 0 cells →
     key_goes bound times cells key index ≡ true → list_any (picks link bound key) (time_list 0 times) ≡ true
 key_from link bound times cells key None cells_are goes = absurd (cc)
 key_from link bound times cells key (Some index) cells_are goes =

@@ -1,0 +1,40 @@
+use Rattle.std.proofs.Common.{ℕ, ◌≡◌, ◌-◌, ◌<◌, ◌≤◌, ◌∷◌, ◌∙◌, List, length, set, Option, Some, None, slice_get, refl, sym, ap, subst, arith, true}
+use Rattle.std.specs.Prelude.{is_none, is_some, IsSome, IfSome, nat_lt, nat_le}
+use Rattle.std.specs.Option.{option_map}
+use Rattle.std.specs.FinMap.{get}
+use Rattle.vg_dchain.specs.ChainState.{ChainState, after_rejuvenation, after_freeing}
+use Rattle.vg_abs.specs.Tables.{Link}
+use Rattle.vg_abs.specs.State.{link_of_map}
+use Rattle.vg_abs.specs.Answers.{index_of, time_of}
+use Rattle.vg_abs.specs.Rows as rows
+use Rattle.vg_abs.specs.Rows.{HasRoom}
+use Rattle.vg_abs.specs.Effects.{with_link, with_key, without_key, with_time, without_index}
+use Rattle.vg_abs.specs.Library.{Meets, Does, Allocates, Expires}
+use Rattle.vg_plain.specs.declared.object.PlainObject.{PlainObject}
+use Rattle.vg_plain.specs.LinkStates.{IsKeyed}
+use Rattle.vg_plain.specs.PlainStates.{state_of}
+use Rattle.vg_plain.proofs.StateLaws.{as_library, link_is, does, is_absent, allocates, expires_so}
+use Rattle.vg_store.specs.declared.object.RealObject.TheVariants.{Map}
+use Rattle.vg_store.specs.RealLinks.{Parts, seen, after_expiry}
+use Rattle.vg_store.specs.RealStates.{plainly, ages_in}
+use Rattle.vg_store.proofs.RealLaws.{set_plainly, real_within, real_stands, stands_plain, real_no_map, ages_here, ages_now, is_there, met_less, met_least, allocated_there, gets, tells}
+use Rattle.vg_store.proofs.real.RealLibLib.map_get.Goals as goal
+
+pub get-requires : goal.get-requires
+get-requires c =
+    let items = c.args.self.now.objects.items in
+    let inside = real_within items (c.args.map) c.requires.map in
+    let here = real_stands items (c.args.map) c.index.result.now (Map c.in-Map.link) inside c.index.ensures c.in-Map.is in
+    let plainly_here = stands_plain items (c.args.map) (Map c.in-Map.link) here in
+    c.requires.key ∙ ap (λ (l : Link). l.key_length) (link_is (plainly items) c.args.map (seen c.in-Map.link) plainly_here)
+
+pub unreachable-requires : goal.unreachable-requires
+unreachable-requires c = real_no_map c.args.self.now.objects.items (c.args.map) c.index.result.now c.requires.map c.index.ensures c.in_default.not-Map
+
+pub returns : goal.returns
+returns c =
+    let items = c.args.self.now.objects.items in
+    let inside = real_within items (c.args.map) c.requires.map in
+    let here = real_stands items (c.args.map) c.index.result.now (Map c.in-Map.link) inside c.index.ensures c.in-Map.is in
+    let plainly_here = stands_plain items (c.args.map) (Map c.in-Map.link) here in
+    gets (plainly items) c.args.map (seen c.in-Map.link) c.args.key.now c.get.result plainly_here c.get.ensures

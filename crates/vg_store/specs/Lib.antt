@@ -1,0 +1,4 @@
+pub mod RealTables
+pub mod RealLinks
+pub mod RealStates
+pub mod Beginning
