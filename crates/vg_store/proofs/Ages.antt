@@ -1,5 +1,6 @@
 -- Indices with their times, by age.
-use Rattle.std.proofs.Common.{◌≡◌, ℕ, zero, suc, ◌<◌, ◌≤◌, List, [], ◌∷◌, ◌++◌, length, take, drop, Some, None, refl, sym, ◌∙◌, ap, subst, arith, Bool, true, false, cond, inl, inr}
+use Rattle.std.proofs.Common.{◌≡◌, ℕ, zero, suc, ◌<◌, ◌≤◌, List, [], ◌∷◌, ◌++◌, length, take, drop, Some, None, refl, sym, ◌∙◌, ap, subst, arith}
+use Rattle.std.proofs.Common.{Bool, true, false, cond, inl, inr}
 use Rattle.std.specs.Prelude.{All, nat_lt, ◌||◌, count_by}
 use Rattle.std.specs.List.{list_any}
 use Rattle.std.proofs.lemmas.Bool.{cases_eq, cases_lt, eq-eqb, ne_eqb, lt-ltb, le-ltb}
@@ -42,14 +43,16 @@ first_below before low high i (e ∷ es) rises is = elim (cases_lt e.1 before) [
     is = ap (λ (k : ℕ). (k, e.1) ∷ es) (some_is e.0 i (sym (ap (λ b. cond b (Some e.0) (oldest_below before es)) (lt-ltb e.1 before less)) ∙ is));
     early = less;
   }
-  | inr more ↦ absurd (none_some i (sym (ap (λ b. cond b (Some e.0) (oldest_below before es)) (le-ltb e.1 before more) ∙ oldest_below-none before e.1 es high more rises.1) ∙ is))
+  | inr more ↦ absurd (none_some i (sym (ap (λ b. cond b (Some e.0) (oldest_below before es)) (le-ltb e.1 before more)
+      ∙ oldest_below-none before e.1 es high more rises.1) ∙ is))
 ]
 
 pub all_late : (before : ℕ) (es : List (ℕ × ℕ)) → oldest_below before es ≡ None → All (λ entry. before ≤ entry.1) es
 all_late before [] none = All-nil (λ entry. before ≤ entry.1)
 all_late before (e ∷ es) none = elim (cases_lt e.1 before) [
   | inl less ↦ absurd (none_some e.0 (sym none ∙ ap (λ b. cond b (Some e.0) (oldest_below before es)) (lt-ltb e.1 before less)))
-  | inr more ↦ All-cons (λ entry. before ≤ entry.1) e es more (all_late before es (sym (ap (λ b. cond b (Some e.0) (oldest_below before es)) (le-ltb e.1 before more)) ∙ none))
+  | inr more ↦ All-cons (λ entry. before ≤ entry.1) e es more
+      (all_late before es (sym (ap (λ b. cond b (Some e.0) (oldest_below before es)) (le-ltb e.1 before more)) ∙ none))
 ]
 
 -- the item behind the first n
@@ -126,11 +129,19 @@ pub record Passes (test : ℕ → Bool) (es : List (ℕ × ℕ)) : Type 0 where
 further_passes : (test : ℕ → Bool) (e : ℕ × ℕ) (es : List (ℕ × ℕ)) → Passes test es → Passes test (e ∷ es)
 further_passes test e es p = elim (cases_eq e.0 p.index) [
   | inl same ↦ record { index = p.index; time = e.1; there = ap (λ b. cond b (Some e.1) (time_at es p.index)) (eq-eqb e.0 p.index same); passes = p.passes }
-  | inr ne ↦ record { index = p.index; time = p.time; there = ap (λ b. cond b (Some e.1) (time_at es p.index)) (ne_eqb e.0 p.index ne) ∙ p.there; passes = p.passes }
+  | inr ne ↦ record {
+    index = p.index;
+    time = p.time;
+    there = ap (λ b. cond b (Some e.1) (time_at es p.index)) (ne_eqb e.0 p.index ne)
+        ∙ p.there;
+    passes = p.passes;
+  }
 ]
 
-one_passes : (test : ℕ → Bool) (e : ℕ × ℕ) (es : List (ℕ × ℕ)) (b : Bool) → test e.0 ≡ b → (list_any (λ entry. test entry.0) es ≡ true → Passes test es) → (b || list_any (λ entry. test entry.0) es) ≡ true → Passes test (e ∷ es)
-one_passes test e es true here rest any = record { index = e.0; time = e.1; there = ap (λ b. cond b (Some e.1) (time_at es e.0)) (eq-eqb e.0 e.0 refl); passes = here }
+one_passes : (test : ℕ → Bool) (e : ℕ × ℕ) (es : List (ℕ × ℕ)) (b : Bool) → test e.0 ≡ b →
+    (list_any (λ entry. test entry.0) es ≡ true → Passes test es) → (b || list_any (λ entry. test entry.0) es) ≡ true → Passes test (e ∷ es)
+one_passes test e es true here rest any =
+    record { index = e.0; time = e.1; there = ap (λ b. cond b (Some e.1) (time_at es e.0)) (eq-eqb e.0 e.0 refl); passes = here }
 one_passes test e es false here rest any = further_passes test e es (rest any)
 
 pub at_any : (test : ℕ → Bool) (es : List (ℕ × ℕ)) → list_any (λ entry. test entry.0) es ≡ true → Passes test es
@@ -145,10 +156,16 @@ none_early before (e ∷ es) late =
     let off : ◌≡◌ {A = ℕ} (cond (nat_lt e.1 before) 1 0) 0 = ap (λ b. cond b 1 0) (le-ltb e.1 before more) in
     omega (arith, sum_by-cons (λ (entry : ℕ × ℕ). cond (nat_lt entry.1 before) 1 0) e es, off, none_early before es (λ k d less. late (suc k) d (omega arith)))
 
-pub early_are : (before n : ℕ) (es : List (ℕ × ℕ)) → n ≤ length es → All (λ entry. entry.1 < before) (take n es) → All (λ entry. before ≤ entry.1) (drop n es) → count_by (λ entry. nat_lt entry.1 before) es ≡ n
+pub early_are : (before n : ℕ) (es : List (ℕ × ℕ)) → n ≤ length es → All (λ entry. entry.1 < before) (take n es)
+    → All (λ entry. before ≤ entry.1) (drop n es) → count_by (λ entry. nat_lt entry.1 before) es ≡ n
 early_are before zero es within early late = none_early before es late
 early_are before (suc n) [] within early late = absurd (omega arith)
 early_are before (suc n) (e ∷ es) within early late =
     let less : e.1 < before = early 0 e (omega arith) in
     let on : ◌≡◌ {A = ℕ} (cond (nat_lt e.1 before) 1 0) 1 = ap (λ b. cond b 1 0) (lt-ltb e.1 before less) in
-    omega (arith, sum_by-cons (λ (entry : ℕ × ℕ). cond (nat_lt entry.1 before) 1 0) e es, on, early_are before n es (omega arith) (λ k d within_rest. early (suc k) d (omega arith)) late)
+    omega (
+      arith,
+      sum_by-cons (λ (entry : ℕ × ℕ). cond (nat_lt entry.1 before) 1 0) e es,
+      on,
+      early_are before n es (omega arith) (λ k d within_rest. early (suc k) d (omega arith)) late,
+    )

@@ -1,12 +1,14 @@
 -- Two tables of which one tells what the other does: it lists all keys where it lists as many.
-use Rattle.std.proofs.Common.{T, ◌≡◌, ℕ, suc, ◌-◌, ◌<◌, ◌≤◌, List, [], ◌∷◌, Some, None, Option, refl, sym, ◌∙◌, ap, subst, arith, Bool, true, false, cond, inl, inr}
+use Rattle.std.proofs.Common.{T, ◌≡◌, ℕ, suc, ◌-◌, ◌<◌, ◌≤◌, List, [], ◌∷◌, Some, None, Option, refl, sym, ◌∙◌, ap, subst, arith, Bool, true, false}
+use Rattle.std.proofs.Common.{cond, inl, inr}
 use Rattle.std.specs.Prelude.{◌&&◌, is_some, IsSome, count_by, unwrap_or}
 use Rattle.std.specs.Str.{bytes_eq}
 use Rattle.std.specs.Ordering.{nat_cmp, is_lt, is_eq}
 use Rattle.std.specs.declared.cmp.Ordering.{Ordering}
 use Rattle.std.specs.declared.cmp.Ordering.TheVariants.{Less, Equal, Greater}
 use Rattle.std.specs.Cmp.Lexicographic.{slice_cmp, nat_list_cmp_total}
-use Rattle.std.specs.FinMap.{get, remove, empty, len, entries, find, is_sorted, get-empty, get-entries, len-empty, empty_of_len, entries_sorted, same_map, nat_cmp-IsAntisymmetric, slice_cmp-IsAntisymmetric}
+use Rattle.std.specs.FinMap.{get, remove, empty, len, entries, find, is_sorted, get-empty, get-entries, len-empty, empty_of_len, entries_sorted}
+use Rattle.std.specs.FinMap.{same_map, nat_cmp-IsAntisymmetric, slice_cmp-IsAntisymmetric}
 use Rattle.std.specs.FinMap.Entries.{below_all}
 use Rattle.std.proofs.lemmas.Bool.{cases_lt}
 use Rattle.std.proofs.lemmas.List.Sums.{sum_by-cons}
@@ -59,7 +61,8 @@ sorted_once (e ∷ es) h =
 some_keys : (m : Indices) (key : List ℕ) → IsSome (get m key) → 0 < len m
 some_keys m key is = elim (cases_lt 0 (len m)) [
   | inl more ↦ more
-  | inr none ↦ absurd (let no : get m key ≡ None = ap (λ (n : Indices). get n key) (empty_of_len m (omega arith)) ∙ get-empty (slice_cmp nat_cmp) key in let off : is_some (get m key) ≡ false = ap is_some no in cc)
+  | inr none ↦ absurd (let no : get m key ≡ None = ap (λ (n : Indices). get n key) (empty_of_len m (omega arith))
+      ∙ get-empty (slice_cmp nat_cmp) key in let off : is_some (get m key) ≡ false = ap is_some no in cc)
 ]
 
 listed_here : (e : List ℕ × Option ℕ) (es : Answers) → in_list e.0 (e ∷ es) ≡ Some e.1
@@ -101,7 +104,8 @@ turn x y ne = go (bytes_eq y x) refl
 erased_told : (m : Indices) (e : List ℕ × Option ℕ) (es : Answers) → Tells m (e ∷ es) → in_list e.0 es ≡ None → Tells (remove m e.0) es
 erased_told m e es told once key = elim (bytes_cases key e.0) [
   | inl same ↦ told_none (get (remove m e.0) key) (in_list key es) (ap (λ (k : List ℕ). in_list k es) same ∙ once)
-  | inr ne ↦ subst (λ (i : Option ℕ). BothTell (Some i) (in_list key es)) (sym (index_erased m e.0 key ∙ ap (λ b. cond b None (get m key)) (turn key e.0 ne))) (rest_told m e es told once key)
+  | inr ne ↦ subst (λ (i : Option ℕ). BothTell (Some i) (in_list key es)) (sym (index_erased m e.0 key
+      ∙ ap (λ b. cond b None (get m key)) (turn key e.0 ne))) (rest_told m e es told once key)
 ]
 
 nothing : (m : Indices) → len m ≤ 0 → (key : List ℕ) → get m key ≡ None
@@ -109,7 +113,8 @@ nothing m none key = ap (λ (n : Indices). get n key) (empty_of_len m (omega ari
 
 no_keys : (m : Indices) → ((key : List ℕ) → get m key ≡ None) → len m ≡ 0
 no_keys m none =
-    ap (λ (n : Indices). len n) (same_map nat_list_cmp_total (slice_cmp-IsAntisymmetric nat_cmp-IsAntisymmetric) m empty (λ key. none key ∙ sym (get-empty (slice_cmp nat_cmp) key)))
+    ap (λ (n : Indices). len n) (same_map nat_list_cmp_total (slice_cmp-IsAntisymmetric nat_cmp-IsAntisymmetric) m empty
+    (λ key. none key ∙ sym (get-empty (slice_cmp nat_cmp) key)))
     ∙ len-empty (slice_cmp nat_cmp) ℕ
 
 told_is : (index answer : Option ℕ) (listed : Option (Option ℕ)) → listed ≡ Some answer → BothTell (Some index) listed → index ≡ answer
@@ -119,7 +124,8 @@ told_is index answer (Some x) is told = told ∙ ap (λ o. unwrap_or o index) is
 -- the first key has no index
 absent_first : (m : Indices) (key : List ℕ) (es : Answers) → Tells m ((key, None) ∷ es) → in_list key es ≡ None → Counts m es → Counts m ((key, None) ∷ es)
 absent_first m key es told once rest =
-    let same : listed_with ((key, None) ∷ es) ≡ listed_with es = omega (arith, sum_by-cons (λ (entry : List ℕ × Option ℕ). cond (is_some entry.1) 1 0) (key, None) es) in
+    let same : listed_with ((key, None) ∷ es) ≡ listed_with es =
+    omega (arith, sum_by-cons (λ (entry : List ℕ × Option ℕ). cond (is_some entry.1) 1 0) (key, None) es) in
     let absent : get m key ≡ None = told_is (get m key) None (in_list key ((key, None) ∷ es)) (listed_here (key, None) es) (told key) in
     record {
       few = (let less = rest.few in omega (arith, same));
@@ -134,9 +140,11 @@ absent_first m key es told once rest =
     }
 
 -- the first key has one
-indexed_first : (m : Indices) (key : List ℕ) (i : ℕ) (es : Answers) → Tells m ((key, Some i) ∷ es) → in_list key es ≡ None → Counts (remove m key) es → Counts m ((key, Some i) ∷ es)
+indexed_first : (m : Indices) (key : List ℕ) (i : ℕ) (es : Answers) → Tells m ((key, Some i) ∷ es) → in_list key es ≡ None → Counts (remove m key) es
+    → Counts m ((key, Some i) ∷ es)
 indexed_first m key i es told once rest =
-    let one : listed_with ((key, Some i) ∷ es) ≡ suc (listed_with es) = omega (arith, sum_by-cons (λ (entry : List ℕ × Option ℕ). cond (is_some entry.1) 1 0) (key, Some i) es) in
+    let one : listed_with ((key, Some i) ∷ es) ≡ suc (listed_with es) =
+    omega (arith, sum_by-cons (λ (entry : List ℕ × Option ℕ). cond (is_some entry.1) 1 0) (key, Some i) es) in
     let mapped : get m key ≡ Some i = told_is (get m key) (Some i) (in_list key ((key, Some i) ∷ es)) (listed_here (key, Some i) es) (told key) in
     let size = size_erased m key (ap is_some mapped) in
     let some = some_keys m key (ap is_some mapped) in
@@ -144,7 +152,8 @@ indexed_first m key i es told once rest =
       few = (let less = rest.few in omega (arith, one, size, some));
       to = λ many other none. elim (bytes_cases other key) [
         | inl is ↦ absurd (none_some (Some i) (sym none ∙ ap (λ (k : List ℕ). in_list k ((key, Some i) ∷ es)) is ∙ listed_here (key, Some i) es))
-        | inr ne ↦ sym (index_erased m key other ∙ ap (λ b. cond b None (get m other)) (turn other key ne)) ∙ rest.to (omega (arith, one, size, some)) other (sym (listed_past other (key, Some i) es ne) ∙ none)
+        | inr ne ↦ sym (index_erased m key other ∙ ap (λ b. cond b None (get m other)) (turn other key ne))
+            ∙ rest.to (omega (arith, one, size, some)) other (sym (listed_past other (key, Some i) es ne) ∙ none)
       ];
       from = λ all. (let more = rest.from (λ other none. elim (bytes_cases other key) [
         | inl is ↦ index_erased m key other ∙ ap (λ b. cond b None (get m other)) (ap (λ (k : List ℕ). bytes_eq key k) is ∙ bytes_same key)
@@ -153,17 +162,26 @@ indexed_first m key i es told once rest =
     }
 
 counts : (es : Answers) (m : Indices) → StandOnce es → Tells m es → Counts m es
-counts [] m once told = record { few = omega arith; to = λ none key _. nothing m none key; from = λ all. (let none = no_keys m (λ key. all key refl) in omega arith) }
+counts [] m once told = record {
+  few = omega arith;
+  to = λ none key _. nothing m none key;
+  from =
+      λ all. (let none = no_keys m (λ key. all key refl) in omega arith);
+}
 counts ((key, None) ∷ es) m once told = absent_first m key es told once.0 (counts es m once.1 (rest_told m (key, None) es told once.0))
 counts ((key, Some i) ∷ es) m once told = indexed_first m key i es told once.0 (counts es (remove m key) once.1 (erased_told m (key, Some i) es told once.0))
 
 pub told_counts : (m : Indices) (table : KeyTable) → ((key : List ℕ) → BothTell (Some (get m key)) (get table key)) → Counts m (entries table)
-told_counts m table told = counts (entries table) m (sorted_once (entries table) (entries_sorted table)) (λ key. subst (λ (l : Option (Option ℕ)). BothTell (Some (get m key)) l) (get-entries table key) (told key))
+told_counts m table told = counts (entries table) m (sorted_once (entries table) (entries_sorted table))
+    (λ key. subst (λ (l : Option (Option ℕ)). BothTell (Some (get m key)) l) (get-entries table key) (told key))
 
-pub told_if : (m : Indices) (table : KeyTable) → ((key : List ℕ) → BothTell (Some (get m key)) (get table key)) → len m ≤ indexed table → (key : List ℕ) → BothTell (Some (get m key)) (listed_or_none true (get table key))
-told_if m table told many key = told_all true (get m key) (get table key) (told key) (λ _ none. (told_counts m table told).to many key (sym (get-entries table key) ∙ none))
+pub told_if : (m : Indices) (table : KeyTable) → ((key : List ℕ) → BothTell (Some (get m key)) (get table key)) → len m ≤ indexed table
+    → (key : List ℕ) → BothTell (Some (get m key)) (listed_or_none true (get table key))
+told_if m table told many key =
+    told_all true (get m key) (get table key) (told key) (λ _ none. (told_counts m table told).to many key (sym (get-entries table key) ∙ none))
 
-pub told_then : (m : Indices) (table : KeyTable) → ((key : List ℕ) → BothTell (Some (get m key)) (get table key)) → ((key : List ℕ) → BothTell (Some (get m key)) (listed_or_none true (get table key))) → len m ≤ indexed table
+pub told_then : (m : Indices) (table : KeyTable) → ((key : List ℕ) → BothTell (Some (get m key)) (get table key))
+    → ((key : List ℕ) → BothTell (Some (get m key)) (listed_or_none true (get table key))) → len m ≤ indexed table
 told_then m table told all = (told_counts m table told).from (λ key none. told_full (get m key) (get table key) (all key) (get-entries table key ∙ none))
 
 -- one answer is counted
@@ -171,17 +189,22 @@ pub record Counted (count total left : ℕ) (rest : Answers) : Type 0 where
   pub fewer : listed_with rest ≤ total
   pub left_is : left ≡ count - (total - listed_with rest)
 
-counted_none : (count total left next : ℕ) (key : List ℕ) (rest : Answers) → Counted count total left ((key, None) ∷ rest) → next ≡ left → Counted count total next rest
+counted_none : (count total left next : ℕ) (key : List ℕ) (rest : Answers) → Counted count total left ((key, None) ∷ rest) → next ≡ left
+    → Counted count total next rest
 counted_none count total left next key rest c is =
-    let same : listed_with ((key, None) ∷ rest) ≡ listed_with rest = omega (arith, sum_by-cons (λ (entry : List ℕ × Option ℕ). cond (is_some entry.1) 1 0) (key, None) rest) in
+    let same : listed_with ((key, None) ∷ rest) ≡ listed_with rest =
+    omega (arith, sum_by-cons (λ (entry : List ℕ × Option ℕ). cond (is_some entry.1) 1 0) (key, None) rest) in
     record { fewer = omega (arith, same, c.fewer); left_is = is ∙ c.left_is ∙ ap (λ (k : ℕ). count - (total - k)) same }
 
-counted_some : (count total left next i : ℕ) (key : List ℕ) (rest : Answers) → Counted count total left ((key, Some i) ∷ rest) → next ≡ left - 1 → Counted count total next rest
+counted_some : (count total left next i : ℕ) (key : List ℕ) (rest : Answers) → Counted count total left ((key, Some i) ∷ rest) → next ≡ left - 1
+    → Counted count total next rest
 counted_some count total left next i key rest c is =
-    let one : listed_with ((key, Some i) ∷ rest) ≡ suc (listed_with rest) = omega (arith, sum_by-cons (λ (entry : List ℕ × Option ℕ). cond (is_some entry.1) 1 0) (key, Some i) rest) in
+    let one : listed_with ((key, Some i) ∷ rest) ≡ suc (listed_with rest) =
+    omega (arith, sum_by-cons (λ (entry : List ℕ × Option ℕ). cond (is_some entry.1) 1 0) (key, Some i) rest) in
     record { fewer = omega (arith, one, c.fewer); left_is = omega (arith, one, c.fewer, c.left_is, is) }
 
-pub counted_step : (count total left next : ℕ) (key : List ℕ) (answer : Option ℕ) (rest : Answers) → Counted count total left ((key, answer) ∷ rest) → next ≡ cond (is_some answer) (left - 1) left → Counted count total next rest
+pub counted_step : (count total left next : ℕ) (key : List ℕ) (answer : Option ℕ) (rest : Answers) → Counted count total left ((key, answer) ∷ rest)
+    → next ≡ cond (is_some answer) (left - 1) left → Counted count total next rest
 counted_step count total left next key None rest c is = counted_none count total left next key rest c is
 counted_step count total left next key (Some i) rest c is = counted_some count total left next i key rest c is
 

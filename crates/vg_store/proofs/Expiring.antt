@@ -1,5 +1,6 @@
 -- Expiry of the oldest indices, one by one.
-use Rattle.std.proofs.Common.{◌≡◌, ℕ, suc, ◌+◌, ◌<◌, ◌≤◌, ◌≢◌, List, [], ◌∷◌, ◌++◌, length, take, drop, Some, None, refl, sym, ◌∙◌, ap, subst, arith, false, cond, inl, inr}
+use Rattle.std.proofs.Common.{◌≡◌, ℕ, suc, ◌+◌, ◌<◌, ◌≤◌, ◌≢◌, List, [], ◌∷◌, ◌++◌, length, take, drop, Some, None, refl, sym, ◌∙◌, ap, subst, arith}
+use Rattle.std.proofs.Common.{false, cond, inl, inr}
 use Rattle.std.specs.Prelude.{◌⊎◌, All, reverse, slice_get, unwrap_or, is_some, IsSome}
 use Rattle.std.specs.Str.{bytes_eq}
 use Rattle.std.specs.Ordering.{nat_cmp}
@@ -23,7 +24,8 @@ use Rattle.vg_store.proofs.Ages.{IsFirst, first_below, Behind, behind, others_fi
 some_keys : (m : Indices) (key : List ℕ) → IsSome (get m key) → 0 < len m
 some_keys m key is = elim (cases_lt 0 (len m)) [
   | inl more ↦ more
-  | inr none ↦ absurd (let no : get m key ≡ None = ap (λ (n : Indices). get n key) (empty_of_len m (omega arith)) ∙ get-empty (slice_cmp nat_cmp) key in let off : is_some (get m key) ≡ false = ap is_some no in cc)
+  | inr none ↦ absurd (let no : get m key ≡ None = ap (λ (n : Indices). get n key) (empty_of_len m (omega arith))
+      ∙ get-empty (slice_cmp nat_cmp) key in let off : is_some (get m key) ≡ false = ap is_some no in cc)
 ]
 
 -- so many of the oldest are free
@@ -38,7 +40,8 @@ pub record Expiring (before : ℕ) (was_keys : FixedMap) (was : ChainState) (cel
   pub size : cells.size ≡ keys.key_len
   pub whole : length cells.cells ≡ ages.range
 
-pub expiring_start : (before : ℕ) (keys : FixedMap) (ages : ChainState) (cells : CellList) → cells.size ≡ keys.key_len → length cells.cells ≡ ages.range → IsLawful ages → AreTied keys ages.entries cells.cells →
+pub expiring_start : (before : ℕ) (keys : FixedMap) (ages : ChainState) (cells : CellList) → cells.size ≡ keys.key_len
+    → length cells.cells ≡ ages.range → IsLawful ages → AreTied keys ages.entries cells.cells →
     Expiring before keys ages cells keys ages 0
 expiring_start before keys ages cells size whole lawful tied = record {
   within = omega arith;
@@ -52,11 +55,14 @@ expiring_start before keys ages cells size whole lawful tied = record {
   whole = whole;
 }
 
-pub no_more : (before : ℕ) (was_keys : FixedMap) (was : ChainState) (cells : CellList) (keys : FixedMap) (ages : ChainState) (freed : ℕ) → Expiring before was_keys was cells keys ages freed →
+pub no_more : (before : ℕ) (was_keys : FixedMap) (was : ChainState) (cells : CellList) (keys : FixedMap) (ages : ChainState) (freed : ℕ)
+    → Expiring before was_keys was cells keys ages freed →
     oldest_below before ages.entries ≡ None → All (λ entry. before ≤ entry.1) (drop freed was.entries)
-no_more before was_keys was cells keys ages freed x none = all_late before (drop freed was.entries) (sym (ap (λ (a : ChainState). oldest_below before a.entries) x.ages_are) ∙ none)
+no_more before was_keys was cells keys ages freed x none = all_late before (drop freed was.entries)
+    (sym (ap (λ (a : ChainState). oldest_below before a.entries) x.ages_are) ∙ none)
 
-module _ (before : ℕ) (was_keys : FixedMap) (was : ChainState) (cells : CellList) (keys : FixedMap) (ages : ChainState) (freed i : ℕ) (x : Expiring before was_keys was cells keys ages freed) (oldest : oldest_below before ages.entries ≡ Some i) where
+module _ (before : ℕ) (was_keys : FixedMap) (was : ChainState) (cells : CellList) (keys : FixedMap) (ages : ChainState) (freed i : ℕ)
+    (x : Expiring before was_keys was cells keys ages freed) (oldest : oldest_below before ages.entries ≡ Some i) where
   pub first : IsFirst before i ages.entries
   first = first_below before 0 ages.highest i ages.entries x.lawful.rises oldest
 
@@ -72,7 +78,8 @@ module _ (before : ℕ) (was_keys : FixedMap) (was : ChainState) (cells : CellLi
   -- its cell is there, and holds a key
   pub cell_inside : i < length cells.cells
   cell_inside =
-      let below : AllBelow ages.range (i ∷ indices first.rest) = subst (λ (es : List (ℕ × ℕ)). AllBelow ages.range (indices es)) first.is (AllBelow-front ages.range (indices ages.entries) ages.free x.lawful.below) in
+      let below : AllBelow ages.range (i ∷ indices first.rest) = subst (λ (es : List (ℕ × ℕ)). AllBelow ages.range (indices es)) first.is
+      (AllBelow-front ages.range (indices ages.entries) ages.free x.lawful.below) in
       let less : i < ages.range = below.0 in omega (arith, x.whole)
 
   mapped : (key : List ℕ) → slice_get cells.cells i ≡ Some key → get keys.indices key ≡ Some i
@@ -86,18 +93,22 @@ module _ (before : ℕ) (was_keys : FixedMap) (was : ChainState) (cells : CellLi
   stays_tied : (key : List ℕ) → slice_get cells.cells i ≡ Some key → AreTied (without_key keys key) first.rest cells.cells
   stays_tied key there index time is =
       let other : index ≢ i = λ same. none_some time (sym (time_absent first.rest i absent) ∙ ap (λ (k : ℕ). time_at first.rest k) (sym same) ∙ is) in
-      let old : time_at ages.entries index ≡ Some time = ap (λ (es : List (ℕ × ℕ)). time_at es index) first.is ∙ ap (λ b. cond b (Some first.time) (time_at first.rest index)) (ne_eqb i index (λ same. other (sym same))) ∙ is in
+      let old : time_at ages.entries index ≡ Some time = ap (λ (es : List (ℕ × ℕ)). time_at es index) first.is
+      ∙ ap (λ b. cond b (Some first.time) (time_at first.rest index)) (ne_eqb i index (λ same. other (sym same))) ∙ is in
       let pair = x.tied index time old in
       (pair.0, pair.1, index_erased keys.indices key pair.0 ∙ kept pair.0 index other pair.2 (bytes_cases key pair.0))
     where
-      kept : (k : List ℕ) (index : ℕ) → index ≢ i → get keys.indices k ≡ Some index → (key ≡ k) ⊎ (bytes_eq key k ≡ false) → cond (bytes_eq key k) None (get keys.indices k) ≡ Some index
-      kept k index other there_k (inl same) = absurd (other (some_is index i (sym there_k ∙ ap (λ (j : List ℕ). get keys.indices j) (sym same) ∙ mapped key there)))
+      kept : (k : List ℕ) (index : ℕ) → index ≢ i → get keys.indices k ≡ Some index → (key ≡ k) ⊎ (bytes_eq key k ≡ false)
+          → cond (bytes_eq key k) None (get keys.indices k) ≡ Some index
+      kept k index other there_k (inl same) =
+          absurd (other (some_is index i (sym there_k ∙ ap (λ (j : List ℕ). get keys.indices j) (sym same) ∙ mapped key there)))
       kept k index other there_k (inr ne) = ap (λ b. cond b None (get keys.indices k)) ne ∙ there_k
 
   freed_more : after_freeing ages i ≡ after_expiry was (suc freed)
   freed_more =
       let entries_are : others (drop freed was.entries) i ≡ drop (suc freed) was.entries =
-      ap (λ (l : List (ℕ × ℕ)). others l i) (sym (ap (λ (a : ChainState). a.entries) x.ages_are) ∙ first.is) ∙ others_first i first.time first.rest absent ∙ sym next.left in
+      ap (λ (l : List (ℕ × ℕ)). others l i) (sym (ap (λ (a : ChainState). a.entries) x.ages_are) ∙ first.is)
+      ∙ others_first i first.time first.rest absent ∙ sym next.left in
       let free_is : i ∷ reverse (indices (take freed was.entries)) ++ was.free ≡ reverse (indices (take (suc freed) was.entries)) ++ was.free =
       sym (ap (λ (l : List (ℕ × ℕ)). reverse (indices l) ++ was.free) next.done
       ∙ ap (λ (l : List ℕ). reverse l ++ was.free) (map-append (λ (entry : ℕ × ℕ). entry.0) (take freed was.entries) ((i, first.time) ∷ []))
@@ -106,10 +117,12 @@ module _ (before : ℕ) (was_keys : FixedMap) (was : ChainState) (cells : CellLi
       ∙ ap (λ (l : List (ℕ × ℕ)). record was { entries = l; free = i ∷ reverse (indices (take freed was.entries)) ++ was.free }) entries_are
       ∙ ap (λ (l : List ℕ). record was { entries = drop (suc freed) was.entries; free = l }) free_is
 
-  pub expiring_next : (now : ChainState) (now_keys : FixedMap) (key : List ℕ) → now ≡ after_freeing ages i → IsLawful now → slice_get cells.cells i ≡ Some key → now_keys ≡ without_key keys key →
+  pub expiring_next : (now : ChainState) (now_keys : FixedMap) (key : List ℕ) → now ≡ after_freeing ages i → IsLawful now
+      → slice_get cells.cells i ≡ Some key → now_keys ≡ without_key keys key →
       Expiring before was_keys was cells now_keys now (suc freed)
   expiring_next now now_keys key now_is lawful there keys_is =
-      let left : now.entries ≡ first.rest = ap (λ (a : ChainState). a.entries) now_is ∙ ap (λ (l : List (ℕ × ℕ)). others l i) first.is ∙ others_first i first.time first.rest absent in
+      let left : now.entries ≡ first.rest = ap (λ (a : ChainState). a.entries) now_is ∙ ap (λ (l : List (ℕ × ℕ)). others l i) first.is
+      ∙ others_first i first.time first.rest absent in
       let one = present key there in
       record {
         within = (let less : freed < length was.entries = next.inside in omega arith);
@@ -118,14 +131,16 @@ module _ (before : ℕ) (was_keys : FixedMap) (was : ChainState) (cells : CellLi
         keys_are = keys_is
             ∙ ap (λ (m : FixedMap). without_key m key) x.keys_are
             ∙ ap (λ (b : List ℕ). without_key (without_keys cells.cells was_keys (take freed was.entries)) b) (sym (ap (λ o. unwrap_or o []) there))
-            ∙ sym (fold-append (λ left entry. without_key left (unwrap_or (slice_get cells.cells entry.0) [])) was_keys (take freed was.entries) ((i, first.time) ∷ []))
+            ∙ sym (fold-append (λ left entry. without_key left (unwrap_or (slice_get cells.cells entry.0) [])) was_keys (take freed was.entries)
+            ((i, first.time) ∷ []))
             ∙ sym (ap (λ (l : List (ℕ × ℕ)). without_keys cells.cells was_keys l) next.done);
         counted = (let sizes : len now_keys.indices ≡ len (remove keys.indices key) = ap (λ (m : FixedMap). len m.indices) keys_is in
             omega (arith, sizes, size_erased keys.indices key one, some_keys keys.indices key one, x.counted));
         early = subst (λ (l : List (ℕ × ℕ)). All (λ entry. entry.1 < before) l) (sym next.done)
             (All-append (λ (entry : ℕ × ℕ). entry.1 < before) (take freed was.entries) ((i, first.time) ∷ []) x.early
             (All-cons (λ (entry : ℕ × ℕ). entry.1 < before) (i, first.time) [] first.early (All-nil (λ (entry : ℕ × ℕ). entry.1 < before))));
-        tied = subst (λ (m : FixedMap). AreTied m now.entries cells.cells) (sym keys_is) (subst (λ (l : List (ℕ × ℕ)). AreTied (without_key keys key) l cells.cells) (sym left) (stays_tied key there));
+        tied = subst (λ (m : FixedMap). AreTied m now.entries cells.cells) (sym keys_is) (subst
+            (λ (l : List (ℕ × ℕ)). AreTied (without_key keys key) l cells.cells) (sym left) (stays_tied key there));
         size = x.size ∙ sym (ap (λ (m : FixedMap). m.key_len) keys_is);
         whole = x.whole ∙ sym (ap (λ (a : ChainState). a.range) now_is);
       }

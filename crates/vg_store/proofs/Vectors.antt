@@ -6,7 +6,8 @@ use Rattle.vg_vector.specs.Cells.{CellList, with_cell}
 
 -- as many cells, of which as many are lent
 pub written_counts : (count i from : ℕ) (bytes : List ℕ) (was now : CellList) → (length was.lent ≡ count) × (length was.cells ≡ count) → i < length was.cells →
-    ((cell : List ℕ) → slice_get was.cells i ≡ Some cell → now ≡ with_cell was i (take from cell ++ bytes ++ drop (from + length bytes) cell)) → (length now.lent ≡ count) × (length now.cells ≡ count)
+    ((cell : List ℕ) → slice_get was.cells i ≡ Some cell → now ≡ with_cell was i (take from cell ++ bytes ++ drop (from + length bytes) cell))
+    → (length now.lent ≡ count) × (length now.cells ≡ count)
 written_counts count i from bytes was now counts inside is =
     let cell = get_or was.cells i [] in
     let now_is = is cell (slice_get-get_or was.cells i [] inside) in (

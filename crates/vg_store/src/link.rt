@@ -1,5 +1,6 @@
 //! A link: a map, a chain and a vector of one capacity.
-ghost use Rattle.std.specs.Prelude.{◌≡◌, ◌≤◌, ◌<◌, ◌+◌, ◌≢◌, ◌++◌, ◌∷◌, ◌↔◌, IsTrue, ℕ, List, true, false, length, take, drop, replicate, slice_get, unwrap_or, Some, None, IfOk, IfSome, IfNone, IsSome};
+ghost use Rattle.std.specs.Prelude.{◌≡◌, ◌≤◌, ◌<◌, ◌+◌, ◌≢◌, ◌++◌, ◌∷◌, ◌↔◌, IsTrue, ℕ, List, true, false, length, take, drop, replicate, slice_get};
+ghost use Rattle.std.specs.Prelude.{unwrap_or, Some, None, IfOk, IfSome, IfNone, IsSome};
 ghost use Rattle.std.specs.FinMap.{get};
 ghost use Rattle.vg_dchain.specs.ChainState.{after_allocation, after_rejuvenation, after_freeing};
 ghost use Rattle.vg_abs.specs.Effects.{with_key, without_key, with_index, with_time, without_index, with_cell, expired};
@@ -41,7 +42,8 @@ impl Model for RealLink {
 
     ghost view = { λ l. record { keys = l.keys; ages = l.ages; cells = l.cells } };
 
-    ghost invariant = { λ l. AreLinked (record { keys = l.keys; ages = l.ages; cells = l.cells }) × (l.ages.range ≡ l.capacity) × (l.keys.key_len ≡ l.key_length) };
+    ghost invariant = { λ l. AreLinked (record { keys = l.keys; ages = l.ages; cells = l.cells }) × (l.ages.range ≡ l.capacity)
+        × (l.keys.key_len ≡ l.key_length) };
 }
 
 impl RealLink {

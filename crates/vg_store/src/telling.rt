@@ -23,7 +23,8 @@ fn is_time_told(time: Option<u64>, listed: Option<Option<u64>>, full: bool) -> b
 /// Whether times agree with a table, which tells all where it is full.
 pub fn times_told(ages: &RealChain, range: u32, table: &Numbered<Option<u64>>, full: bool) -> bool
     requires { range ≡ ages.now.range }
-    ensures { IsTrue result ↔ ((index : ℕ) → index < ages.now.range → BothTell (Some (time_at ages.now.entries index)) (listed_or_none full (get table.now index))) }
+    ensures { IsTrue result ↔ ((index : ℕ) → index < ages.now.range → BothTell (Some (time_at ages.now.entries index))
+        (listed_or_none full (get table.now index))) }
 {
     for index in 0..range {
         let listed = table.get(u64::from(index)).copied();

@@ -1,5 +1,6 @@
 //! A vector in one block of cells.
-ghost use Rattle.std.specs.Prelude.{◌≡◌, ◌≤◌, ◌<◌, ◌+◌, ◌++◌, ◌↔◌, IsTrue, List, ℕ, true, false, length, take, drop, replicate, slice_get, unwrap_or, Some, IsSome, IfOk};
+ghost use Rattle.std.specs.Prelude.{◌≡◌, ◌≤◌, ◌<◌, ◌+◌, ◌++◌, ◌↔◌, IsTrue, List, ℕ, true, false, length, take, drop, replicate, slice_get, unwrap_or};
+ghost use Rattle.std.specs.Prelude.{Some, IsSome, IfOk};
 ghost use Rattle.std.specs.FinMap.{get};
 ghost use Rattle.vg_vector.specs.Cells.{with_cell, with_loan};
 ghost use Rattle.vg_abs.specs.Agreement.{BothTell};

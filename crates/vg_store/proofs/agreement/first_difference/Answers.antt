@@ -14,5 +14,10 @@ returns-then-not-agree_at c = record {
 pub returns : goal.returns
 returns c object = elim (cases_lt object c.loop-i.i) [
   | inl less ↦ c.loop-i.invariant object less
-  | inr more ↦ past_agrees (plainly c.args.objects.now) c.args.state.now object (omega (arith, more, c.loop-i-test.false, length-map c.args.objects.now as_plain))
+  | inr more ↦ past_agrees (plainly c.args.objects.now) c.args.state.now object (omega (
+    arith,
+    more,
+    c.loop-i-test.false,
+    length-map c.args.objects.now as_plain,
+  ))
 ]

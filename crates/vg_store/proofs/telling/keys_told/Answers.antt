@@ -9,6 +9,8 @@ returns c =
     let full : c.args.full ≡ true = search rules in
     let told = c.are_listed.ensures.0 yes in
     rw full (
-      λ all key. told_if c.args.keys.now.indices c.args.table.now told (subst (λ (n : ℕ). n ≤ indexed c.args.table.now) c.size.ensures.size (c.lists.ensures.0 all)) key,
-      λ agree. c.lists.ensures.1 (subst (λ (n : ℕ). n ≤ indexed c.args.table.now) (sym c.size.ensures.size) (told_then c.args.keys.now.indices c.args.table.now told agree)),
+      λ all key. told_if c.args.keys.now.indices c.args.table.now told (subst (λ (n : ℕ). n ≤ indexed c.args.table.now) c.size.ensures.size
+          (c.lists.ensures.0 all)) key,
+      λ agree. c.lists.ensures.1 (subst (λ (n : ℕ). n ≤ indexed c.args.table.now) (sym c.size.ensures.size)
+          (told_then c.args.keys.now.indices c.args.table.now told agree)),
     )

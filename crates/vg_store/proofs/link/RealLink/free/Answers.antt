@@ -9,7 +9,8 @@ use Rattle.vg_store.proofs.LinkSteps.{free_seen, ages_linked}
 use Rattle.vg_store.proofs.link.RealLink.free.Goals as goal
 
 pub free-requires : goal.free-requires
-free-requires c = subst IsSome (age_joined c.self.inside.ages.entries c.args.index) (subst (λ (p : Parts). IsSome (joined (get (link_of p).times c.args.index))) (sym c.self.view_is) c.requires)
+free-requires c = subst IsSome (age_joined c.self.inside.ages.entries c.args.index) (subst
+    (λ (p : Parts). IsSome (joined (get (link_of p).times c.args.index))) (sym c.self.view_is) c.requires)
 
 pub invariant_of-self : goal.invariant_of-self
 invariant_of-self c =

@@ -7,7 +7,8 @@ use Rattle.vg_store.proofs.LinkSteps.{put_seen, put_linked}
 use Rattle.vg_store.proofs.link.RealLink.put.Goals as goal
 
 pub put-requires-clause-absent : goal.put-requires-clause-absent
-put-requires-clause-absent c = sym (key_joined c.self.inside.keys.indices c.args.key.now) ∙ ap (λ (p : Parts). joined (get (link_of p).keys c.args.key.now)) c.self.view_is ∙ c.requires.absent
+put-requires-clause-absent c = sym (key_joined c.self.inside.keys.indices c.args.key.now) ∙ ap
+    (λ (p : Parts). joined (get (link_of p).keys c.args.key.now)) c.self.view_is ∙ c.requires.absent
 
 pub invariant_of-self : goal.invariant_of-self
 invariant_of-self c =
@@ -18,5 +19,6 @@ invariant_of-self c =
 pub returns-clause-link : goal.returns-clause-link
 returns-clause-link c =
     let was : Parts = record { keys = c.self.inside.keys; ages = c.self.inside.ages; cells = c.self.inside.cells } in
-    let absent = sym (key_joined c.self.inside.keys.indices c.args.key.now) ∙ ap (λ (p : Parts). joined (get (link_of p).keys c.args.key.now)) c.self.view_is ∙ c.requires.absent in
+    let absent = sym (key_joined c.self.inside.keys.indices c.args.key.now) ∙ ap (λ (p : Parts). joined (get (link_of p).keys c.args.key.now))
+    c.self.view_is ∙ c.requires.absent in
     rw (← c.self.view_is) (rw c.put.ensures (put_seen was c.args.key.now c.args.index absent))

@@ -9,7 +9,8 @@ use Rattle.vg_store.proofs.LinkSteps.{rejuvenate_seen, ages_linked}
 use Rattle.vg_store.proofs.link.RealLink.rejuvenate.Goals as goal
 
 pub rejuvenate-requires-clause-allocated : goal.rejuvenate-requires-clause-allocated
-rejuvenate-requires-clause-allocated c = subst IsSome (age_joined c.self.inside.ages.entries c.args.index) (subst (λ (p : Parts). IsSome (joined (get (link_of p).times c.args.index))) (sym c.self.view_is) c.requires.allocated)
+rejuvenate-requires-clause-allocated c = subst IsSome (age_joined c.self.inside.ages.entries c.args.index)
+    (subst (λ (p : Parts). IsSome (joined (get (link_of p).times c.args.index))) (sym c.self.view_is) c.requires.allocated)
 
 pub invariant_of-self : goal.invariant_of-self
 invariant_of-self c =

@@ -17,7 +17,8 @@ begin-requires c =
     rw (c.shape-in-loop-object.ensures, declared, place) (
       begins_at c.args.spec.now c.args.config.now c.deref-object-items.result.now c.loop-object.object-index _ c.object-item.result
           c.an_opening_state_is_lawful.ensures c.requires c.loop-object.invariant.items c.loop-object-test.true c.object-item.is,
-      few_at c.args.spec.now c.args.config.now c.deref-object-items.result.now c.loop-object.object-index c.object-item.result c.requires c.loop-object.invariant.items c.loop-object-test.true c.object-item.is,
+      few_at c.args.spec.now c.args.config.now c.deref-object-items.result.now c.loop-object.object-index c.object-item.result c.requires
+          c.loop-object.invariant.items c.loop-object-test.true c.object-item.is,
     )
 
 pub loop-object-preserved : goal.loop-object-preserved
@@ -28,9 +29,12 @@ loop-object-preserved c =
     record {
       items = c.loop-object.invariant.items;
       counted = ap length items ∙ length-append c.loop-object.objects.items (c.in_ok-begin.field-0 ∷ []) ∙ ap (λ n. n + 1) c.loop-object.invariant.counted;
-      made = subst (λ (xs : List PlainObject). map object_of xs ++ drop (c.loop-object.object-index + 1) c.deref-object-items.result.now ≡ c.deref-object-items.result.now) (sym one_more)
-          (made_more (plainly c.loop-object.objects.items) c.deref-object-items.result.now c.loop-object.object-index (as_plain c.in_ok-begin.field-0) c.object-item.result c.loop-object-test.true c.object-item.is c.in_ok-begin.ensures.object c.loop-object.invariant.made);
-      free = subst (λ (xs : List PlainObject). All NoneIsLent xs) (sym one_more) (free_more (plainly c.loop-object.objects.items) (as_plain c.in_ok-begin.field-0) c.loop-object.invariant.free c.in_ok-begin.ensures.free);
+      made = subst (λ (xs : List PlainObject). map object_of xs ++ drop (c.loop-object.object-index + 1) c.deref-object-items.result.now ≡
+          c.deref-object-items.result.now) (sym one_more)
+          (made_more (plainly c.loop-object.objects.items) c.deref-object-items.result.now c.loop-object.object-index (as_plain c.in_ok-begin.field-0)
+          c.object-item.result c.loop-object-test.true c.object-item.is c.in_ok-begin.ensures.object c.loop-object.invariant.made);
+      free = subst (λ (xs : List PlainObject). All NoneIsLent xs) (sym one_more) (free_more (plainly c.loop-object.objects.items)
+          (as_plain c.in_ok-begin.field-0) c.loop-object.invariant.free c.in_ok-begin.ensures.free);
     }
 
 pub returns-clause-free : goal.returns-clause-free

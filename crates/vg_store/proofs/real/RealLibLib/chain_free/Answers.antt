@@ -17,7 +17,8 @@ use Rattle.vg_plain.proofs.StateLaws.{as_library, link_is, does, is_absent, allo
 use Rattle.vg_store.specs.declared.object.RealObject.TheVariants.{Map}
 use Rattle.vg_store.specs.RealLinks.{Parts, seen, after_expiry}
 use Rattle.vg_store.specs.RealStates.{plainly, ages_in}
-use Rattle.vg_store.proofs.RealLaws.{set_plainly, real_within, real_stands, stands_plain, real_no_map, ages_here, ages_now, is_there, met_less, met_least, allocated_there, gets, tells}
+use Rattle.vg_store.proofs.RealLaws.{set_plainly, real_within, real_stands, stands_plain, real_no_map, ages_here, ages_now, is_there, met_less}
+use Rattle.vg_store.proofs.RealLaws.{met_least, allocated_there, gets, tells}
 use Rattle.vg_store.proofs.real.RealLibLib.chain_free.Goals as goal
 
 pub free-requires : goal.free-requires
@@ -28,11 +29,15 @@ free-requires c =
     let plainly_here = stands_plain items (c.args.chain - 1) (Map c.in-Map.link) here in
     let needs : Meets (as_library (plainly items)) (rows.ChainFree c.args.chain c.args.index) = c.requires.needs in
     let seen_is = link_is (plainly items) (c.args.chain - 1) (seen c.in-Map.link) plainly_here in
-    let less = met_less c.args.index c.in-Map.link.ages.range (subst (λ (l : Link). Some (nat_lt c.args.index l.capacity) ≡ Some true) seen_is (needs refl 0 (HasRoom 0) (omega arith))) in
-    allocated_there (seen c.in-Map.link).link c.args.index less (subst (λ (l : Link). option_map (λ answer. is_some answer) (time_of true l c.args.index) ≡ Some true) seen_is (needs refl 1 (HasRoom 0) (omega arith)))
+    let less = met_less c.args.index c.in-Map.link.ages.range (subst (λ (l : Link). Some (nat_lt c.args.index l.capacity) ≡ Some true) seen_is
+    (needs refl 0 (HasRoom 0) (omega arith))) in
+    allocated_there (seen c.in-Map.link).link c.args.index less
+    (subst (λ (l : Link). option_map (λ answer. is_some answer) (time_of true l c.args.index) ≡ Some true) seen_is
+    (needs refl 1 (HasRoom 0) (omega arith)))
 
 pub unreachable-requires : goal.unreachable-requires
-unreachable-requires c = real_no_map c.args.self.now.objects.items (c.args.chain - 1) c.index_mut.result.now c.requires.chain.map c.index_mut.ensures.value c.in_default.not-Map
+unreachable-requires c = real_no_map c.args.self.now.objects.items (c.args.chain - 1) c.index_mut.result.now c.requires.chain.map
+    c.index_mut.ensures.value c.in_default.not-Map
 
 pub returns-clause-row : goal.returns-clause-row
 returns-clause-row c =
@@ -40,9 +45,12 @@ returns-clause-row c =
     let inside = real_within items (c.args.chain - 1) c.requires.chain.map in
     let here = real_stands items (c.args.chain - 1) c.index_mut.result.now (Map c.in-Map.link) inside c.index_mut.ensures.value c.in-Map.is in
     let plainly_here = stands_plain items (c.args.chain - 1) (Map c.in-Map.link) here in
-    set_plainly (λ (kept : List PlainObject). Does (as_library (plainly items)) (as_library kept) (rows.ChainFree c.args.chain c.args.index)) items (c.args.chain - 1) (Map c.free.new.self)
-    (does (plainly items) (c.args.chain - 1) (seen c.in-Map.link) (seen c.free.new.self) _ (rows.ChainFree c.args.chain c.args.index) plainly_here c.free.ensures.link
-    (sym (ap (λ (l : Link). with_link (state_of (plainly items)) (c.args.chain - 1) (without_index true l c.args.index)) (link_is (plainly items) (c.args.chain - 1) (seen c.in-Map.link) plainly_here))))
+    set_plainly (λ (kept : List PlainObject). Does (as_library (plainly items)) (as_library kept) (rows.ChainFree c.args.chain c.args.index)) items
+    (c.args.chain - 1) (Map c.free.new.self)
+    (does (plainly items) (c.args.chain - 1) (seen c.in-Map.link) (seen c.free.new.self) _ (rows.ChainFree c.args.chain c.args.index) plainly_here
+    c.free.ensures.link
+    (sym (ap (λ (l : Link). with_link (state_of (plainly items)) (c.args.chain - 1) (without_index true l c.args.index))
+    (link_is (plainly items) (c.args.chain - 1) (seen c.in-Map.link) plainly_here))))
 
 pub returns-clause-next : goal.returns-clause-next
 returns-clause-next c =
@@ -50,4 +58,5 @@ returns-clause-next c =
     let inside = real_within items (c.args.chain - 1) c.requires.chain.map in
     let here = real_stands items (c.args.chain - 1) c.index_mut.result.now (Map c.in-Map.link) inside c.index_mut.ensures.value c.in-Map.is in
     let plainly_here = stands_plain items (c.args.chain - 1) (Map c.in-Map.link) here in
-    ages_now items (c.args.chain - 1) c.free.new.self inside ∙ c.free.ensures.ages ∙ ap (λ (a : ChainState). after_freeing a c.args.index) (sym (ages_here items (c.args.chain - 1) c.in-Map.link here))
+    ages_now items (c.args.chain - 1) c.free.new.self inside ∙ c.free.ensures.ages ∙ ap (λ (a : ChainState). after_freeing a c.args.index)
+    (sym (ages_here items (c.args.chain - 1) c.in-Map.link here))

@@ -17,7 +17,8 @@ use Rattle.vg_plain.proofs.StateLaws.{as_library, link_is, does, is_absent, allo
 use Rattle.vg_store.specs.declared.object.RealObject.TheVariants.{Map}
 use Rattle.vg_store.specs.RealLinks.{Parts, seen, after_expiry}
 use Rattle.vg_store.specs.RealStates.{plainly, ages_in}
-use Rattle.vg_store.proofs.RealLaws.{set_plainly, real_within, real_stands, stands_plain, real_no_map, ages_here, ages_now, is_there, met_less, met_least, allocated_there, gets, tells}
+use Rattle.vg_store.proofs.RealLaws.{set_plainly, real_within, real_stands, stands_plain, real_no_map, ages_here, ages_now, is_there, met_less}
+use Rattle.vg_store.proofs.RealLaws.{met_least, allocated_there, gets, tells}
 use Rattle.vg_store.proofs.real.RealLibLib.chain_rejuvenate.Goals as goal
 
 pub rejuvenate-requires-clause-allocated : goal.rejuvenate-requires-clause-allocated
@@ -28,8 +29,11 @@ rejuvenate-requires-clause-allocated c =
     let plainly_here = stands_plain items (c.args.chain - 1) (Map c.in-Map.link) here in
     let needs : Meets (as_library (plainly items)) (rows.ChainRejuvenate c.args.chain c.args.index c.args.now) = c.requires.needs in
     let seen_is = link_is (plainly items) (c.args.chain - 1) (seen c.in-Map.link) plainly_here in
-    let less = met_less c.args.index c.in-Map.link.ages.range (subst (λ (l : Link). Some (nat_lt c.args.index l.capacity) ≡ Some true) seen_is (needs refl 0 (HasRoom 0) (omega arith))) in
-    allocated_there (seen c.in-Map.link).link c.args.index less (subst (λ (l : Link). option_map (λ answer. is_some answer) (time_of true l c.args.index) ≡ Some true) seen_is (needs refl 1 (HasRoom 0) (omega arith)))
+    let less = met_less c.args.index c.in-Map.link.ages.range (subst (λ (l : Link). Some (nat_lt c.args.index l.capacity) ≡ Some true) seen_is
+    (needs refl 0 (HasRoom 0) (omega arith))) in
+    allocated_there (seen c.in-Map.link).link c.args.index less
+    (subst (λ (l : Link). option_map (λ answer. is_some answer) (time_of true l c.args.index) ≡ Some true) seen_is
+    (needs refl 1 (HasRoom 0) (omega arith)))
 
 pub rejuvenate-requires-clause-time : goal.rejuvenate-requires-clause-time
 rejuvenate-requires-clause-time c =
@@ -39,11 +43,13 @@ rejuvenate-requires-clause-time c =
     let plainly_here = stands_plain items (c.args.chain - 1) (Map c.in-Map.link) here in
     let needs : Meets (as_library (plainly items)) (rows.ChainRejuvenate c.args.chain c.args.index c.args.now) = c.requires.needs in
     let seen_is = link_is (plainly items) (c.args.chain - 1) (seen c.in-Map.link) plainly_here in
-    let less = met_less c.args.index c.in-Map.link.ages.range (subst (λ (l : Link). Some (nat_lt c.args.index l.capacity) ≡ Some true) seen_is (needs refl 0 (HasRoom 0) (omega arith))) in
+    let less = met_less c.args.index c.in-Map.link.ages.range (subst (λ (l : Link). Some (nat_lt c.args.index l.capacity) ≡ Some true) seen_is
+    (needs refl 0 (HasRoom 0) (omega arith))) in
     met_least _ _ (subst (λ (l : Link). Some (nat_le l.highest c.args.now) ≡ Some true) seen_is (needs refl 2 (HasRoom 0) (omega arith)))
 
 pub unreachable-requires : goal.unreachable-requires
-unreachable-requires c = real_no_map c.args.self.now.objects.items (c.args.chain - 1) c.index_mut.result.now c.requires.chain.map c.index_mut.ensures.value c.in_default.not-Map
+unreachable-requires c = real_no_map c.args.self.now.objects.items (c.args.chain - 1) c.index_mut.result.now c.requires.chain.map
+    c.index_mut.ensures.value c.in_default.not-Map
 
 pub returns-clause-row : goal.returns-clause-row
 returns-clause-row c =
@@ -51,9 +57,12 @@ returns-clause-row c =
     let inside = real_within items (c.args.chain - 1) c.requires.chain.map in
     let here = real_stands items (c.args.chain - 1) c.index_mut.result.now (Map c.in-Map.link) inside c.index_mut.ensures.value c.in-Map.is in
     let plainly_here = stands_plain items (c.args.chain - 1) (Map c.in-Map.link) here in
-    set_plainly (λ (kept : List PlainObject). Does (as_library (plainly items)) (as_library kept) (rows.ChainRejuvenate c.args.chain c.args.index c.args.now)) items (c.args.chain - 1) (Map c.rejuvenate.new.self)
-    (does (plainly items) (c.args.chain - 1) (seen c.in-Map.link) (seen c.rejuvenate.new.self) _ (rows.ChainRejuvenate c.args.chain c.args.index c.args.now) plainly_here c.rejuvenate.ensures.link
-    (sym (ap (λ (l : Link). with_link (state_of (plainly items)) (c.args.chain - 1) (with_time l c.args.index c.args.now)) (link_is (plainly items) (c.args.chain - 1) (seen c.in-Map.link) plainly_here))))
+    set_plainly (λ (kept : List PlainObject). Does (as_library (plainly items)) (as_library kept)
+    (rows.ChainRejuvenate c.args.chain c.args.index c.args.now)) items (c.args.chain - 1) (Map c.rejuvenate.new.self)
+    (does (plainly items) (c.args.chain - 1) (seen c.in-Map.link) (seen c.rejuvenate.new.self) _
+    (rows.ChainRejuvenate c.args.chain c.args.index c.args.now) plainly_here c.rejuvenate.ensures.link
+    (sym (ap (λ (l : Link). with_link (state_of (plainly items)) (c.args.chain - 1) (with_time l c.args.index c.args.now))
+    (link_is (plainly items) (c.args.chain - 1) (seen c.in-Map.link) plainly_here))))
 
 pub returns-clause-youngest : goal.returns-clause-youngest
 returns-clause-youngest c =
@@ -61,4 +70,5 @@ returns-clause-youngest c =
     let inside = real_within items (c.args.chain - 1) c.requires.chain.map in
     let here = real_stands items (c.args.chain - 1) c.index_mut.result.now (Map c.in-Map.link) inside c.index_mut.ensures.value c.in-Map.is in
     let plainly_here = stands_plain items (c.args.chain - 1) (Map c.in-Map.link) here in
-    ages_now items (c.args.chain - 1) c.rejuvenate.new.self inside ∙ c.rejuvenate.ensures.ages ∙ ap (λ (a : ChainState). after_rejuvenation a c.args.index c.args.now) (sym (ages_here items (c.args.chain - 1) c.in-Map.link here))
+    ages_now items (c.args.chain - 1) c.rejuvenate.new.self inside ∙ c.rejuvenate.ensures.ages
+    ∙ ap (λ (a : ChainState). after_rejuvenation a c.args.index c.args.now) (sym (ages_here items (c.args.chain - 1) c.in-Map.link here))

@@ -17,7 +17,8 @@ use Rattle.vg_plain.proofs.StateLaws.{as_library, link_is, does, is_absent, allo
 use Rattle.vg_store.specs.declared.object.RealObject.TheVariants.{Map}
 use Rattle.vg_store.specs.RealLinks.{Parts, seen, after_expiry}
 use Rattle.vg_store.specs.RealStates.{plainly, ages_in}
-use Rattle.vg_store.proofs.RealLaws.{set_plainly, real_within, real_stands, stands_plain, real_no_map, ages_here, ages_now, is_there, met_less, met_least, allocated_there, gets, tells}
+use Rattle.vg_store.proofs.RealLaws.{set_plainly, real_within, real_stands, stands_plain, real_no_map, ages_here, ages_now, is_there, met_less}
+use Rattle.vg_store.proofs.RealLaws.{met_least, allocated_there, gets, tells}
 use Rattle.vg_store.proofs.real.RealLibLib.map_get.Goals as goal
 
 pub get-requires : goal.get-requires

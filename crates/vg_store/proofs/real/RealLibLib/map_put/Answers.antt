@@ -17,7 +17,8 @@ use Rattle.vg_plain.proofs.StateLaws.{as_library, link_is, does, is_absent, allo
 use Rattle.vg_store.specs.declared.object.RealObject.TheVariants.{Map}
 use Rattle.vg_store.specs.RealLinks.{Parts, seen, after_expiry}
 use Rattle.vg_store.specs.RealStates.{plainly, ages_in}
-use Rattle.vg_store.proofs.RealLaws.{set_plainly, real_within, real_stands, stands_plain, real_no_map, ages_here, ages_now, is_there, met_less, met_least, allocated_there, gets, tells}
+use Rattle.vg_store.proofs.RealLaws.{set_plainly, real_within, real_stands, stands_plain, real_no_map, ages_here, ages_now, is_there, met_less}
+use Rattle.vg_store.proofs.RealLaws.{met_least, allocated_there, gets, tells}
 use Rattle.vg_store.proofs.real.RealLibLib.map_put.Goals as goal
 
 pub put-requires-clause-room : goal.put-requires-clause-room
@@ -27,7 +28,8 @@ put-requires-clause-room c =
     let here = real_stands items (c.args.map) c.index_mut.result.now (Map c.in-Map.link) inside c.index_mut.ensures.value c.in-Map.is in
     let plainly_here = stands_plain items (c.args.map) (Map c.in-Map.link) here in
     let needs : Meets (as_library (plainly items)) (rows.MapPut c.args.map c.args.key.now c.args.index) = c.requires.needs in
-    met_less _ _ (subst (λ (l : Link). Some (nat_lt l.size l.capacity) ≡ Some true) (link_is (plainly items) c.args.map (seen c.in-Map.link) plainly_here) (needs refl 0 (HasRoom 0) (omega arith)))
+    met_less _ _ (subst (λ (l : Link). Some (nat_lt l.size l.capacity) ≡ Some true) (link_is (plainly items) c.args.map (seen c.in-Map.link)
+    plainly_here) (needs refl 0 (HasRoom 0) (omega arith)))
 
 pub put-requires-clause-long : goal.put-requires-clause-long
 put-requires-clause-long c =
@@ -44,10 +46,12 @@ put-requires-clause-absent c =
     let here = real_stands items (c.args.map) c.index_mut.result.now (Map c.in-Map.link) inside c.index_mut.ensures.value c.in-Map.is in
     let plainly_here = stands_plain items (c.args.map) (Map c.in-Map.link) here in
     let needs : Meets (as_library (plainly items)) (rows.MapPut c.args.map c.args.key.now c.args.index) = c.requires.needs in
-    is_absent _ (subst (λ (l : Link). option_map (λ answer. is_none answer) (index_of true l c.args.key.now) ≡ Some true) (link_is (plainly items) c.args.map (seen c.in-Map.link) plainly_here) (needs refl 2 (HasRoom 0) (omega arith)))
+    is_absent _ (subst (λ (l : Link). option_map (λ answer. is_none answer) (index_of true l c.args.key.now) ≡ Some true)
+    (link_is (plainly items) c.args.map (seen c.in-Map.link) plainly_here) (needs refl 2 (HasRoom 0) (omega arith)))
 
 pub unreachable-requires : goal.unreachable-requires
-unreachable-requires c = real_no_map c.args.self.now.objects.items (c.args.map) c.index_mut.result.now c.requires.map c.index_mut.ensures.value c.in_default.not-Map
+unreachable-requires c = real_no_map c.args.self.now.objects.items (c.args.map) c.index_mut.result.now c.requires.map c.index_mut.ensures.value
+    c.in_default.not-Map
 
 pub returns : goal.returns
 returns c =
@@ -55,6 +59,9 @@ returns c =
     let inside = real_within items (c.args.map) c.requires.map in
     let here = real_stands items (c.args.map) c.index_mut.result.now (Map c.in-Map.link) inside c.index_mut.ensures.value c.in-Map.is in
     let plainly_here = stands_plain items (c.args.map) (Map c.in-Map.link) here in
-    set_plainly (λ (kept : List PlainObject). Does (as_library (plainly items)) (as_library kept) (rows.MapPut c.args.map c.args.key.now c.args.index)) items (c.args.map) (Map c.put.new.self)
-    (does (plainly items) (c.args.map) (seen c.in-Map.link) (seen c.put.new.self) _ (rows.MapPut c.args.map c.args.key.now c.args.index) plainly_here c.put.ensures.link
-    (sym (ap (λ (l : Link). with_link (state_of (plainly items)) (c.args.map) (with_key l c.args.key.now c.args.index)) (link_is (plainly items) (c.args.map) (seen c.in-Map.link) plainly_here))))
+    set_plainly (λ (kept : List PlainObject). Does (as_library (plainly items)) (as_library kept)
+    (rows.MapPut c.args.map c.args.key.now c.args.index)) items (c.args.map) (Map c.put.new.self)
+    (does (plainly items) (c.args.map) (seen c.in-Map.link) (seen c.put.new.self) _ (rows.MapPut c.args.map c.args.key.now c.args.index) plainly_here
+    c.put.ensures.link
+    (sym (ap (λ (l : Link). with_link (state_of (plainly items)) (c.args.map) (with_key l c.args.key.now c.args.index))
+    (link_is (plainly items) (c.args.map) (seen c.in-Map.link) plainly_here))))
