@@ -196,7 +196,8 @@ impl RealLink {
         requires within { (cell : List ℕ) → get (link_of self.old).cells index ≡ Some cell → from + length bytes.now ≤ length cell }
         ensures cell { IsSome (get (link_of self.old).cells index) }
         ensures stored { (cell : List ℕ) → get (link_of self.old).cells index ≡ Some cell →
-            seen self.new ≡ with_link (seen self.old) (with_cell (link_of self.old) index (take from cell ++ bytes.now ++ drop (from + length bytes.now) cell)) }
+            seen self.new ≡ with_link (seen self.old)
+            (with_cell (link_of self.old) index (take from cell ++ bytes.now ++ drop (from + length bytes.now) cell)) }
         ensures ages { self.new.ages ≡ self.old.ages }
     {
         self.cells.store(index, from, bytes);
