@@ -1,7 +1,6 @@
 -- What a call on one object makes of the real library, by what it makes of the list library's.
-use Rattle.std.proofs.Common.{◌≡◌, ℕ, ◌-◌, ◌<◌, ◌≤◌, ◌≢◌, List, length, map, set, get_or, Option, Some, None, slice_get, refl, sym, ◌∙◌, ap, subst}
-use Rattle.std.proofs.Common.{arith, Bool, true, false, cond, inl, inr}
-use Rattle.std.specs.Prelude.{is_some, is_none, IsSome, IfSome, IfNone, IsTrue, nat_le, nat_lt, ◌∷◌, ◌↔◌}
+use Rattle.std.proofs.Common.{◌≡◌, ℕ, ◌-◌, ◌<◌, ◌≤◌, List, length, map, set, get_or, Option, Some, None, slice_get, refl, sym, ◌∙◌, ap, subst, arith, Bool, true, cond, inl, inr}
+use Rattle.std.specs.Prelude.{is_some, IsSome, IfSome, IfNone, IsTrue, nat_le, nat_lt, ◌∷◌, ◌↔◌}
 use Rattle.std.specs.Option.{option_map}
 use Rattle.std.specs.FinMap.{get}
 use Rattle.std.proofs.lemmas.Bool.{cases_lt, le-ltb, lt-ltb, lt-leb}

@@ -1,5 +1,5 @@
 -- What the real library asks of an object at the start beyond what the list library does.
-use Rattle.std.specs.Prelude.{ℕ, ◌≤◌, length, All}
+use Rattle.std.specs.Prelude.{◌≤◌, length, All}
 use Rattle.vg_stree.specs.declared.shape.ObjectKind.{ObjectKind}
 use Rattle.vg_stree.specs.Declarations.{Declarations}
 use Rattle.vg_abs.specs.declared.object.Object.{Object}

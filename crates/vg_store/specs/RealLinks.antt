@@ -25,8 +25,8 @@ cells_code = code_by (ℕ × (List (List ℕ) × List Bool)) (coded× coded_ℕ 
     (λ c. (c.size, (c.cells, c.lent))) (λ p. record { size = p.0; cells = p.1.0; lent = p.1.1 }) (λ _. refl)
 
 abbrev pub parts_code : Coded Parts
-parts_code = code_by (FixedMap × (ChainState × CellList)) (coded× map_code (coded× chain_code cells_code)) (λ p. (p.keys, (p.ages, p.cells)))
-    (λ p. record { keys = p.0; ages = p.1.0; cells = p.1.1 }) (λ _. refl)
+parts_code = code_by (FixedMap × (ChainState × CellList)) (coded× map_code (coded× chain_code cells_code))
+    (λ p. (p.keys, (p.ages, p.cells))) (λ p. record { keys = p.0; ages = p.1.0; cells = p.1.1 }) (λ _. refl)
 
 -- the table of a link
 abbrev pub link_of : Parts → Link
@@ -57,8 +57,8 @@ pub record AreLinked (p : Parts) : Type 0 where
 
 -- the cell of each index that is handed out is a key that is mapped to it
 abbrev pub AreTied : FixedMap → List (ℕ × ℕ) → List (List ℕ) → Type 0
-AreTied keys ages cells = (index time : ℕ) → time_at ages index ≡ Some time → (key : List ℕ) × (slice_get cells index ≡ Some key)
-    × (get keys.indices key ≡ Some index)
+AreTied keys ages cells =
+    (index time : ℕ) → time_at ages index ≡ Some time → (key : List ℕ) × (slice_get cells index ≡ Some key) × (get keys.indices key ≡ Some index)
 
 -- the map without the keys in the cells of these indices
 abbrev pub without_keys : List (List ℕ) → FixedMap → List (ℕ × ℕ) → FixedMap

@@ -1,10 +1,7 @@
-use Rattle.std.proofs.Common.{◌≡◌, ◌<◌, ◌∙◌, ap, sym, subst, refl, ℕ, List, length, get_or, slice_get, Some, arith}
-use Rattle.std.specs.FinMap.{get}
+use Rattle.std.proofs.Common.{◌<◌, ◌∙◌, ap, sym, subst, refl, List, length, get_or, Some, arith}
 use Rattle.std.proofs.lemmas.Option.{slice_get-get_or}
 use Rattle.std.proofs.lemmas.List.{length-map}
 use Rattle.vg_abs.specs.declared.object.Object.{Object}
-use Rattle.vg_abs.specs.declared.object.Object.TheVariants as objects
-use Rattle.vg_abs.specs.Agreement.{BothTell}
 use Rattle.vg_plain.specs.PlainStates.{object_of}
 use Rattle.vg_plain.proofs.Places.{cells_agree_as}
 use Rattle.vg_plain.proofs.AgreementLaws.{keys_same, cells_same, map_kind, cells_kind, at_object}

@@ -1,24 +1,10 @@
-use Rattle.std.proofs.Common.{ℕ, ◌≡◌, ◌-◌, ◌<◌, ◌≤◌, ◌∷◌, ◌∙◌, List, length, set, Option, Some, None, slice_get, refl, sym, ap, subst, arith, true}
-use Rattle.std.specs.Prelude.{is_none, is_some, IsSome, IfSome, nat_lt, nat_le}
-use Rattle.std.specs.Option.{option_map}
-use Rattle.std.specs.FinMap.{get}
-use Rattle.vg_dchain.specs.ChainState.{ChainState, after_rejuvenation, after_freeing}
+use Rattle.std.proofs.Common.{◌-◌, ◌∙◌, sym, ap}
 use Rattle.vg_abs.specs.Tables.{Link}
-use Rattle.vg_abs.specs.State.{link_of_map}
-use Rattle.vg_abs.specs.Answers.{index_of, time_of}
-use Rattle.vg_abs.specs.Rows as rows
-use Rattle.vg_abs.specs.Rows.{HasRoom}
-use Rattle.vg_abs.specs.Effects.{with_link, with_key, without_key, with_time, without_index}
-use Rattle.vg_abs.specs.Library.{Meets, Does, Allocates, Expires}
-use Rattle.vg_plain.specs.declared.object.PlainObject.{PlainObject}
-use Rattle.vg_plain.specs.LinkStates.{IsKeyed}
-use Rattle.vg_plain.specs.PlainStates.{state_of}
-use Rattle.vg_plain.proofs.StateLaws.{as_library, link_is, does, is_absent, allocates, expires_so}
+use Rattle.vg_plain.proofs.StateLaws.{link_is}
 use Rattle.vg_store.specs.declared.object.RealObject.TheVariants.{Map}
-use Rattle.vg_store.specs.RealLinks.{Parts, seen, after_expiry}
-use Rattle.vg_store.specs.RealStates.{plainly, ages_in}
-use Rattle.vg_store.proofs.RealLaws.{set_plainly, real_within, real_stands, stands_plain, real_no_map, ages_here, ages_now, is_there, met_less}
-use Rattle.vg_store.proofs.RealLaws.{met_least, allocated_there, gets, tells}
+use Rattle.vg_store.specs.RealLinks.{seen}
+use Rattle.vg_store.specs.RealStates.{plainly}
+use Rattle.vg_store.proofs.RealLaws.{real_within, real_stands, stands_plain, real_no_map}
 use Rattle.vg_store.proofs.real.RealLibLib.chain_highest.Goals as goal
 
 pub unreachable-requires : goal.unreachable-requires
