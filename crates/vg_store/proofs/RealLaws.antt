@@ -1,5 +1,6 @@
 -- What a call on one object makes of the real library, by what it makes of the list library's.
-use Rattle.std.proofs.Common.{◌≡◌, ℕ, ◌-◌, ◌<◌, ◌≤◌, List, length, map, set, get_or, Option, Some, None, slice_get, refl, sym, ◌∙◌, ap, subst, arith, Bool, true, cond, inl, inr}
+use Rattle.std.proofs.Common.{◌≡◌, ℕ, ◌-◌, ◌<◌, ◌≤◌, List, length, map, set, get_or, Option, Some, None, slice_get, refl, sym, ◌∙◌, ap, subst, arith}
+use Rattle.std.proofs.Common.{Bool, true, cond, inl, inr}
 use Rattle.std.specs.Prelude.{is_some, IsSome, IfSome, IfNone, IsTrue, nat_le, nat_lt, ◌∷◌, ◌↔◌}
 use Rattle.std.specs.Option.{option_map}
 use Rattle.std.specs.FinMap.{get}

@@ -14,7 +14,8 @@ use Rattle.vg_plain.proofs.StateLaws.{as_library, link_is, does}
 use Rattle.vg_store.specs.declared.object.RealObject.TheVariants.{Map}
 use Rattle.vg_store.specs.RealLinks.{seen}
 use Rattle.vg_store.specs.RealStates.{plainly}
-use Rattle.vg_store.proofs.RealLaws.{set_plainly, real_within, real_stands, stands_plain, real_no_map, ages_here, ages_now, met_less, met_least, allocated_there}
+use Rattle.vg_store.proofs.RealLaws.{set_plainly, real_within, real_stands, stands_plain, real_no_map, ages_here, ages_now, met_less, met_least}
+use Rattle.vg_store.proofs.RealLaws.{allocated_there}
 use Rattle.vg_store.proofs.real.RealLibLib.chain_rejuvenate.Goals as goal
 
 pub rejuvenate-requires-clause-allocated : goal.rejuvenate-requires-clause-allocated
