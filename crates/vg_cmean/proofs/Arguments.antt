@@ -10,7 +10,8 @@ use Rattle.vg_cmean.specs.declared.datum.Datum.{Datum}
 use Rattle.vg_cmean.specs.declared.datum.Datum.TheVariants as data_of
 use Rattle.vg_cmean.specs.Outcomes.{Outcome, Next, Gives, Wrong, Untold, and_then, after, full, tick}
 use Rattle.vg_cmean.specs.Arguments.{set_below, given_from}
-use Rattle.vg_cmean.specs.Meaning.{Parts_mean, value, given, parameter}
+use Rattle.vg_cmean.specs.Values.{read}
+use Rattle.vg_cmean.specs.Meaning.{Meaning, Parts_mean, value, given, parameter}
 
 after_next : (o : Outcome) → (f g : State → Outcome) → ((s : State) → f s ≡ g s) → after o f ≡ after o g
 after_next (Next s) f g h = h s
@@ -78,6 +79,17 @@ waits_wrong u part xs ps ds k at reason s t o h i g is =
     (λ w. after (parameter u (get_or ps k 0) e w) (set_below u ps ds k)))) g
     ∙ sym (from_step u part xs ps ds k s h i)
     ∙ is
+
+-- what a part gives, and then is read, is its value
+pub read_gives : (m : Meaning) (d e : Datum) (s t : State) → Gives d t ≡ m.gives s → Gives e t ≡ read d t → Gives e t ≡ value m s
+read_gives m d e s t g h = h ∙ ap (λ o. and_then o read) g
+
+pub read_wrong : (m : Meaning) (d : Datum) (at : ℕ) (reason : Reason) (s t : State) → Gives d t ≡ m.gives s → Wrong at reason t ≡ read d t →
+    Wrong at reason t ≡ value m s
+read_wrong m d at reason s t g h = h ∙ ap (λ o. and_then o read) g
+
+pub part_wrong : (m : Meaning) (at : ℕ) (reason : Reason) (s t : State) → Wrong at reason t ≡ m.gives s → Wrong at reason t ≡ value m s
+part_wrong m at reason s t g = ap (λ o. and_then o read) g
 
 given_short : (u : Typed) (part : Parts_mean) (xs ps : List ℕ) (s : State) → min (length xs) (length ps) ≡ 0 → given u part xs ps s ≡ Next (tick s)
 given_short u part [] ps s h = refl

@@ -369,7 +369,8 @@ fn given_waiting(
     ensures same { IsSame world.old world.new }
 {
     for k in 0..evaluated.len() {
-        evaluated[k] = part_value(world, env, n, arguments[k])?;
+        let datum = part(world, env, n, arguments[k])?;
+        evaluated[k] = read(world, datum)?;
     }
     world.memory.tick();
     parameters(world, env.unit, params, evaluated)

@@ -1,9 +1,9 @@
-use Rattle.std.proofs.Common.{◌≡◌, ◌≤◌, ◌<◌, ◌+◌, length, min, rules, arith, sym, ◌∙◌}
+use Rattle.std.proofs.Common.{◌≡◌, ◌≤◌, ◌<◌, ◌+◌, length, min, get_or, rules, arith, sym, ◌∙◌}
 use Rattle.vg_cmean.specs.Views.{seen}
 use Rattle.vg_cmean.specs.Meaning.{meaning_below}
 use Rattle.vg_cmean.proofs.Links.{chain_short, climbs_wrong, begins_chain, begins, step_chain, step_within, step_gives, step_wrong, branch_next}
 use Rattle.vg_cmean.proofs.Turns.{turns_done}
-use Rattle.vg_cmean.proofs.Arguments.{waits, waits_wrong, all_wait}
+use Rattle.vg_cmean.proofs.Arguments.{read_gives, read_wrong, part_wrong, waits, waits_wrong, all_wait}
 use Rattle.vg_cmean.proofs.run.+machine.Goals as goal
 
 pub turns-returns-clause-value : goal.turns-returns-clause-value
@@ -59,21 +59,32 @@ pub given_waiting-loop-k-preserved : goal.given_waiting-loop-k-preserved
 given_waiting-loop-k-preserved t c =
     let inside : c.loop-k.k < length c.args.arguments.now = omega (arith, c.requires.room) in
     let paired : c.loop-k.k < length c.args.params.now = omega (arith, c.requires.room) in
-    let room : c.loop-k.k < length c.loop-k.evaluated = omega arith in (
+    let room : c.loop-k.k < length c.loop-k.evaluated = omega arith in
+    let gave = read_gives (meaning_below c.args.env.now.unit.now c.args.n (get_or c.args.arguments.now c.loop-k.k 0)) c.in_ok-datum.datum
+    c.in_ok-evaluated.field-0 (seen c.loop-k.world) (seen c.part.new.world) c.in_ok-datum.ensures.value c.in_ok-evaluated.ensures in (
       search rules,
       search rules,
       waits c.args.env.now.unit.now (meaning_below c.args.env.now.unit.now c.args.n) c.args.arguments.now c.args.params.now c.loop-k.evaluated
-          c.loop-k.k c.in_ok-evaluated.field-0
-          (seen c.loop-k.world) (seen c.part_value.new.world) _ inside paired room c.in_ok-evaluated.ensures.value c.loop-k.invariant.2,
+          c.loop-k.k c.in_ok-evaluated.field-0 (seen c.loop-k.world) (seen c.part.new.world) _ inside paired room gave c.loop-k.invariant.2,
     )
+
+pub given_waiting-returns-in_err-datum-clause-value : goal.given_waiting-returns-in_err-datum-clause-value
+given_waiting-returns-in_err-datum-clause-value t c =
+    let inside : c.loop-k.k < length c.args.arguments.now = omega (arith, c.requires.room) in
+    let paired : c.loop-k.k < length c.args.params.now = omega (arith, c.requires.room) in
+    let went = part_wrong (meaning_below c.args.env.now.unit.now c.args.n (get_or c.args.arguments.now c.loop-k.k 0)) _ _
+    (seen c.loop-k.world) (seen c.part.new.world) c.in_err-datum.ensures.value in
+    let wrong = waits_wrong c.args.env.now.unit.now (meaning_below c.args.env.now.unit.now c.args.n) c.args.arguments.now c.args.params.now
+    c.loop-k.evaluated c.loop-k.k _ _ (seen c.loop-k.world) (seen c.part.new.world) _ inside paired went c.loop-k.invariant.2 in search rules
 
 pub given_waiting-returns-in_err-evaluated-clause-value : goal.given_waiting-returns-in_err-evaluated-clause-value
 given_waiting-returns-in_err-evaluated-clause-value t c =
     let inside : c.loop-k.k < length c.args.arguments.now = omega (arith, c.requires.room) in
     let paired : c.loop-k.k < length c.args.params.now = omega (arith, c.requires.room) in
+    let went = read_wrong (meaning_below c.args.env.now.unit.now c.args.n (get_or c.args.arguments.now c.loop-k.k 0)) c.in_ok-datum.datum _ _
+    (seen c.loop-k.world) (seen c.part.new.world) c.in_ok-datum.ensures.value c.in_err-evaluated.ensures in
     let wrong = waits_wrong c.args.env.now.unit.now (meaning_below c.args.env.now.unit.now c.args.n) c.args.arguments.now c.args.params.now
-    c.loop-k.evaluated c.loop-k.k _ _
-    (seen c.loop-k.world) (seen c.part_value.new.world) _ inside paired c.in_err-evaluated.ensures.value c.loop-k.invariant.2 in search rules
+    c.loop-k.evaluated c.loop-k.k _ _ (seen c.loop-k.world) (seen c.part.new.world) _ inside paired went c.loop-k.invariant.2 in search rules
 
 pub given_waiting-returns-clause-value : goal.given_waiting-returns-clause-value
 given_waiting-returns-clause-value t c =
