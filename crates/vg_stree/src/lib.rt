@@ -19,4 +19,4 @@ pub use config::{Config, Fill, Route};
 pub use laws::each_address_has_one_match;
 pub use names::Names;
 pub use shape::{Field, FieldType, Number, Object, ObjectKind, Rule, Shape, Size, Struct, Width};
-pub use spec::{Spec, name_at, object_name};
+pub use spec::{Spec, is_declared, name_at, object_name};

@@ -1,7 +1,11 @@
 //! The names that a specification declares.
-ghost use Rattle.std.specs.Prelude.{◌≡◌, [], IfOk, OnOk};
+ghost use Rattle.std.specs.Prelude.{◌≡◌, [], ◌&&◌, not, IfOk, OnOk};
+ghost use Rattle.std.specs.List.{list_any};
+ghost use Rattle.std.specs.Str.{bytes_eq};
 ghost use Rattle.vg_stree.specs.Names.{spelled_at, with_name};
+ghost use Rattle.vg_stree.specs.Specification as specification;
 
+use crate::shape::Field;
 use std::alloc::Global;
 use std::marker::Model;
 use vg_parts::Memory;
@@ -59,6 +63,18 @@ impl Names {
         ""
     }
 
+    /// Whether a word is one of the names, and not a field's.
+    pub fn declare(&self, fields: &[Field], word: &[u8]) -> bool
+        ensures { result ≡ list_any (λ name. bytes_eq name.spelled word.now && not (specification.is_field fields.now name.at)) self.now }
+    {
+        for named in &self.list {
+            if named.spelled.as_bytes() == word && !is_field(fields, named.at) {
+                return true;
+            }
+        }
+        false
+    }
+
     /// The same names once more.
     pub fn copy(&self, alloc: Global) -> Result<Names, Memory>
         ensures { IfOk result (λ copied. copied ≡ self.now) }
@@ -69,4 +85,11 @@ impl Names {
         }
         Ok(copied)
     }
+}
+
+// Whether a field's name stands at a place.
+fn is_field(fields: &[Field], at: u32) -> bool
+    ensures { result ≡ specification.is_field fields.now at }
+{
+    fields.iter().any(|field| field.at == at)
 }

@@ -1,6 +1,6 @@
 //! A specification.
 ghost use Rattle.std.specs.Prelude.{◌≡◌, IfOk};
-ghost use Rattle.vg_stree.specs.Specification.{name_of_object};
+ghost use Rattle.vg_stree.specs.Specification.{name_of_object, declares};
 ghost use Rattle.vg_stree.specs.Names.{spelled_at};
 ghost use Rattle.vg_stree.specs.Depths.{NestsLittle};
 
@@ -103,4 +103,11 @@ pub fn object_name(spec: &Spec, object: u16) -> &str
         Some(declared) => spec.names.name_at(declared.at),
         None => "",
     }
+}
+
+/// Whether a word is the name of a declaration: of a number, a struct, an object or a define. Fields' names are none.
+pub fn is_declared(spec: &Spec, word: &[u8]) -> bool
+    ensures { result ≡ declares spec.now word.now }
+{
+    spec.names.declare(spec.declared.fields(), word)
 }

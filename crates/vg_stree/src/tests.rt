@@ -30,10 +30,11 @@ fn made_shape(alloc: Global) -> Result<Shape, Memory> {
     Ok(shape)
 }
 
-// Names at 5 and 40.
+// Names at 5 and 40, a field's at 10.
 fn made_names(alloc: Global) -> Result<Names, Memory> {
     let mut names = Names::new(alloc);
     names.add(alloc, 5, "flow")?;
+    names.add(alloc, 10, "port")?;
     names.add(alloc, 40, "flows")?;
     Ok(names)
 }
@@ -78,6 +79,8 @@ fn names_and_places(rt: HostRuntime) -> Result<(), Fail> {
     assert_eq!(rt; name_at(&spec, 6), "");
     assert_eq!(rt; object_name(&spec, 0), "flows");
     assert_eq!(rt; object_name(&spec, 1), "");
+    assert!(rt; is_declared(&spec, b"flow"));
+    assert!(rt; !is_declared(&spec, b"port"));
     let shape = spec.shape();
     assert_eq!(rt; shape.ports(), 2);
     assert_eq!(rt; shape.struct_bytes(0), 14);
