@@ -14,7 +14,7 @@ mod spec;
 #[cfg(test)]
 mod tests;
 
-pub use code::{Code, FrameWord, Operation, Operator, Parts, SExpr, SStmt};
+pub use code::{Code, FrameWord, Operation, Operator, Parts, SExpr, SStmt, part_of};
 pub use config::{Config, Fill, Route};
 pub use laws::each_address_has_one_match;
 pub use names::Names;
