@@ -65,5 +65,6 @@ gone_more (c ∷ cs) new number other e =
 
 pub stays_gone_at_loans : StaysGoneAtLoans
 stays_gone_at_loans own count (objects.Declared node number) h gone = gone
+stays_gone_at_loans own count (objects.Cell vector index number) h gone = refl
 stays_gone_at_loans own count (objects.Chunk number) h gone =
     gone_more own.chunks (record { number = own.born; from = own.lent; size = count }) number (later own.born number h) gone
