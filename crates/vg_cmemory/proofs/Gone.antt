@@ -5,7 +5,6 @@ use Rattle.std.proofs.lemmas.Grind.{common_steps}
 use Rattle.vg_core.specs.declared.reason.Reason.{Reason}
 use Rattle.vg_cmemory.specs.declared.object.Object.{Object}
 use Rattle.vg_cmemory.specs.declared.object.Object.TheVariants as objects
-use Rattle.vg_cmemory.specs.declared.object.Room.{Room}
 use Rattle.vg_cmemory.specs.State.{Own, State, Slot, no_slot, made, ended, slot, declare}
 use Rattle.vg_cmemory.specs.Access.{Gone, content, content_of_life, bytes_of_word, write_tests, written, written_in, put_in_slot}
 use Rattle.vg_cint.specs.Tests.{first_against, unless}

@@ -1,6 +1,6 @@
 -- What a write leaves in its own object.
 use Rattle.std.proofs.Common.{◌≡◌, ℕ, zero, suc, ◌+◌, nat_eq, Bool, true, false, if◌then◌else◌, List, [], ◌∷◌, length, map, take, drop, slice_set}
-use Rattle.std.proofs.Common.{slice_index_or, Option, Some, None, IfOk, refl, ap, subst, sym, ◌∙◌, arith}
+use Rattle.std.proofs.Common.{slice_index_or, Option, Some, None, IfOk, refl, ap, ◌∙◌, arith}
 use Rattle.vg_core.specs.declared.reason.Reason.{Reason}
 use Rattle.vg_core.specs.declared.reason.Reason.TheVariants as reasons
 use Rattle.vg_cmemory.specs.declared.object.Object.TheVariants as objects

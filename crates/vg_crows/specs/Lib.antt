@@ -1,0 +1,5 @@
+pub mod Record
+pub mod State
+pub mod Access
+pub mod Rows
+pub mod Worked

@@ -1,0 +1,12 @@
+//! The library's fifteen calls as a C function makes them: on its memory, its frame and the library.
+#![tactic(auto)]
+
+mod answer;
+mod book;
+mod laws;
+mod request;
+
+pub use answer::{Answer, Stop};
+pub use book::{Book, Cell};
+pub use laws::{a_frame_of_calls, refusals_come_in_order};
+pub use request::{Handle, Request};
