@@ -32,7 +32,7 @@ objects_at_first = record (start []) {
 abbrev pub empty_link : Link
 empty_link = record {
   capacity = 2; key_length = 1; keys = empty; times = empty;
-  cells = insert (insert empty 0 (0 ∷ [])) 1 (0 ∷ []);
+  cells = insert empty 0 (0 ∷ []);
   size = 0; count = 0; highest = 3; bounds = empty;
 }
 
@@ -77,39 +77,21 @@ yes = answers.Word 1
 abbrev pub no : Answer
 no = answers.Word 0
 
--- ---- a key gets an index and is found again; the index's time is renewed, and then it is freed
-abbrev pub LivesOfAKey : Type 0
-LivesOfAKey =
-    told_of (1 ∷ []) at_first (
-    requests.MapGet (handle 0) key place
-    ∷ requests.ChainAllocate (handle 1) place 5
-    ∷ requests.MapPut (handle 0) key 1
-    ∷ requests.MapSize (handle 0)
-    ∷ requests.MapGet (handle 0) key place
-    ∷ requests.ChainRejuvenate (handle 1) 1 6
-    ∷ requests.MapErase (handle 0) key
-    ∷ requests.ChainFree (handle 1) 1
-    ∷ requests.ChainIsAllocated (handle 1) 1
-    ∷ requests.ChainAllocate (handle 1) place 5
-    ∷ []) ≡ (no ∷ yes ∷ answers.Nothing ∷ yes ∷ yes ∷ answers.Nothing ∷ answers.Nothing ∷ answers.Nothing ∷ no ∷ [], wrong 8)
+-- ---- a loan ends by its own name alone, and an expiry comes neither behind a change nor while a cell is lent
+abbrev pub expiry : Request
+expiry = requests.ExpireItems (handle 0) (handle 1) (handle 2) 9
 
--- ---- an expiry comes first in a frame, and not behind a change; a store into a cell is one
-abbrev pub ExpiriesComeFirst : Type 0
-ExpiriesComeFirst =
-    (told_of [] at_first (
-    requests.ExpireItems (handle 0) (handle 1) (handle 2) 9 ∷ requests.ExpireItems (handle 0) (handle 1) (handle 2) 9 ∷ []) ≡ (no ∷ [], wrong 12))
-    × (told_of (0 ∷ []) at_first (
-    requests.ChainAllocate (handle 1) place 5 ∷ requests.ExpireItems (handle 0) (handle 1) (handle 2) 9 ∷ []) ≡ (yes ∷ [], wrong 12))
-    × (told_of [] at_first (
-    requests.VectorBorrow (handle 2) 0
-    ∷ requests.VectorReturn (handle 2) (cell 0 3)
-    ∷ requests.ExpireItems (handle 0) (handle 1) (handle 2) 9
-    ∷ []) ≡ (answers.Address (cell 0 3) ∷ answers.Nothing ∷ no ∷ [], None))
-    × (told_of [] at_first (
-    requests.VectorBorrow (handle 2) 0
-    ∷ requests.PacketBorrow 1
-    ∷ requests.VectorReturn (handle 2) (cell 0 4)
-    ∷ []) ≡ (answers.Address (cell 0 3) ∷ answers.Address (record { object = objects.Chunk 4; offset = 0 }) ∷ [], wrong 14))
+abbrev pub lending : Request
+lending = requests.VectorBorrow (handle 2) 0
+
+abbrev pub LoansAndChanges : Type 0
+LoansAndChanges =
+    (told_of (0 ∷ []) at_first (requests.ChainAllocate (handle 1) place 5 ∷ expiry ∷ []) ≡ (yes ∷ [], wrong 12))
+    × (told_of [] at_first (lending ∷ expiry ∷ []) ≡ (answers.Address (cell 0 3) ∷ [], wrong 12))
+    × (told_of [] at_first (lending ∷ lending ∷ []) ≡ (answers.Address (cell 0 3) ∷ [], wrong 13))
+    × (told_of [] at_first (lending ∷ requests.VectorReturn (handle 2) (cell 0 4) ∷ []) ≡ (answers.Address (cell 0 3) ∷ [], wrong 14))
+    × (told_of [] at_first (lending ∷ requests.VectorReturn (handle 2) (cell 0 3) ∷ requests.VectorReturn (handle 2) (cell 0 3) ∷ []) ≡
+    (answers.Address (cell 0 3) ∷ answers.Nothing ∷ [], wrong 14))
 
 -- ---- what isn't met is told in the table's order: numbers before the key is read, and the place of an answer before its index is chosen
 abbrev pub RefusalsComeInOrder : Type 0

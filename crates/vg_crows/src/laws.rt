@@ -1,10 +1,9 @@
 //! Laws of the rows, each as the contract of a function that does nothing.
-ghost use Rattle.vg_crows.specs.Worked.{LivesOfAKey, ExpiriesComeFirst, RefusalsComeInOrder};
+ghost use Rattle.vg_crows.specs.Worked.{LoansAndChanges, RefusalsComeInOrder};
 
-/// Calls of worked frames, one after the other, and what each answers.
+/// Loans and changes in worked frames, and what comes of calls behind them.
 pub fn a_frame_of_calls()
-    ensures lives { LivesOfAKey }
-    ensures expiries { ExpiriesComeFirst }
+    ensures { LoansAndChanges }
 {}
 
 /// The first thing that isn't met is the reason.
