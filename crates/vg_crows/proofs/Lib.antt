@@ -1,1 +1,5 @@
 mod Worked
+mod Marks
+mod Loans
+mod Asking
+mod Steps

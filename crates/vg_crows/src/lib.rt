@@ -1,12 +1,17 @@
 //! The library's fifteen calls as a C function makes them: on its memory, its frame and the library.
 #![tactic(auto)]
 
+mod access;
 mod answer;
 mod book;
+mod chains;
 mod laws;
+mod needs;
 mod request;
 
+pub use access::load;
 pub use answer::{Answer, Stop};
 pub use book::{Book, Cell};
+pub use chains::chain_free;
 pub use laws::{a_frame_of_calls, refusals_come_in_order};
 pub use request::{Handle, Request};
