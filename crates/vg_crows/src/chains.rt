@@ -1,15 +1,29 @@
 //! Calls on chains.
 ghost use Rattle.std.specs.Prelude.{◌≡◌, false, List, ℕ};
 ghost use Rattle.vg_cmemory.specs.State as memory;
-ghost use Rattle.vg_crows.specs.Rows.{perform};
+ghost use Rattle.vg_crows.specs.Rows.{perform, meets_numbers};
+ghost use Rattle.vg_abs.specs.Rows as library;
+ghost use Rattle.vg_crows.specs.Record.{Record};
 ghost use Rattle.vg_crows.specs.declared.request.Request.TheVariants as requests;
-ghost use Rattle.vg_crows.specs.Views.{NamesChain, StopsWith, SameLent, beside, gives, is_untold};
+ghost use Rattle.vg_crows.specs.Views.{IsUntouched, NamesChain, StopsWith, SameLent, beside, gives, is_untold};
 
 use crate::answer::{Answer, Stop};
 use crate::book::Book;
-use crate::needs::{decided, needs_allocated};
+use crate::needs::{needs_allocated, needs_below};
 use crate::request::Handle;
 use vg_abs::Lib;
+
+fn free_needs<L: Lib>(lib: &mut L, chain: Handle, index: u32) -> Result<(), Stop>
+    requires told { (L.library lib.old).missed ≡ false }
+    requires chain { NamesChain (L.library lib.old) chain }
+    ensures value { (own : memory.State) (book : Record)
+        → result ≡ meets_numbers (beside own (L.library lib.old) book) (library.ChainFree chain.number index) }
+    ensures untouched { IsUntouched (L.library lib.old) (L.library lib.new) }
+    ensures missed { (L.library lib.new).missed ≡ is_untold result }
+{
+    needs_below(11, index, chain.count)?;
+    needs_allocated(lib, 11, chain, index)
+}
 
 /// `chain_free`
 pub fn chain_free<L: Lib>(
@@ -29,8 +43,7 @@ pub fn chain_free<L: Lib>(
     ensures choices { (L.library lib.new).choices ≡ (L.library lib.old).choices }
     ensures missed { (L.library lib.new).missed ≡ is_untold result }
 {
-    decided(11, u64::from(index) < chain.count)?;
-    needs_allocated(lib, 11, chain, index)?;
+    free_needs(lib, chain, index)?;
     lib.chain_free(chain.number, index);
     book.mark(chain.number - 1);
     Ok(Answer::Nothing)

@@ -1,5 +1,5 @@
 //! What calls need.
-ghost use Rattle.std.specs.Prelude.{◌≡◌, ◌<◌, Some, false};
+ghost use Rattle.std.specs.Prelude.{◌≡◌, ◌<◌, Some, false, nat_lt};
 ghost use Rattle.vg_abs.specs.Library.{IsMap, IsChain};
 ghost use Rattle.vg_abs.specs.Rows.{IsAllocated, is_met};
 ghost use Rattle.vg_crows.specs.Rows.{decided};
@@ -22,6 +22,15 @@ pub fn decided(row: u8, met: bool) -> Result<(), Stop>
     } else {
         Err(Stop::Wrong(Reason::Before(row)))
     }
+}
+
+/// An index must be below a count.
+///
+/// `Before`: it isn't, with the number of the call's row.
+pub fn needs_below(row: u8, index: u32, count: u64) -> Result<(), Stop>
+    ensures { result ≡ decided row (Some (nat_lt index count)) }
+{
+    decided(row, u64::from(index) < count)
 }
 
 /// An index must be allocated.
