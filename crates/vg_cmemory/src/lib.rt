@@ -13,6 +13,7 @@ mod object;
 mod runs;
 
 pub use access::lies_in;
+pub use bytes::put_in_frame;
 pub use cells::{against_write_of, load_of, read_of};
 pub use frame_calls::{FrameCall, call_in_row, row_of};
 pub use laws::{

@@ -70,6 +70,11 @@ with_answer s None value = s
 with_answer s (Some target) None = s
 with_answer s (Some target) (Some value) = stored s target.pointer target.size value
 
+-- a question whose answer is stored, where there is one
+abbrev pub answered : State → Option Target → Option ℕ → Outcome
+answered s target None = Ok (answers.Word 0, s)
+answered s target (Some value) = and_then (may_store s target (Some value)) (λ _. Ok (answers.Word 1, with_answer s target (Some value)))
+
 -- the next of the choices, which must be an index that can be handed out
 abbrev pub as_choice : ℕ → Option Bool → Result ℕ Stop
 as_choice choice (Some true) = Ok choice

@@ -25,6 +25,11 @@ abbrev pub gives : Result Answer Stop → State → Outcome
 gives (Ok answer) s = Ok (answer, s)
 gives (Err stop) s = Err stop
 
+-- what was done to a value, where it was done
+abbrev pub with_value : {A B : Type 0} → Result A Stop → B → Result B Stop
+with_value (Ok done) b = Ok b
+with_value (Err stop) b = Err stop
+
 abbrev pub is_untold : {A : Type 0} → Result A Stop → Bool
 is_untold (Err stops.Untold) = true
 is_untold _ = false

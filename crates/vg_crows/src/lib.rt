@@ -5,11 +5,12 @@ mod access;
 mod answer;
 mod book;
 mod chains;
+mod keyed;
 mod laws;
 mod needs;
 mod request;
 
-pub use access::load;
+pub use access::{against_write, load, read};
 pub use answer::{Answer, Stop};
 pub use book::{Book, Cell};
 pub use chains::chain_free;
