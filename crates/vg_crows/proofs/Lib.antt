@@ -3,3 +3,5 @@ mod Marks
 mod Loans
 mod Asking
 mod Steps
+mod Bytes
+mod Elsewhere

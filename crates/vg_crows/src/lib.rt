@@ -9,6 +9,7 @@ mod keyed;
 mod laws;
 mod needs;
 mod request;
+mod storing;
 
 pub use access::{against_write, load, read};
 pub use answer::{Answer, Stop};
@@ -16,3 +17,4 @@ pub use book::{Book, Cell};
 pub use chains::chain_free;
 pub use laws::{a_frame_of_calls, refusals_come_in_order};
 pub use request::{Handle, Request};
+pub use storing::store;
