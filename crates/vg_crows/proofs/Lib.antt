@@ -5,3 +5,4 @@ mod Asking
 mod Steps
 mod Bytes
 mod Elsewhere
+mod Answered

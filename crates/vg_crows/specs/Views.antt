@@ -6,7 +6,9 @@ use Rattle.vg_cmemory.specs.State as memory
 use Rattle.vg_abs.specs.Library.{Library, IsMap, IsChain, IsVector}
 use Rattle.vg_abs.specs.State.{link_of_map, link_of_chain, vector_of}
 use Rattle.vg_abs.specs.Rows.{is_lent}
+use Rattle.vg_core.specs.declared.reason.Reason.{Reason}
 use Rattle.vg_crows.specs.declared.answer.Answer.{Answer}
+use Rattle.vg_crows.specs.declared.answer.Answer.TheVariants as answers
 use Rattle.vg_crows.specs.declared.answer.Stop.{Stop}
 use Rattle.vg_crows.specs.declared.answer.Stop.TheVariants as stops
 use Rattle.vg_crows.specs.declared.request.Handle.{Handle}
@@ -29,6 +31,11 @@ gives (Err stop) s = Err stop
 abbrev pub with_value : {A B : Type 0} → Result A Stop → B → Result B Stop
 with_value (Ok done) b = Ok b
 with_value (Err stop) b = Err stop
+
+-- what the store of an answer comes to
+abbrev pub yes_of : Result (Unit {0}) Reason → Result Answer Stop
+yes_of (Ok done) = Ok (answers.Word 1)
+yes_of (Err reason) = Err (stops.Wrong reason)
 
 abbrev pub is_untold : {A : Type 0} → Result A Stop → Bool
 is_untold (Err stops.Untold) = true

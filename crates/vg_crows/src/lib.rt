@@ -9,6 +9,7 @@ mod keyed;
 mod laws;
 mod needs;
 mod request;
+mod stored;
 mod storing;
 
 pub use access::{against_write, load, read};
