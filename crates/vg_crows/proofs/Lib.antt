@@ -6,3 +6,4 @@ mod Steps
 mod Bytes
 mod Elsewhere
 mod Answered
+mod Kept
