@@ -7,3 +7,4 @@ mod Bytes
 mod Elsewhere
 mod Answered
 mod Kept
+mod Choices

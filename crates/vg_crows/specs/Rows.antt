@@ -132,11 +132,15 @@ abbrev pub concluded : State → Call → Option Target → (choice : ℕ) → A
 concluded s call target choice =
     (answer_of s call (reply s.library call choice), with_answer (done s call choice) target (reply s.library call choice).stored)
 
+-- the choice, the effect and the store, where the place of the answer was tested
+abbrev pub after_place : (choices : List ℕ) → State → Call → Option Target → Outcome
+after_place choices s call target = and_then (choice_of choices s call) (λ choice. Ok (concluded s call target choice))
+
 abbrev pub granted : (choices : List ℕ) → State → Call → Option Target → Outcome
 granted choices s call target =
     and_then (told (case_of s.library call)) (λ _.
     and_then (may_store s target (reply s.library call 0).stored) (λ _.
-    and_then (choice_of choices s call) (λ choice. Ok (concluded s call target choice))))
+    after_place choices s call target))
 
 -- a call without a key
 abbrev pub by_numbers : (choices : List ℕ) → State → Call → Option Target → Outcome

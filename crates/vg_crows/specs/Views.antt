@@ -22,6 +22,10 @@ beside own l book = record { memory = own; library = l.state; book = book }
 abbrev pub seen : Own → (frame : List ℕ) → Library → Record → State
 seen own frame l book = beside (record { own = own; frame = frame }) l book
 
+-- a call that stopped has changed neither the library's state nor the book
+abbrev pub StopsWithState : {A : Type 0} → Result A Stop → (l m : Library) → (old new : Record) → Type 0
+StopsWithState result l m old new = OnErr result ((m.state ≡ l.state) × (new ≡ old))
+
 -- what a call gave, and left
 abbrev pub gives : Result Answer Stop → State → Outcome
 gives (Ok answer) s = Ok (answer, s)

@@ -2,6 +2,7 @@
 #![tactic(auto)]
 
 mod access;
+mod allocation;
 mod answer;
 mod book;
 mod chains;

@@ -1,5 +1,5 @@
 //! What calls need.
-ghost use Rattle.std.specs.Prelude.{◌≡◌, ◌<◌, Some, false, nat_lt};
+ghost use Rattle.std.specs.Prelude.{◌≡◌, ◌<◌, Some, false, nat_lt, nat_le};
 ghost use Rattle.vg_abs.specs.Library.{IsMap, IsChain};
 ghost use Rattle.vg_abs.specs.Rows.{IsAllocated, is_met};
 ghost use Rattle.vg_crows.specs.Rows.{decided};
@@ -31,6 +31,24 @@ pub fn needs_below(row: u8, index: u32, count: u64) -> Result<(), Stop>
     ensures { result ≡ decided row (Some (nat_lt index count)) }
 {
     decided(row, u64::from(index) < count)
+}
+
+/// A time must be no earlier than the highest that was told.
+///
+/// `Before`: it is, with the number of the call's row.
+pub fn needs_no_earlier(row: u8, highest: u64, time: u64) -> Result<(), Stop>
+    ensures { result ≡ decided row (Some (nat_le highest time)) }
+{
+    decided(row, highest <= time)
+}
+
+/// Fewer of something must be there than may be.
+///
+/// `Before`: there aren't, with the number of the call's row.
+pub fn needs_fewer(row: u8, count: usize, most: usize) -> Result<(), Stop>
+    ensures { result ≡ decided row (Some (nat_lt count most)) }
+{
+    decided(row, count < most)
 }
 
 /// An index must be allocated.
