@@ -81,6 +81,7 @@ read_steps _ s = omega arith
 written_steps : (s : State) (object : Object) (at : ℕ) (new : List ℕ) → (written s object at new).own.steps ≡ s.own.steps
 written_steps s (objects.Declared node number) at new = refl
 written_steps s (objects.Chunk number) at new = refl
+written_steps s (objects.Cell vector index number) at new = refl
 
 pub write_steps : (to d : Datum) (s : State) → steps_after (write to d s) ≤ s.own.steps
 write_steps (data_of.Lvalue p) d s =

@@ -162,7 +162,10 @@ alone_at : (s : State) (object other : Object) (at size word : ℕ) → IsStacke
 alone_at s (objects.Declared node number) (objects.Declared k m) at size word stacked ne h w =
     ap (bytes_of s.frame) (by_node s.own.slots node number k m at (bytes_of_word size word) ne (eqb_tells node k) h)
 alone_at s (objects.Declared node number) (objects.Chunk m) at size word stacked ne h w = refl
+alone_at s (objects.Declared node number) (objects.Cell vector index m) at size word stacked ne h w = refl
 alone_at s (objects.Chunk number) (objects.Declared k m) at size word stacked ne h w = life_bytes (slice_index_or s.own.slots k no_slot).life m _ s.frame
+alone_at s (objects.Chunk number) (objects.Cell vector index m) at size word stacked ne h w = refl
+alone_at s (objects.Cell vector index number) other at size word stacked ne h w = cc
 alone_at s (objects.Chunk number) (objects.Chunk m) at size word stacked ne h w = chunk_alone s number m at size word stacked (λ e. ne (ap objects.Chunk e)) h w
 
 pub alone : WritesAreSeenThereAlone

@@ -5,7 +5,6 @@ use Rattle.std.proofs.lemmas.Grind.{common_steps}
 use Rattle.vg_core.specs.declared.reason.Reason.{Reason}
 use Rattle.vg_cmemory.specs.declared.object.Object.{Object}
 use Rattle.vg_cmemory.specs.declared.object.Object.TheVariants as objects
-use Rattle.vg_cmemory.specs.declared.object.Room.{Room}
 use Rattle.vg_cmemory.specs.State.{Own, State, Slot, no_slot, made, ended, slot, declare}
 use Rattle.vg_cmemory.specs.Access.{Gone, content, content_of_life, bytes_of_word, write_tests, written, written_in, put_in_slot}
 use Rattle.vg_cint.specs.Tests.{first_against, unless}
@@ -48,6 +47,7 @@ by_place own node k number false e h gone =
 pub stays_gone : StaysGone
 stays_gone own node (objects.Declared k number) h gone = by_place own node k number (nat_eq node k) refl h gone
 stays_gone own node (objects.Chunk number) h gone = gone
+stays_gone own node (objects.Cell vector index number) h gone = refl
 
 -- ---- writes
 
@@ -56,10 +56,12 @@ keeps : (s : State) (node number at : ℕ) (new : List ℕ) (other : Object) →
 keeps s node number at new (objects.Declared k m) ne =
     ap (λ (x : Slot). content_of_life x.life m) (slot_other s.own.slots node k (put_in_slot at new (slot s.own node)) (λ e. ne (ap Some e)))
 keeps s node number at new (objects.Chunk m) ne = refl
+keeps s node number at new (objects.Cell vector index m) ne = refl
 
 keeps_at : (s : State) (object other : Object) (at : ℕ) (new : List ℕ) → KeepsOthers s object other (written s object at new)
 keeps_at s (objects.Declared node number) other at new = keeps s node number at new other
 keeps_at s (objects.Chunk number) other at new = λ ne. refl
+keeps_at s (objects.Cell vector index number) other at new = λ ne. refl
 
 done_if : (r : Option Reason) (done : State) (P : State → Type 0) → P done → IfOk (unless r done) P
 done_if None done P h = h

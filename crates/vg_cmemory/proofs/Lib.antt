@@ -6,3 +6,4 @@ mod Outside
 mod Seen
 mod Stacked
 mod Alone
+mod Named

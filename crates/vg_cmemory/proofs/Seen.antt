@@ -1,6 +1,6 @@
 -- What a write leaves in its own object.
 use Rattle.std.proofs.Common.{◌≡◌, ℕ, zero, suc, ◌+◌, nat_eq, Bool, true, false, if◌then◌else◌, List, [], ◌∷◌, length, map, take, drop, slice_set}
-use Rattle.std.proofs.Common.{slice_index_or, Option, Some, None, IfOk, refl, ap, subst, sym, ◌∙◌, arith}
+use Rattle.std.proofs.Common.{slice_index_or, Option, Some, None, IfOk, refl, ap, ◌∙◌, arith}
 use Rattle.vg_core.specs.declared.reason.Reason.{Reason}
 use Rattle.vg_core.specs.declared.reason.Reason.TheVariants as reasons
 use Rattle.vg_cmemory.specs.declared.object.Object.TheVariants as objects
@@ -106,6 +106,7 @@ seen_at : (s : State) (object : Object) (at : ℕ) (new : List ℕ) → lives (c
     bytes_in (written s object at new) object ≡ put (bytes_in s object) at (map set new)
 seen_at s (objects.Declared node number) at new h = seen_slot s.own.slots node number at new s.frame s.frame h
 seen_at s (objects.Chunk number) at new h = seen_chunk s number at new h
+seen_at s (objects.Cell vector index number) at new h = cc
 
 pub writes_are_seen : WritesAreSeen
 writes_are_seen s p room size align word =

@@ -1,15 +1,12 @@
 -- Chunks that are lent, one behind the other.
 use Rattle.std.proofs.Common.{◌≡◌, ℕ, zero, suc, ◌+◌, ◌-◌, ◌<◌, ◌≤◌, nat_eq, Bool, true, false, if◌then◌else◌, List, [], ◌∷◌, ◌++◌, length, take}
-use Rattle.std.proofs.Common.{slice_get, slice_index_or, refl, sym, ap, subst, ◌∙◌, arith}
-use Rattle.std.specs.List.{AllPairs}
+use Rattle.std.proofs.Common.{slice_get, slice_index_or, refl, sym, ap, subst, arith}
 use Rattle.std.proofs.lemmas.Grind.{common_steps}
-use Rattle.vg_cmemory.specs.declared.object.Object.{Object}
 use Rattle.vg_cmemory.specs.declared.object.Object.TheVariants as objects
 use Rattle.vg_cmemory.specs.declared.object.Chunk.{Chunk}
-use Rattle.vg_cmemory.specs.State.{Own, start, take_back_all}
-use Rattle.vg_cmemory.specs.Loans.{with_loan, without_loan, start_of_chunk}
-use Rattle.vg_cmemory.specs.Access.{Content, Lent, Gone, content, content_of_chunk}
-use Rattle.vg_cmemory.specs.Laws.{AreStacked, IsStacked, StartsStacked, StaysStacked, ChunksAreApart, StaysGoneAtLoans, number_of_name}
+use Rattle.vg_cmemory.specs.Loans.{start_of_chunk}
+use Rattle.vg_cmemory.specs.Access.{Content, Lent, Gone, content_of_chunk}
+use Rattle.vg_cmemory.specs.Laws.{AreStacked, StartsStacked, StaysStacked, ChunksAreApart, StaysGoneAtLoans}
 
 pub starts : StartsStacked
 starts sizes = refl
@@ -65,5 +62,6 @@ gone_more (c ∷ cs) new number other e =
 
 pub stays_gone_at_loans : StaysGoneAtLoans
 stays_gone_at_loans own count (objects.Declared node number) h gone = gone
+stays_gone_at_loans own count (objects.Cell vector index number) h gone = refl
 stays_gone_at_loans own count (objects.Chunk number) h gone =
     gone_more own.chunks (record { number = own.born; from = own.lent; size = count }) number (later own.born number h) gone

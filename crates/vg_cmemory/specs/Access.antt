@@ -33,6 +33,8 @@ content_of_chunk (chunk ∷ chunks) number = if nat_eq chunk.number number then 
 abbrev pub content : Own → Object → Content
 content own (objects.Declared node number) = content_of_life (slot own node).life number
 content own (objects.Chunk number) = content_of_chunk own.chunks number
+-- the bytes of a cell are the library's, and not in this memory
+content own (objects.Cell vector index number) = Gone
 
 abbrev pub lives : Content → Bool
 lives Gone = false
@@ -134,6 +136,7 @@ write_tests s p room size align = access_tests (content s.own p.object) (length 
 abbrev pub written : State → Object → (at : ℕ) → List ℕ → State
 written s (objects.Declared node number) at new = record s { own = written_in node at new s.own }
 written s (objects.Chunk number) at new = record s { frame = put s.frame (start_in_frame (content_of_chunk s.own.chunks number) + at) new }
+written s (objects.Cell vector index number) at new = s
 
 abbrev pub store : State → Pointer → Option Room → (size align word : ℕ) → Result State Reason
 store s p room size align word = tested (write_tests s p room size align) (written s p.object p.offset (bytes_of_word size word))

@@ -10,6 +10,7 @@ use Rattle.vg_cmemory.specs.declared.object.Room.{Room}
 use Rattle.vg_cmemory.specs.declared.object.Chunk.{Chunk}
 use Rattle.vg_cmemory.specs.State.{Own, State, start, declare, end_life, take_back_all}
 use Rattle.vg_cmemory.specs.Loans.{with_loan, without_loan}
+use Rattle.vg_cmemory.specs.Cells.{with_name}
 use Rattle.vg_cmemory.specs.Access.{Gone, content, bytes_of, bytes_of_word, set, store, put, part}
 
 -- ---- writes
@@ -17,6 +18,7 @@ use Rattle.vg_cmemory.specs.Access.{Gone, content, bytes_of, bytes_of_word, set,
 abbrev pub node_of : Object → Option ℕ
 node_of (objects.Declared node number) = Some node
 node_of (objects.Chunk number) = None
+node_of (objects.Cell vector index number) = None
 
 -- a write to the object of one declaration leaves what all others are, and a write to a chunk leaves all
 abbrev pub KeepsOthers : State → Object → Object → State → Type 0
@@ -71,6 +73,7 @@ WritesAreSeenThereAlone = (s : State) (p : Pointer) (room : Option Room) (size a
 abbrev pub number_of_name : Object → ℕ
 number_of_name (objects.Declared node number) = number
 number_of_name (objects.Chunk number) = number
+number_of_name (objects.Cell vector index number) = number
 
 -- a new object is never taken for one that is gone, as long as the numbers last
 abbrev pub StaysGone : Type 0
@@ -82,6 +85,16 @@ StaysGoneAtLoans = (own : Own) (count : ℕ) (object : Object) → number_of_nam
 
 abbrev pub EndsLife : Type 0
 EndsLife = (own : Own) (node number : ℕ) → content (end_life node own) (objects.Declared node number) ≡ Gone
+
+-- ---- cells
+
+-- a cell that the library lends is no object of this memory, whatever happens here; what its bytes are is said beside
+abbrev pub CellsAreElsewhere : Type 0
+CellsAreElsewhere = (own : Own) (vector index number : ℕ) → content own (objects.Cell vector index number) ≡ Gone
+
+-- what a name for it leaves: all that was there, and the steps
+abbrev pub NamesChangeNothing : Type 0
+NamesChangeNothing = (own : Own) (object : Object) → (content (with_name own) object ≡ content own object) × ((with_name own).steps ≡ own.steps)
 
 -- ---- the library's table
 

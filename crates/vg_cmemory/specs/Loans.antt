@@ -21,6 +21,7 @@ with_loan own count = record own { chunks = own.chunks ++ next_chunk own count �
 abbrev pub is_chunk : Object → ℕ → Bool
 is_chunk (objects.Declared node number) m = false
 is_chunk (objects.Chunk number) m = nat_eq number m
+is_chunk (objects.Cell vector index number) m = false
 
 -- whether a pointer is the start of a chunk
 abbrev pub is_start : Pointer → Option Chunk → Bool

@@ -26,7 +26,13 @@ pub fn lies_in(room: Option<Room>, offset: u64, size: u64) -> bool
 }
 
 // The first reason against an access to an object of so many bytes that lives.
-fn refusal(bytes: u64, room: Option<Room>, offset: u64, size: u32, align: u32) -> Option<Reason>
+pub(crate) fn refusal(
+    bytes: u64,
+    room: Option<Room>,
+    offset: u64,
+    size: u32,
+    align: u32,
+) -> Option<Reason>
     requires aligned { 0 < align }
     ensures value { result ≡ first_against (place_tests bytes room offset size align) }
     ensures within { IfNone result (offset + size ≤ bytes) }
@@ -64,7 +70,7 @@ fn load_bytes(
     }
 }
 
-fn chunk_of(chunks: &[Chunk], number: u64) -> Option<Chunk>
+pub(crate) fn chunk_of(chunks: &[Chunk], number: u64) -> Option<Chunk>
     ensures { content_of_option result ≡ content_of_chunk chunks.now number }
 {
     match chunks {
@@ -79,7 +85,7 @@ fn chunk_of(chunks: &[Chunk], number: u64) -> Option<Chunk>
 }
 
 // So many bytes from one on, as far as there are.
-fn part_of(bytes: &[u8], from: usize, size: usize) -> &[u8]
+pub(crate) fn part_of(bytes: &[u8], from: usize, size: usize) -> &[u8]
     ensures { result.now ≡ part bytes.now from size }
 {
     let behind = &bytes[from.min(bytes.len())..];
@@ -87,7 +93,7 @@ fn part_of(bytes: &[u8], from: usize, size: usize) -> &[u8]
 }
 
 // A refusal as a fault.
-fn refused(reason: Option<Reason>) -> Result<(), Reason>
+pub(crate) fn refused(reason: Option<Reason>) -> Result<(), Reason>
     ensures { result ≡ unless reason tt }
 {
     match reason {
@@ -117,12 +123,14 @@ impl FrameMemory {
                 let bytes = part_of(frame, chunk.from as usize, chunk.size as usize);
                 pointer.offset == bytes.len() as u64
             }
+            Object::Cell { .. } => false,
         }
     }
 
     /// The word of so many bytes behind a pointer, little-endian.
     ///
-    /// The first that holds: `Dead`: the object lives no longer. `OutOfObject`: not all of the bytes are in it, or in the room that is given.
+    /// The first that holds: `Dead`: the object lives no longer, or is a cell of the library, whose bytes aren't here. `OutOfObject`: not all of the
+    /// bytes are in it, or in the room that is given.
     /// `Misaligned`: the offset isn't a multiple of `align`. `Unset`: one of the bytes isn't set.
     pub fn load(
         &self,
@@ -152,13 +160,14 @@ impl FrameMemory {
                 };
                 load_lent(frame, chunk, room, pointer.offset, size, align)
             }
+            Object::Cell { .. } => Err(Reason::Dead),
         }
     }
 
     /// Writes the low bytes of a word, so many, behind a pointer, little-endian.
     ///
-    /// The first that holds, and then nothing is written: `Dead`: the object lives no longer. `OutOfObject`: not all of the bytes are in it, or in
-    /// the room that is given. `Misaligned`: the offset isn't a multiple of `align`.
+    /// The first that holds, and then nothing is written: `Dead`: the object lives no longer, or is a cell of the library. `OutOfObject`: not all of
+    /// the bytes are in it, or in the room that is given. `Misaligned`: the offset isn't a multiple of `align`.
     pub fn store(
         &mut self,
         frame: &mut [u8],
@@ -185,6 +194,7 @@ impl FrameMemory {
                 };
                 store_lent(frame, chunk, room, pointer.offset, size, align, word)
             }
+            Object::Cell { .. } => Err(Reason::Dead),
         }
     }
 
@@ -210,7 +220,7 @@ impl FrameMemory {
     }
 
     // The first reason against an access to the object that a declaration made with this number.
-    fn refusal_declared(
+    pub(crate) fn refusal_declared(
         &self,
         node: u32,
         number: u64,

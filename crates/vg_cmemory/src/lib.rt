@@ -3,6 +3,7 @@
 
 mod access;
 mod bytes;
+mod cells;
 mod frame_calls;
 mod laws;
 mod loans;
@@ -12,8 +13,12 @@ mod object;
 mod runs;
 
 pub use access::lies_in;
+pub use bytes::put_in_frame;
+pub use cells::{against_write_of, load_of, read_of};
 pub use frame_calls::{FrameCall, call_in_row, row_of};
-pub use laws::{chunks_are_apart, gone_stays_gone, rows_are_named, writes_stay_inside};
+pub use laws::{
+    cells_are_elsewhere, chunks_are_apart, gone_stays_gone, rows_are_named, writes_stay_inside,
+};
 pub use memory::FrameMemory;
 pub use object::{Chunk, Object, Pointer, Room};
 

@@ -124,6 +124,7 @@ bytes_of_chunk frame (c ∷ cs) number h = chunk_if frame c cs number (nat_eq c.
 pub content_bytes : (s : State) (o : Object) → HasBytes s → Each IsByteIfSet (bytes_of s.frame (content s.own o))
 content_bytes s (objects.Declared node number) h = bytes_of_life s.frame (slot s.own node).life number (slot_bytes s node h)
 content_bytes s (objects.Chunk number) h = bytes_of_chunk s.frame s.own.chunks number h.frame
+content_bytes s (objects.Cell vector index number) h = tt
 
 pub read_below : (s : State) (o : Object) (from : ℕ) (t : Integer) → HasBytes s → word_of (part (bytes_of s.frame (content s.own o)) from (size_of t))
     < 2 ^ width t
@@ -150,6 +151,7 @@ written_bytes s (objects.Chunk number) at size word h =
       frame = each_put IsByte s.frame (start_in_frame (content_of_chunk s.own.chunks number) + at)
           (bytes_of_word size word) h.frame (bytes_of_words size word);
     }
+written_bytes s (objects.Cell vector index number) at size word h = h
 
 pub declared_bytes : (s : State) (n : ℕ) → HasBytes s → HasBytes (record s { own = declare n s.own })
 declared_bytes s n h = record {

@@ -1,0 +1,74 @@
+-- Answers that are stored.
+use Rattle.std.proofs.Common.{◌≡◌, ◌∙◌, sym, ap, refl, ℕ, List, [], Option, Some, None, Result, Ok, Err}
+use Rattle.vg_core.specs.declared.reason.Reason.{Reason}
+use Rattle.vg_cint.specs.Tests.{first_against, unless}
+use Rattle.vg_cmemory.specs.Access.{leaves}
+use Rattle.vg_cmemory.specs.declared.object.Pointer.{Pointer}
+use Rattle.vg_abs.specs.Rows as library
+use Rattle.vg_abs.specs.Rows.{case_by, with_stored}
+use Rattle.vg_abs.specs.Answers.{index_of}
+use Rattle.vg_abs.specs.State.{link_of_map}
+use Rattle.vg_crows.specs.declared.answer.Answer.TheVariants as answers
+use Rattle.vg_crows.specs.declared.answer.Stop.{Stop}
+use Rattle.vg_crows.specs.declared.answer.Stop.TheVariants as stops
+use Rattle.vg_crows.specs.State.{State, and_then, or_wrong}
+use Rattle.vg_crows.specs.Access.{write_tests, stored, store, bytes_behind}
+use Rattle.vg_crows.specs.Rows.{Outcome, Target, answered, granted, told, may_store, with_answer, word_of, by_key, meets_key, meets_numbers, target}
+use Rattle.vg_crows.specs.Views.{gives, yes_of}
+
+abbrev said : Result State Reason → Outcome
+said (Ok t) = Ok (answers.Word 1, t)
+said (Err reason) = Err (stops.Wrong reason)
+
+said_left : (r : Result (Unit {0}) Reason) (t : State) → gives (yes_of r) t ≡ said (leaves r t)
+said_left (Ok done) t = refl
+said_left (Err reason) t = refl
+
+said_unless : (o : Option Reason) (x : State) → said (unless o x) ≡ and_then (or_wrong (unless o (tt {0}))) (λ _. Ok (answers.Word 1, x))
+said_unless None x = refl
+said_unless (Some reason) x = refl
+
+-- the store of an answer, as the row has it
+pub stored_answer : (s t : State) (place : Pointer) (size value : ℕ) (r : Result (Unit {0}) Reason) → leaves r t ≡ store s place None size size value →
+    gives (yes_of r) t ≡ answered s (target place size) (Some value)
+stored_answer s t place size value r e =
+    said_left r t ∙ ap said e ∙ said_unless (first_against (write_tests s place None size size)) (stored s place size value)
+
+-- ---- a question whose answer is stored
+
+abbrev questioned : State → Option Target → Option (Option ℕ) → Outcome
+questioned s t q =
+    and_then (told (case_by q)) (λ _.
+    and_then (may_store s t (with_stored q).stored) (λ _. Ok (word_of (with_stored q).answer, with_answer s t (with_stored q).stored)))
+
+questioned_told : (s : State) (t : Target) (found : Option ℕ) → questioned s (Some t) (Some found) ≡ answered s (Some t) found
+questioned_told s t None = refl
+questioned_told s t (Some value) = refl
+
+pub get_told : (choices : List ℕ) (s : State) (map : ℕ) (key : List ℕ) (t : Target) (found : Option ℕ)
+    → index_of s.library.full (link_of_map s.library map) key ≡ Some found →
+    granted choices s (library.MapGet map key) (Some t) ≡ answered s (Some t) found
+get_told choices s map key t found e = ap (questioned s (Some t)) e ∙ questioned_told s t found
+
+pub get_untold : (choices : List ℕ) (s : State) (map : ℕ) (key : List ℕ) (t : Target)
+    → index_of s.library.full (link_of_map s.library map) key ≡ None →
+    granted choices s (library.MapGet map key) (Some t) ≡ Err stops.Untold
+get_untold choices s map key t e = ap (questioned s (Some t)) e
+
+-- ---- a key is read
+
+pub key_stop : (choices : List ℕ) (s : State) (map : ℕ) (key : Pointer) (call : List ℕ → library.Call) (t : Option Target) (stop : Stop) →
+    meets_numbers s (call []) ≡ Ok tt → or_wrong (bytes_behind s key (link_of_map s.library map).key_length) ≡ Err stop →
+    by_key choices s map key call t ≡ Err stop
+key_stop choices s map key call t stop e f =
+    ap (λ r. and_then r (λ _. and_then (or_wrong (bytes_behind s key (link_of_map s.library map).key_length))
+    (λ bytes. and_then (meets_key s (call bytes)) (λ _. granted choices s (call bytes) t)))) e
+    ∙ ap (λ r. and_then r (λ bytes. and_then (meets_key s (call bytes)) (λ _. granted choices s (call bytes) t))) f
+
+pub key_read : (choices : List ℕ) (s : State) (map : ℕ) (key : Pointer) (call : List ℕ → library.Call) (t : Option Target) (bytes : List ℕ) →
+    meets_numbers s (call []) ≡ Ok tt → or_wrong (bytes_behind s key (link_of_map s.library map).key_length) ≡ Ok bytes →
+    by_key choices s map key call t ≡ and_then (meets_key s (call bytes)) (λ _. granted choices s (call bytes) t)
+key_read choices s map key call t bytes e f =
+    ap (λ r. and_then r (λ _. and_then (or_wrong (bytes_behind s key (link_of_map s.library map).key_length))
+    (λ bytes. and_then (meets_key s (call bytes)) (λ _. granted choices s (call bytes) t)))) e
+    ∙ ap (λ r. and_then r (λ bytes. and_then (meets_key s (call bytes)) (λ _. granted choices s (call bytes) t))) f

@@ -1,0 +1,10 @@
+mod Worked
+mod Marks
+mod Loans
+mod Asking
+mod Steps
+mod Bytes
+mod Elsewhere
+mod Answered
+mod Kept
+mod Choices

@@ -1,0 +1,72 @@
+//! Calls with a key, which stands in memory.
+ghost use Rattle.std.specs.Prelude.{◌≡◌, ◌<◌, ◌≤◌, ◌^◌, false, OnErr, length, List, ℕ};
+ghost use Rattle.vg_abs.specs.State.{link_of_map};
+ghost use Rattle.vg_crows.specs.State.{or_wrong};
+ghost use Rattle.vg_crows.specs.Access as accesses;
+ghost use Rattle.vg_crows.specs.Views.{CellsAreThere, NamesMap, SameLent, gives, is_untold, seen, with_value};
+ghost use Rattle.vg_crows.specs.Rows.{perform};
+ghost use Rattle.vg_crows.specs.declared.request.Request.TheVariants as requests;
+
+use crate::access::read;
+use crate::answer::{Answer, Stop};
+use crate::book::Book;
+use crate::request::Handle;
+use crate::stored::answer_stored;
+use vg_abs::Lib;
+use vg_cmemory::{FrameMemory, Pointer};
+
+/// `map_get`
+pub fn map_get<L: Lib>(
+    memory: &mut FrameMemory,
+    frame: &mut [u8],
+    book: &mut Book,
+    lib: &mut L,
+    map: Handle,
+    key: Pointer,
+    index: Pointer,
+) -> Result<Answer, Stop>
+    requires told { (L.library lib.old).missed ≡ false }
+    requires map { NamesMap (L.library lib.old) map }
+    requires lent { SameLent (L.library lib.old) book.old }
+    requires cells { CellsAreThere (L.library lib.old) book.old }
+    ensures value { (choices : List ℕ) → gives result (seen memory.new frame.new (L.library lib.new) book.new)
+        ≡ perform choices (seen memory.old frame.old (L.library lib.old) book.old) (requests.MapGet map key index) }
+    ensures lent { SameLent (L.library lib.new) book.new }
+    ensures choices { (L.library lib.new).choices ≡ (L.library lib.old).choices }
+    ensures missed { (L.library lib.new).missed ≡ is_untold result }
+    ensures stops { OnErr result (seen memory.new frame.new (L.library lib.new) book.new ≡ seen memory.old frame.old (L.library lib.old) book.old) }
+{
+    let mut room = [0; 64];
+    let bytes = &mut room[..map.key_length as usize];
+    read_key(memory, frame, book, lib, map, key, bytes)?;
+    let found = lib.map_get(map.number, bytes);
+    if lib.missed() {
+        return Err(Stop::Untold);
+    }
+    answer_stored(memory, frame, book, lib, index, 4, found)
+}
+
+// The bytes of a key.
+fn read_key<L: Lib>(
+    memory: &FrameMemory,
+    frame: &[u8],
+    book: &Book,
+    lib: &L,
+    map: Handle,
+    key: Pointer,
+    into: &mut [u8],
+) -> Result<(), Stop>
+    requires map { NamesMap (L.library lib.now) map }
+    requires as_many { length into.old ≡ map.key_length }
+    requires told { (L.library lib.now).missed ≡ false }
+    requires lent { SameLent (L.library lib.now) book.now }
+    requires cells { CellsAreThere (L.library lib.now) book.now }
+    ensures value { with_value result into.new ≡ or_wrong (accesses.bytes_behind
+        (seen memory.now frame.now (L.library lib.now) book.now) key (link_of_map (L.library lib.now).state map.number).key_length) }
+    ensures length { length into.new ≡ length into.old }
+{
+    match read(memory, frame, book, lib, key, into) {
+        Ok(()) => Ok(()),
+        Err(reason) => Err(Stop::Wrong(reason)),
+    }
+}

@@ -1,0 +1,22 @@
+//! The library's fifteen calls as a C function makes them: on its memory, its frame and the library.
+#![tactic(auto)]
+
+mod access;
+mod allocation;
+mod answer;
+mod book;
+mod chains;
+mod keyed;
+mod laws;
+mod needs;
+mod request;
+mod stored;
+mod storing;
+
+pub use access::{against_write, load, read};
+pub use answer::{Answer, Stop};
+pub use book::{Book, Cell};
+pub use chains::chain_free;
+pub use laws::{a_frame_of_calls, refusals_come_in_order};
+pub use request::{Handle, Request};
+pub use storing::store;
