@@ -1,6 +1,10 @@
 //! What a specification's step means, as definitions, with worked steps. The step itself isn't built yet.
 #![tactic(auto)]
 
+mod words;
+
+pub use words::{set_word, word_at};
+
 ghost use Rattle.vg_smean.specs.Worked.{WorkedSteps};
 
 /// Small steps, each with what comes of it by the definitions, worked by hand. It does nothing: its contract is what it says.
