@@ -1,2 +1,4 @@
 mod WordLaws
+mod TellingLaws
+mod ValueLaws
 pub mod Worked

@@ -1,4 +1,5 @@
 pub mod FrameWords
 pub mod Values
+pub mod Scenes
 pub mod Step
 pub mod Worked

@@ -1,8 +1,11 @@
 //! What a specification's step means, as definitions, with worked steps. The step itself isn't built yet.
 #![tactic(auto)]
 
+mod telling;
+mod values;
 mod words;
 
+pub use values::{Scene, value};
 pub use words::{set_word, word_at};
 
 ghost use Rattle.vg_smean.specs.Worked.{WorkedSteps};

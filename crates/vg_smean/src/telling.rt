@@ -1,0 +1,116 @@
+//! What a state tells of its objects, by their numbers.
+ghost use Rattle.std.specs.Prelude.{◌≡◌, [], slice_get};
+ghost use Rattle.std.specs.Option.{option_map};
+ghost use Rattle.std.specs.FinMap.{get};
+ghost use Rattle.vg_abs.specs.State as states;
+ghost use Rattle.vg_abs.specs.Answers as answers;
+ghost use Rattle.vg_smean.specs.Values as values;
+
+use vg_abs::{Bytes, LibState, LinkTable, Numbered, Object, cell_struct, field_value};
+use vg_stree::Spec;
+
+// The object with a number.
+fn object_at(state: &LibState, number: u16) -> Option<&Object>
+    ensures { option_map (λ object. object.now) result ≡ slice_get state.now.objects number }
+{
+    state.objects.get(number as usize)
+}
+
+// How many cells a vector has.
+pub fn cell_count(state: &LibState, vector: u16) -> u64
+    ensures { result ≡ (states.vector_of state.now vector).cell_count }
+{
+    match object_at(state, vector) {
+        Some(Object::Cells(cells)) => cells.cell_count,
+        Some(Object::Keys) => match object_at(state, vector.saturating_sub(2)) {
+            Some(Object::Map(link)) => link.capacity,
+            _ => 0,
+        },
+        _ => 0,
+    }
+}
+
+// The bytes of a cell in a table; none where they aren't told.
+fn bytes_in(cells: &Numbered<Bytes>, index: u64) -> Option<&[u8]>
+    ensures { option_map (λ bytes. bytes.now) result ≡ get cells.now index }
+{
+    match cells.get(index) {
+        Some(bytes) => Some(bytes.as_slice()),
+        None => None,
+    }
+}
+
+/// The bytes of a vector's cell; none where they aren't told.
+#[tactic(auto, using(crate::proofs::TellingLaws::no_cell))]
+pub fn cell_at(state: &LibState, vector: u16, index: u64) -> Option<&[u8]>
+    ensures { option_map (λ bytes. bytes.now) result ≡ get (states.vector_of state.now vector).cells index }
+{
+    match object_at(state, vector) {
+        Some(Object::Cells(cells)) => bytes_in(&cells.cells, index),
+        Some(Object::Keys) => match object_at(state, vector.saturating_sub(2)) {
+            Some(Object::Map(link)) => bytes_in(&link.cells, index),
+            _ => None,
+        },
+        _ => None,
+    }
+}
+
+/// A field of a vector's cell, 0 where there is no such cell, and none where it isn't told.
+pub fn field_of_cell(
+    spec: &Spec,
+    state: &LibState,
+    vector: u16,
+    field: u16,
+    index: u64,
+) -> Option<u64>
+    ensures { result ≡ values.field_of_cell spec.now state.now vector field index }
+{
+    if index < cell_count(state, vector) {
+        let bytes = cell_at(state, vector, index)?;
+        let fields = spec.shape().fields_of(cell_struct(spec.shape(), vector));
+        Some(field_value(fields, bytes, field as usize))
+    } else {
+        Some(0)
+    }
+}
+
+// What is listed in a table; else nothing in a full state, and in a partial one it isn't told.
+fn listed_or_none(full: bool, found: Option<Option<u64>>) -> Option<Option<u64>>
+    ensures { result ≡ answers.listed_or_none full found }
+{
+    match found {
+        Some(answer) => Some(answer),
+        None if full => Some(None),
+        None => None,
+    }
+}
+
+// The last time of a link's index, or that it is free, where it is told.
+fn link_time(full: bool, link: &LinkTable, index: u64) -> Option<Option<u64>>
+    ensures { result ≡ answers.time_of full link.now index }
+{
+    if index < link.capacity {
+        listed_or_none(full, link.times.get(index).copied())
+    } else {
+        Some(None)
+    }
+}
+
+/// The last time of an index of a link, told by its map, or that it is free; none where it isn't told.
+#[tactic(auto, using(crate::proofs::TellingLaws::no_time))]
+pub fn time_of(state: &LibState, map: u16, index: u64) -> Option<Option<u64>>
+    ensures { result ≡ answers.time_of state.now.full (states.link_of_map state.now map) index }
+{
+    match object_at(state, map) {
+        Some(Object::Map(link)) => link_time(state.full, link, index),
+        _ => Some(None),
+    }
+}
+
+/// Whether an index of a link is allocated, as 1 or 0; none where it isn't told.
+pub fn is_allocated(state: &LibState, map: u16, index: u64) -> Option<u64>
+    ensures { result ≡ values.is_allocated state.now map index }
+{
+    let time = time_of(state, map, index)?;
+    Some(u64::from(time.is_some()))
+}
