@@ -11,6 +11,7 @@ mod library;
 mod links;
 mod numbered;
 mod object;
+mod routing;
 mod start;
 mod state;
 mod tables;
@@ -28,5 +29,6 @@ pub use laws::{
 pub use library::Lib;
 pub use numbered::Numbered;
 pub use object::{LinkTable, Object, PrefixTable, VectorTable};
+pub use routing::longest_match;
 pub use start::{bytes_in, field_at, opening, with_field};
 pub use state::LibState;

@@ -1,12 +1,15 @@
 //! What a state tells of its objects, by their numbers.
-ghost use Rattle.std.specs.Prelude.{◌≡◌, [], slice_get};
+ghost use Rattle.std.specs.Prelude.{◌≡◌, ◌+◌, ◌==◌, true, Some, None, slice_get, if◌then◌else◌};
 ghost use Rattle.std.specs.Option.{option_map};
 ghost use Rattle.std.specs.FinMap.{get};
 ghost use Rattle.vg_abs.specs.State as states;
 ghost use Rattle.vg_abs.specs.Answers as answers;
+ghost use Rattle.vg_abs.specs.Rows as rows;
 ghost use Rattle.vg_smean.specs.Values as values;
 
-use vg_abs::{Bytes, LibState, LinkTable, Numbered, Object, cell_struct, field_value};
+use vg_abs::{
+    Bytes, LibState, LinkTable, Numbered, Object, cell_struct, field_value, longest_match,
+};
 use vg_stree::Spec;
 
 // The object with a number.
@@ -104,6 +107,71 @@ pub fn time_of(state: &LibState, map: u16, index: u64) -> Option<Option<u64>>
     match object_at(state, map) {
         Some(Object::Map(link)) => link_time(state.full, link, index),
         _ => Some(None),
+    }
+}
+
+// The index of a key in a link, or that it is absent, where it is told.
+fn link_index(full: bool, link: &LinkTable, key: &[u8]) -> Option<Option<u32>>
+    ensures { result ≡ answers.index_of full link.now key.now }
+{
+    match link.keys.get(key) {
+        Some(answer) => Some(answer),
+        None if full => Some(None),
+        None => None,
+    }
+}
+
+// That a key or an index has no answer, where a state tells that of what it doesn't list.
+fn absent<T>(full: bool) -> Option<Option<T>>
+    ensures { result ≡ (if full then Some None else None) }
+{
+    if full { Some(None) } else { None }
+}
+
+/// The index of a key in a link, told by its map, or that the key is absent; none where it isn't told.
+#[tactic(auto, using(crate::proofs::TellingLaws::no_index))]
+pub fn index_of(state: &LibState, map: u16, key: &[u8]) -> Option<Option<u32>>
+    ensures { result ≡ answers.index_of state.now.full (states.link_of_map state.now map) key.now }
+{
+    match object_at(state, map) {
+        Some(Object::Map(link)) => link_index(state.full, link, key),
+        _ => absent(state.full),
+    }
+}
+
+/// Whether all indices of a link are allocated.
+pub fn is_used_up(state: &LibState, map: u16) -> bool
+    ensures { result ≡ ((states.link_of_map state.now map).count == (states.link_of_map state.now map).capacity) }
+{
+    match object_at(state, map) {
+        Some(Object::Map(link)) => u64::from(link.count) == link.capacity,
+        _ => true,
+    }
+}
+
+/// Whether an index of a link can be handed out: it is below the capacity and free; none where it isn't told.
+#[tactic(auto, using(crate::proofs::TellingLaws::none_handed))]
+pub fn may_hand_out(state: &LibState, map: u16, index: u32) -> Option<bool>
+    ensures { result ≡ rows.may_hand_out state.now (map + 1) index }
+{
+    match object_at(state, map) {
+        Some(Object::Map(link)) if u64::from(index) < link.capacity => {
+            let time = link_time(state.full, link, u64::from(index))?;
+            Some(time.is_none())
+        }
+        _ => Some(false),
+    }
+}
+
+/// What a look-up of an address answers in a full state.
+#[tactic(auto, using(crate::proofs::TellingLaws::no_routes))]
+pub fn match_in(state: &LibState, table: u16, address: u32) -> Option<u16>
+    requires { state.now.full ≡ true }
+    ensures { Some result ≡ answers.match_in state.now.full (states.prefixes_of state.now table) address }
+{
+    match object_at(state, table) {
+        Some(Object::Prefixes(prefixes)) => longest_match(&prefixes.routes, address),
+        _ => None,
     }
 }
 
