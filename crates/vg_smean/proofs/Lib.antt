@@ -1,4 +1,5 @@
 mod WordLaws
 mod TellingLaws
 mod ValueLaws
+mod KeyLaws
 pub mod Worked

@@ -2,4 +2,5 @@ pub mod FrameWords
 pub mod Values
 pub mod Scenes
 pub mod Step
+pub mod Places
 pub mod Worked

@@ -1,6 +1,8 @@
 //! What a specification's step means, as definitions, with worked steps. The step itself isn't built yet.
 #![tactic(auto)]
 
+mod effects;
+mod keys;
 mod telling;
 mod values;
 mod words;
