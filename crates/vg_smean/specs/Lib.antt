@@ -3,4 +3,5 @@ pub mod Values
 pub mod Scenes
 pub mod Step
 pub mod Places
+pub mod Expiring
 pub mod Worked
