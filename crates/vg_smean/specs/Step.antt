@@ -105,6 +105,10 @@ module _ (spec : Specification) (numbers : List ℕ) (port now : ℕ) where
   abbrev pub Statements : Type 0
   Statements = ℕ → Place → Outcome
 
+  -- statements of which none is known
+  abbrev pub nothing_known : Statements
+  nothing_known number place = Goes place
+
   -- what the statements of a list do, one after another
   abbrev pub all_by : Statements → List ℕ → Place → Outcome
   all_by known [] place = Goes place

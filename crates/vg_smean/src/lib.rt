@@ -3,6 +3,8 @@
 
 mod effects;
 mod keys;
+mod running;
+mod stops;
 mod telling;
 mod values;
 mod words;

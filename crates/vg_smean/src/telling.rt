@@ -1,10 +1,11 @@
 //! What a state tells of its objects, by their numbers.
-ghost use Rattle.std.specs.Prelude.{◌≡◌, ◌+◌, ◌==◌, true, Some, None, slice_get, if◌then◌else◌};
+ghost use Rattle.std.specs.Prelude.{◌≡◌, ◌+◌, ◌==◌, ◌<◌, true, length, IsTrue, Some, None, slice_get, if◌then◌else◌};
 ghost use Rattle.std.specs.Option.{option_map};
 ghost use Rattle.std.specs.FinMap.{get};
 ghost use Rattle.vg_abs.specs.State as states;
 ghost use Rattle.vg_abs.specs.Answers as answers;
 ghost use Rattle.vg_abs.specs.Rows as rows;
+ghost use Rattle.vg_smean.specs.Places as places;
 ghost use Rattle.vg_smean.specs.Values as values;
 
 use vg_abs::{
@@ -19,7 +20,15 @@ fn object_at(state: &LibState, number: u16) -> Option<&Object>
     state.objects.get(number as usize)
 }
 
-// How many cells a vector has.
+/// Whether an object is a map.
+pub fn is_map(state: &LibState, map: u16) -> bool
+    ensures map { result ≡ places.is_map (slice_get state.now.objects map) }
+    ensures inside { IsTrue result → map < length state.now.objects }
+{
+    matches!(object_at(state, map), Some(Object::Map(_)))
+}
+
+/// How many cells a vector has.
 pub fn cell_count(state: &LibState, vector: u16) -> u64
     ensures { result ≡ (states.vector_of state.now vector).cell_count }
 {
