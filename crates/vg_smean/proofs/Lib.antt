@@ -4,4 +4,6 @@ mod ValueLaws
 mod KeyLaws
 mod EffectLaws
 mod ExpiryLaws
+mod StoreLaws
+mod RunLaws
 pub mod Worked

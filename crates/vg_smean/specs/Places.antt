@@ -1,10 +1,10 @@
 -- What is seen of a step on its way.
-use Rattle.std.specs.Prelude.{ℕ, ◌≡◌, [], Bool, true, false, Option, Some, None, unwrap_or}
+use Rattle.std.specs.Prelude.{ℕ, ◌≡◌, ◌-◌, List, [], Bool, true, false, Option, Some, None, unwrap_or}
 use Rattle.std.specs.declared.result.Result.{Result}
 use Rattle.std.specs.declared.result.Result.TheVariants.{Ok, Err}
-use Rattle.std.specs.FinMap.{get}
+use Rattle.std.specs.FinMap.{get, insert}
 use Rattle.vg_abs.specs.declared.object.Object.{Object}
-use Rattle.vg_abs.specs.declared.object.Object.TheVariants.{Map}
+use Rattle.vg_abs.specs.declared.object.Object.TheVariants.{Map, Cells, Keys}
 use Rattle.vg_abs.specs.Tables.{Link}
 use Rattle.vg_smean.specs.declared.running.Place as running
 use Rattle.vg_smean.specs.declared.running.Flow.{Flow}
@@ -12,7 +12,7 @@ use Rattle.vg_smean.specs.declared.running.Flow.TheVariants as flows
 use Rattle.vg_smean.specs.declared.stops.Stop.{Stop}
 use Rattle.vg_smean.specs.declared.stops.Stop.TheVariants as stops
 use Rattle.vg_smean.specs.Step.{Place, Outcome, Goes, Ends, Refused, Untold}
-use Rattle.vg_abs.specs.Effects.{without_key, without_index}
+use Rattle.vg_abs.specs.Effects.{without_key, without_index, with_cell}
 
 -- whether an object that may be there is a map
 abbrev pub is_map : Option Object → Bool
@@ -40,3 +40,14 @@ Comes (Ok (flows.Ends verdict)) place outcome = outcome ≡ Ends verdict place
 Comes (Err stops.Choice) place outcome = outcome ≡ Refused
 Comes (Err stops.Untold) place outcome = outcome ≡ Untold
 Comes (Err stops.Memory) place outcome = Unit {0}
+
+-- an object once a cell of it, or of the link whose map it is, holds these bytes
+abbrev pub stored_in : Object → ℕ → List ℕ → Object
+stored_in (Map link) index bytes = Map (with_cell link index bytes)
+stored_in (Cells vector) index bytes = Cells (record vector { cells = insert vector.cells index bytes })
+stored_in object index bytes = object
+
+-- the object with the cells of a vector: itself, or the map of its link
+abbrev pub holder_of : ℕ → Option Object → ℕ
+holder_of vector (Some Keys) = vector - 2
+holder_of vector _ = vector

@@ -3,8 +3,9 @@ ghost use Rattle.std.specs.Prelude.{◌≡◌, ◌<◌, ◌+◌, ◌-◌, true, 
 ghost use Rattle.std.specs.FinMap.{get};
 ghost use Rattle.vg_abs.specs.Answers as answers;
 ghost use Rattle.vg_abs.specs.Effects as effects;
-ghost use Rattle.vg_abs.specs.State.{link_in, link_of_map};
+ghost use Rattle.vg_abs.specs.State.{link_in, link_of_map, vector_of};
 ghost use Rattle.vg_abs.specs.declared.object.Object.TheVariants.{Map};
+ghost use Rattle.vg_smean.specs.Places as places;
 ghost use Rattle.vg_smean.specs.Places.{is_map, without_entry};
 ghost use Rattle.vg_smean.specs.Expiring as expiring;
 ghost use Rattle.vg_smean.specs.Step as steps;
@@ -246,4 +247,48 @@ pub fn expire(alloc: Global, state: &mut LibState, map: u16, bound: u64) -> Resu
     ensures { OnOk result (state.new ≡ effects.with_link state.old map (expiring.expired_link (link_of_map state.old map) bound)) }
 {
     expire_in(alloc, &mut state.objects[map as usize], bound)
+}
+
+// A cell of an object, which is a vector of its own or a link's map, holds these bytes.
+fn store_in(alloc: Global, object: &mut Object, index: u64, bytes: Bytes) -> Result<(), Memory>
+    ensures { OnOk result (object.new ≡ places.stored_in object.old index bytes) }
+{
+    match object {
+        Object::Map(link) => {
+            link.cells.insert(index, bytes)?;
+            link.bounds = Numbered::new(alloc);
+            Ok(())
+        }
+        Object::Cells(vector) => vector.cells.insert(index, bytes),
+        _ => Ok(()),
+    }
+}
+
+// The object that holds the cells of a vector which has some: itself, or the map of its link.
+#[tactic(auto, using(crate::proofs::StoreLaws::holder_inside, crate::proofs::StoreLaws::own_holder, crate::proofs::StoreLaws::map_holder))]
+fn holder(state: &LibState, vector: u16) -> u16
+    requires { 0 < (vector_of state.now vector).cell_count }
+    ensures holder { result ≡ places.holder_of vector (slice_get state.now.objects vector) }
+    ensures inside { result < length state.now.objects }
+{
+    match state.objects.get(vector as usize) {
+        Some(Object::Keys) => vector.saturating_sub(2),
+        _ => vector,
+    }
+}
+
+/// A cell of a vector holds these bytes.
+#[tactic(auto, using(crate::proofs::StoreLaws::stored))]
+pub fn store(
+    alloc: Global,
+    state: &mut LibState,
+    vector: u16,
+    index: u64,
+    bytes: Bytes,
+) -> Result<(), Memory>
+    requires { index < (vector_of state.old vector).cell_count }
+    ensures { OnOk result (state.new ≡ effects.with_bytes state.old vector index bytes) }
+{
+    let holder = holder(state, vector) as usize;
+    store_in(alloc, &mut state.objects[holder], index, bytes)
 }

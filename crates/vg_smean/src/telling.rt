@@ -1,5 +1,5 @@
 //! What a state tells of its objects, by their numbers.
-ghost use Rattle.std.specs.Prelude.{◌≡◌, ◌+◌, ◌==◌, ◌<◌, true, length, IsTrue, Some, None, slice_get, if◌then◌else◌};
+ghost use Rattle.std.specs.Prelude.{◌≡◌, ◌+◌, ◌==◌, ◌<◌, true, length, IsTrue, Some, None, slice_get, is_some, if◌then◌else◌};
 ghost use Rattle.std.specs.Option.{option_map};
 ghost use Rattle.std.specs.FinMap.{get};
 ghost use Rattle.vg_abs.specs.State as states;
@@ -181,6 +181,17 @@ pub fn match_in(state: &LibState, table: u16, address: u32) -> Option<u16>
     match object_at(state, table) {
         Some(Object::Prefixes(prefixes)) => longest_match(&prefixes.routes, address),
         _ => None,
+    }
+}
+
+/// Whether the cell of an index of a link, told by its map, is told.
+#[tactic(auto, using(crate::proofs::TellingLaws::no_cell))]
+pub fn is_cell_told(state: &LibState, map: u16, index: u64) -> bool
+    ensures { result ≡ is_some (get (states.link_of_map state.now map).cells index) }
+{
+    match object_at(state, map) {
+        Some(Object::Map(link)) => link.cells.get(index).is_some(),
+        _ => false,
     }
 }
 
