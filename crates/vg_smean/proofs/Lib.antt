@@ -6,4 +6,5 @@ mod EffectLaws
 mod ExpiryLaws
 mod StoreLaws
 mod RunLaws
+mod StatementLaws
 pub mod Worked

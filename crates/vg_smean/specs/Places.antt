@@ -2,6 +2,8 @@
 use Rattle.std.specs.Prelude.{ℕ, ◌≡◌, ◌-◌, List, [], Bool, true, false, Option, Some, None, unwrap_or}
 use Rattle.std.specs.declared.result.Result.{Result}
 use Rattle.std.specs.declared.result.Result.TheVariants.{Ok, Err}
+use Rattle.std.specs.declared.vec.Vec.{Vec}
+use Rattle.std.specs.declared.alloc.Global.{Global}
 use Rattle.std.specs.FinMap.{get, insert}
 use Rattle.vg_abs.specs.declared.object.Object.{Object}
 use Rattle.vg_abs.specs.declared.object.Object.TheVariants.{Map, Cells, Keys}
@@ -32,6 +34,13 @@ abbrev pub Tells : Result ℕ Stop → Option ℕ → Type 0
 Tells (Ok value) answer = answer ≡ Some value
 Tells (Err stops.Untold) answer = answer ≡ None
 Tells (Err _) answer = ⊥
+
+-- the same of bytes; memory may always be wanting
+abbrev pub TellsBytes : Result (Vec ℕ Global) Stop → Option (List ℕ) → Type 0
+TellsBytes (Ok bytes) answer = answer ≡ Some bytes.items
+TellsBytes (Err stops.Untold) answer = answer ≡ None
+TellsBytes (Err stops.Memory) answer = Unit {0}
+TellsBytes (Err stops.Choice) answer = ⊥
 
 -- a result, and the place that it leaves, are an outcome; memory may always be wanting
 abbrev pub Comes : Result Flow Stop → Place → Outcome → Type 0

@@ -4,6 +4,7 @@
 mod effects;
 mod keys;
 mod running;
+mod statements;
 mod stops;
 mod telling;
 mod values;

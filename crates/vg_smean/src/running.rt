@@ -181,7 +181,6 @@ pub fn touch(
 }
 
 /// `remove link index;`
-#[tactic(auto, using(crate::proofs::RunLaws::removes))]
 pub fn remove(
     alloc: Global,
     run: &Run<'_>,

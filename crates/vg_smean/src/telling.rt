@@ -1,5 +1,5 @@
 //! What a state tells of its objects, by their numbers.
-ghost use Rattle.std.specs.Prelude.{◌≡◌, ◌+◌, ◌==◌, ◌<◌, true, length, IsTrue, Some, None, slice_get, is_some, if◌then◌else◌};
+ghost use Rattle.std.specs.Prelude.{◌≡◌, ◌+◌, ◌==◌, ◌<◌, true, length, IsTrue, IfSome, Some, None, slice_get, is_some, if◌then◌else◌};
 ghost use Rattle.std.specs.Option.{option_map};
 ghost use Rattle.std.specs.FinMap.{get};
 ghost use Rattle.vg_abs.specs.State as states;
@@ -161,7 +161,9 @@ pub fn is_used_up(state: &LibState, map: u16) -> bool
 /// Whether an index of a link can be handed out: it is below the capacity and free; none where it isn't told.
 #[tactic(auto, using(crate::proofs::TellingLaws::none_handed))]
 pub fn may_hand_out(state: &LibState, map: u16, index: u32) -> Option<bool>
-    ensures { result ≡ rows.may_hand_out state.now (map + 1) index }
+    ensures may { result ≡ rows.may_hand_out state.now (map + 1) index }
+    ensures map { IfSome result (λ may. IsTrue may → places.is_map (slice_get state.now.objects map) ≡ true) }
+    ensures inside { IfSome result (λ may. IsTrue may → map < length state.now.objects) }
 {
     match object_at(state, map) {
         Some(Object::Map(link)) if u64::from(index) < link.capacity => {
