@@ -7,4 +7,5 @@ mod ExpiryLaws
 mod StoreLaws
 mod RunLaws
 mod StatementLaws
+mod StepLaws
 pub mod Worked

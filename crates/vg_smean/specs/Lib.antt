@@ -3,5 +3,6 @@ pub mod Values
 pub mod Scenes
 pub mod Step
 pub mod Places
+pub mod Outcomes
 pub mod Expiring
 pub mod Worked

@@ -5,6 +5,8 @@ use Rattle.std.specs.declared.result.Result.TheVariants.{Ok, Err}
 use Rattle.std.specs.declared.vec.Vec.{Vec}
 use Rattle.std.specs.declared.alloc.Global.{Global}
 use Rattle.std.specs.FinMap.{get, insert}
+use Rattle.vg_stree.specs.Specification.{Specification}
+use Rattle.vg_stree.specs.Syntax.{listed}
 use Rattle.vg_abs.specs.declared.object.Object.{Object}
 use Rattle.vg_abs.specs.declared.object.Object.TheVariants.{Map, Cells, Keys}
 use Rattle.vg_abs.specs.Tables.{Link}
@@ -13,7 +15,7 @@ use Rattle.vg_smean.specs.declared.running.Flow.{Flow}
 use Rattle.vg_smean.specs.declared.running.Flow.TheVariants as flows
 use Rattle.vg_smean.specs.declared.stops.Stop.{Stop}
 use Rattle.vg_smean.specs.declared.stops.Stop.TheVariants as stops
-use Rattle.vg_smean.specs.Step.{Place, Outcome, Goes, Ends, Refused, Untold}
+use Rattle.vg_smean.specs.Step.{Place, Outcome, Goes, Ends, Refused, Untold, all_by, statement_of}
 use Rattle.vg_abs.specs.Effects.{without_key, without_index, with_cell}
 
 -- whether an object that may be there is a map
@@ -60,3 +62,7 @@ stored_in object index bytes = object
 abbrev pub holder_of : ℕ → Option Object → ℕ
 holder_of vector (Some Keys) = vector - 2
 holder_of vector _ = vector
+
+-- what the statements of a specification's step come to from a place on
+abbrev pub outcome_of : Specification → (numbers : List ℕ) → (port now : ℕ) → Place → Outcome
+outcome_of spec numbers port now place = all_by spec numbers port now (statement_of spec numbers port now) (listed spec.code.items spec.step) place

@@ -5,11 +5,14 @@ mod effects;
 mod keys;
 mod running;
 mod statements;
+mod step;
 mod stops;
 mod telling;
 mod values;
 mod words;
 
+pub use step::spec_step;
+pub use stops::SpecStop;
 pub use values::{Scene, value};
 pub use words::{set_word, word_at};
 
