@@ -1,27 +1,23 @@
 -- What a full state's tables forget.
-use Rattle.std.proofs.Common.{◌≡◌, ◌≢◌, ◌+◌, ◌<◌, ◌≤◌, ℕ, List, [], ◌∷◌, map, filter, length, drop, get_or, Option, Some, None, Bool, true, false, not, ◌&&◌, ◌||◌, T, cond}
-use Rattle.std.proofs.Common.{refl, sym, ◌∙◌, ap, subst, inl, inr, arith, drop-cons, add-one}
-use Rattle.std.specs.Prelude.{nat_eq, nat_lt, count_by}
+use Rattle.std.proofs.Common.{◌≡◌, ◌+◌, ◌<◌, ◌≤◌, ℕ, List, ◌∷◌, length, drop, get_or, Option, None, Bool, true, false, ◌&&◌, ◌||◌, cond}
+use Rattle.std.proofs.Common.{refl, sym, ◌∙◌, ap, inl, inr, drop-cons, add-one}
+use Rattle.std.specs.Prelude.{nat_eq, nat_lt}
 use Rattle.std.specs.List.{list_any}
 use Rattle.std.specs.Str.{bytes_eq}
 use Rattle.std.specs.declared.cmp.Ordering.{Ordering}
-use Rattle.std.specs.declared.cmp.Ordering.TheVariants.{Less, Equal, Greater}
-use Rattle.std.specs.Ordering.{nat_cmp, is_eq, is_lt, eq_by_cmp}
-use Rattle.std.specs.Cmp.{IsTotalOrder, nat_cmp_total, nat_cmp_is, eq_by_cmp_equiv}
+use Rattle.std.specs.Ordering.{nat_cmp, eq_by_cmp}
+use Rattle.std.specs.Cmp.{IsTotalOrder, nat_cmp_total, eq_by_cmp_equiv}
 use Rattle.std.specs.Cmp.Lexicographic.{slice_cmp, nat_list_cmp_total}
-use Rattle.std.specs.FinMap.{FinMap, IsAntisymmetric, remove, get, find, entries, entries_sorted, get-entries, is_sorted, get-remove, same_map, nat_cmp-IsAntisymmetric}
+use Rattle.std.specs.FinMap.{FinMap, IsAntisymmetric, remove, get, get-remove, same_map, nat_cmp-IsAntisymmetric}
 use Rattle.std.specs.FinMap.{slice_cmp-IsAntisymmetric}
-use Rattle.std.specs.FinMap.Entries.{below_all}
 use Rattle.std.proofs.lemmas.Map.Text.{is_eq-slice_cmp}
 use Rattle.std.proofs.lemmas.List.{drop_all}
-use Rattle.std.proofs.lemmas.List.Sums.{length-filter}
 use Rattle.std.proofs.lemmas.Bool.{cases_eq, eq-eqb, ne_eqb, lt-ltb, le-ltb}
-use Rattle.vg_abs.specs.Tables.{Link, KeyTable, TimeTable, CellTable}
-use Rattle.vg_abs.specs.Answers.{is_before, time_of, listed_or_none}
-use Rattle.vg_abs.specs.Effects.{without, is_key_of, key_expires, expires}
+use Rattle.vg_abs.specs.Tables.{KeyTable, TimeTable, CellTable}
+use Rattle.vg_abs.specs.Effects.{without, is_key_of}
 use Rattle.vg_abs.proofs.Starting.{same_test}
 use Rattle.vg_abs.proofs.Forgetting.{forgets}
-use Rattle.vg_smean.specs.Expiring.{early, is_in_one, is_below, is_one_below}
+use Rattle.vg_smean.specs.Expiring.{is_in_one, is_below, is_one_below}
 
 -- ---- tables in general
 module _ {K : Type 0} {R : K → K → Ordering} (total : IsTotalOrder R) (same : IsAntisymmetric R) where
@@ -39,11 +35,11 @@ module _ {K : Type 0} {R : K → K → Ordering} (total : IsTotalOrder R) (same 
   twice p q table = same_map total same _ _ (λ k. (forgets total same).of_full p (without true q table) k
       ∙ ap (cond (p k) None) ((forgets total same).of_full q table k) ∙ either_way (p k) (q k) (get table k)
       ∙ sym ((forgets total same).of_full (λ k. q k || p k) table k)) where
-    either_way : (a b : Bool) (x : Option (Option ℕ)) → cond a None (cond b None x) ≡ cond (b || a) None x
-    either_way true true x = refl
-    either_way true false x = refl
-    either_way false true x = refl
-    either_way false false x = refl
+        either_way : (a b : Bool) (x : Option (Option ℕ)) → cond a None (cond b None x) ≡ cond (b || a) None x
+        either_way true true x = refl
+        either_way true false x = refl
+        either_way false true x = refl
+        either_way false false x = refl
 
   removed : (table : FinMap R (Option ℕ)) (k : K) → remove table k ≡ without true (eq_by_cmp R k) table
   removed table k = same_map total same _ _ (λ q. get-remove total table k q ∙ ap (λ b. cond b None (get table q)) ((eq_by_cmp_equiv total).symm q k)
@@ -101,17 +97,19 @@ index_goes times capacity index less = time_goes times index ∙ ap (λ test. wi
   kept : (a b : Bool) → b ≡ true → a ≡ (a && b)
   kept true b is = sym is
   kept false b is = refl
+
   below : (k : ℕ) → nat_eq index k ≡ is_below capacity index k
   below k = kept (nat_eq index k) (nat_lt index capacity) (lt-ltb index capacity less)
 
 pub no_index_goes : (times : TimeTable) (capacity index : ℕ) → capacity ≤ index → times ≡ without true (is_below capacity index) times
 no_index_goes times capacity index past =
     sym (nothing nat_cmp_total nat_cmp-IsAntisymmetric times) ∙ ap (λ test. without true test times) (λ i k. none k i) where
-  lost : (a b : Bool) → b ≡ false → false ≡ (a && b)
-  lost true b is = sym is
-  lost false b is = refl
-  none : (k : ℕ) → false ≡ is_below capacity index k
-  none k = lost (nat_eq index k) (nat_lt index capacity) (le-ltb index capacity past)
+      lost : (a b : Bool) → b ≡ false → false ≡ (a && b)
+      lost true b is = sym is
+      lost false b is = refl
+
+      none : (k : ℕ) → false ≡ is_below capacity index k
+      none k = lost (nat_eq index k) (nat_lt index capacity) (le-ltb index capacity past)
 
 pub time_next : (capacity : ℕ) (indices : List ℕ) (i d : ℕ) (times after total : TimeTable) → i < length indices
     → after ≡ without true (is_below capacity (get_or indices i d)) times → without true (is_one_below capacity (drop i indices)) times ≡ total

@@ -1,21 +1,21 @@
 -- What expires is what expiry leaves out.
 use Rattle.std.proofs.Common.{◌≡◌, ◌≢◌, ◌-◌, ℕ, suc, List, [], ◌∷◌, map, filter, length, Option, Some, None, Bool, true, false, ◌&&◌, ◌||◌, T, cond}
-use Rattle.std.proofs.Common.{refl, sym, ◌∙◌, ap, subst, inl, inr, arith}
+use Rattle.std.proofs.Common.{refl, sym, ◌∙◌, ap, subst, inl, inr}
 use Rattle.std.specs.Prelude.{nat_eq, nat_lt, count_by}
 use Rattle.std.specs.List.{list_any}
-use Rattle.std.specs.declared.cmp.Ordering.TheVariants.{Less, Equal, Greater}
-use Rattle.std.specs.Ordering.{nat_cmp, is_eq, is_lt, eq_by_cmp}
+use Rattle.std.specs.declared.cmp.Ordering.TheVariants.{Equal}
+use Rattle.std.specs.Ordering.{nat_cmp, is_lt}
 use Rattle.std.specs.Cmp.{nat_cmp_total, nat_cmp_is}
-use Rattle.std.specs.FinMap.{FinMap, empty, get, find, entries, entries_sorted, get-entries, is_sorted, nat_cmp-IsAntisymmetric}
+use Rattle.std.specs.FinMap.{empty, get, find, entries, entries_sorted, get-entries, is_sorted, nat_cmp-IsAntisymmetric}
 use Rattle.std.specs.FinMap.Entries.{below_all}
 use Rattle.std.proofs.lemmas.List.Sums.{length-filter}
 use Rattle.std.proofs.lemmas.Bool.{cases_eq, eq-eqb, ne_eqb}
 use Rattle.vg_abs.specs.Tables.{Link, KeyTable, TimeTable, CellTable, BoundTable}
-use Rattle.vg_abs.specs.Answers.{is_before, time_of, listed_or_none}
+use Rattle.vg_abs.specs.Answers.{is_before, listed_or_none}
 use Rattle.vg_abs.specs.Effects.{without, is_key_of, key_expires, expires}
 use Rattle.vg_abs.proofs.Starting.{same_test}
-use Rattle.vg_smean.proofs.EffectLaws.{alike, swapped}
-use Rattle.vg_smean.specs.Expiring.{early, is_in_one, is_below, is_one_below, expired_link}
+use Rattle.vg_smean.proofs.EffectLaws.{alike}
+use Rattle.vg_smean.specs.Expiring.{early, is_in_one, is_one_below, expired_link}
 
 -- a key is in the cell of an index that is early
 key_test : (cells : CellTable) (bound : ℕ) (key : List ℕ) (es : List (ℕ × Option ℕ)) →
@@ -56,6 +56,7 @@ gone top bound x [] below = refl
 gone top bound x (e ∷ es) below = go (gone top bound x es (second (is_lt (nat_cmp x e.0)) (below_all nat_cmp x es) below)) (is_before bound (Some e.1)) refl where
   other : nat_eq e.0 x ≡ false
   other = ne_eqb e.0 x (λ same. above x e.0 (first (is_lt (nat_cmp x e.0)) (below_all nat_cmp x es) below) (sym same))
+
   go : is_one_below top (map (λ entry. entry.0) (filter (λ entry. is_before bound (Some entry.1)) es)) x ≡ false → (b : Bool) → is_before bound (Some e.1) ≡ b
       → is_one_below top (map (λ entry. entry.0) (filter (λ entry. is_before bound (Some entry.1)) (e ∷ es))) x ≡ false
   go rest true is =
@@ -86,21 +87,26 @@ all_and false = refl
 one_test : (top bound k : ℕ) (es : List (ℕ × Option ℕ)) → T (is_sorted nat_cmp es)
     → is_one_below top (map (λ entry. entry.0) (filter (λ entry. is_before bound (Some entry.1)) es)) k ≡ (nat_lt k top && holds bound (find nat_cmp k es))
 one_test top bound k [] sorted = no_and (nat_lt k top)
-one_test top bound k (e ∷ es) sorted = elim (cases_eq k e.0) [ | inl same ↦ here same (is_before bound (Some e.1)) refl | inr ne ↦ there (one_test top bound k es (second (below_all nat_cmp e.0 es) (is_sorted nat_cmp es) sorted)) ne (is_before bound (Some e.1)) refl ] where
+one_test top bound k (e ∷ es) sorted = elim (cases_eq k e.0) [ inl same ↦ here same (is_before bound (Some e.1)) refl | inr ne ↦ there (one_test top bound k es (second (below_all nat_cmp e.0 es) (is_sorted nat_cmp es) sorted)) ne (is_before bound (Some e.1)) refl ] where
   rest : Bool
   rest = is_one_below top (map (λ entry. entry.0) (filter (λ entry. is_before bound (Some entry.1)) es)) k
+
   open_at : (b : Bool) → is_before bound (Some e.1) ≡ b
       → is_one_below top (map (λ entry. entry.0) (filter (λ entry. is_before bound (Some entry.1)) (e ∷ es))) k
       ≡ is_one_below top (map (λ entry. entry.0) (cond b (e ∷ filter (λ entry. is_before bound (Some entry.1)) es)
       (filter (λ entry. is_before bound (Some entry.1)) es))) k
   open_at b is = ap (λ b. is_one_below top (map (λ entry. entry.0) (cond b (e ∷ filter (λ entry. is_before bound (Some entry.1)) es)
       (filter (λ entry. is_before bound (Some entry.1)) es))) k) is
+
   none : k ≡ e.0 → rest ≡ false
   none same = gone top bound k es (subst (λ x. T (below_all nat_cmp x es)) (sym same) (first (below_all nat_cmp e.0 es) (is_sorted nat_cmp es) sorted))
+
   found : k ≡ e.0 → find nat_cmp k (e ∷ es) ≡ Some e.1
   found same = ap (λ b. cond b (Some e.1) (find nat_cmp k es)) (same_test k e.0 ∙ eq-eqb e.0 k (sym same))
+
   passed : k ≢ e.0 → find nat_cmp k (e ∷ es) ≡ find nat_cmp k es
   passed ne = ap (λ b. cond b (Some e.1) (find nat_cmp k es)) (same_test k e.0 ∙ ne_eqb e.0 k (λ same. ne (sym same)))
+
   here : k ≡ e.0 → (b : Bool) → is_before bound (Some e.1) ≡ b
       → is_one_below top (map (λ entry. entry.0) (filter (λ entry. is_before bound (Some entry.1)) (e ∷ es))) k
       ≡ (nat_lt k top && holds bound (find nat_cmp k (e ∷ es)))
@@ -111,6 +117,7 @@ one_test top bound k (e ∷ es) sorted = elim (cases_eq k e.0) [ | inl same ↦ 
   here same false is =
       open_at false is ∙ none same ∙ no_and (nat_lt k top) ∙ ap (λ b. nat_lt k top && b) (sym is)
       ∙ ap (λ (o : Option (Option ℕ)). nat_lt k top && holds bound o) (sym (found same))
+
   there : rest ≡ (nat_lt k top && holds bound (find nat_cmp k es)) → k ≢ e.0 → (b : Bool) → is_before bound (Some e.1) ≡ b
       → is_one_below top (map (λ entry. entry.0) (filter (λ entry. is_before bound (Some entry.1)) (e ∷ es))) k
       ≡ (nat_lt k top && holds bound (find nat_cmp k (e ∷ es)))

@@ -1,5 +1,5 @@
 -- What a statement comes to in a full state.
-use Rattle.std.proofs.Common.{◌≡◌, ℕ, List, [], Option, Some, None, Bool, true, false, refl, sym, ◌∙◌, ap}
+use Rattle.std.proofs.Common.{◌≡◌, ℕ, List, [], Option, Some, None, Bool, true, refl, sym, ◌∙◌, ap}
 use Rattle.std.specs.Prelude.{is_some, unwrap_or}
 use Rattle.std.specs.FinMap.{get}
 use Rattle.vg_stree.specs.Specification.{Specification}
@@ -18,6 +18,7 @@ pub removes : (spec : Specification) (numbers : List ℕ) (port now : ℕ) (plac
 removes spec numbers port now place map index time full some = go (get (link_of_map place.state map).cells index) refl some where
   left : Bool → List ℕ → Outcome
   left b key = Goes (record place { state = with_link place.state map (without_index b (without_key b (link_of_map place.state map) key) index) })
+
   go : (found : Option (List ℕ)) → get (link_of_map place.state map).cells index ≡ found → is_some found ≡ true →
       told (get (link_of_map place.state map).cells index) (left place.state.full)
       ≡ left true (unwrap_or (get (link_of_map place.state map).cells index) [])

@@ -1,10 +1,10 @@
 -- What a statement does goes by what those before it do.
-use Rattle.std.proofs.Common.{◌≡◌, ◌≢◌, ℕ, zero, suc, ◌<◌, ◌≤◌, List, Option, Some, None, refl, sym, ◌∙◌, ap, inl, inr, arith}
+use Rattle.std.proofs.Common.{◌≡◌, ◌≢◌, ℕ, zero, suc, ◌<◌, ◌≤◌, List, Some, None, refl, sym, ◌∙◌, ap, inl, inr, arith}
 use Rattle.std.specs.Prelude.{slice_get}
 use Rattle.std.proofs.lemmas.Bool.{eq-eqb, ne_eqb, cond-true, cond-false, cases_eq}
 use Rattle.vg_stree.specs.Specification.{Specification}
 use Rattle.vg_stree.specs.declared.code.SStmt.{SStmt}
-use Rattle.vg_smean.specs.Step.{Place, Outcome, Goes, statement_by, statement_found, statements_before}
+use Rattle.vg_smean.specs.Step.{Place, Goes, statement_by, statement_found, statements_before}
 
 module _ (spec : Specification) (numbers : List ℕ) (port now : ℕ) where
   same_number : (number : ℕ) (place : Place) → statements_before spec numbers port now (suc number) number place

@@ -1,10 +1,9 @@
 -- The statements of a step are those of its list.
-use Rattle.std.proofs.Common.{◌≡◌, ℕ, zero, suc, ◌<◌, ◌≤◌, List, [], ◌∷◌, length, Option, Some, None, refl, sym, ◌∙◌, ap, inl, inr, arith}
+use Rattle.std.proofs.Common.{◌≡◌, ℕ, zero, suc, ◌≤◌, List, [], ◌∷◌, length, None, refl, sym, ◌∙◌, ap, inl, inr, arith}
 use Rattle.std.specs.Prelude.{slice_get}
 use Rattle.std.proofs.lemmas.Bool.{cases_lt}
 use Rattle.vg_stree.specs.Specification.{Specification}
-use Rattle.vg_stree.specs.declared.code.SStmt.{SStmt}
-use Rattle.vg_smean.specs.Step.{Place, Outcome, Goes, all_by, statement_of, statement_found, statements_before}
+use Rattle.vg_smean.specs.Step.{Place, all_by, statement_of, statement_found, statements_before}
 use Rattle.vg_smean.proofs.StatementLaws.{found, past}
 
 none_there : {A : Type 0} (xs : List A) (i : ℕ) → length xs ≤ i → slice_get xs i ≡ None
@@ -21,7 +20,7 @@ module _ (spec : Specification) (numbers : List ℕ) (port now : ℕ) where
     | inr more ↦ past spec numbers port now known number place more
         ∙ sym (found spec numbers port now (suc number) number place (omega arith)
         ∙ ap (λ o. statement_found spec numbers port now (statements_before spec numbers port now number) o place)
-            (none_there spec.code.statements number (omega arith)))
+        (none_there spec.code.statements number (omega arith)))
   ]
 
   pub all_known : (known : ℕ) (items : List ℕ) (place : Place) → known ≡ length spec.code.statements →

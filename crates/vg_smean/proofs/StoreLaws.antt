@@ -1,5 +1,5 @@
 -- Bytes are stored into the object that holds a vector's cells.
-use Rattle.std.proofs.Common.{◌≡◌, ◌-◌, ◌<◌, ◌≤◌, ℕ, zero, suc, List, [], ◌∷◌, length, slice_set, get_or, Option, Some, None, refl, sym, ◌∙◌, ap, subst, arith}
+use Rattle.std.proofs.Common.{◌≡◌, ◌-◌, ◌<◌, ℕ, zero, suc, List, [], ◌∷◌, length, slice_set, get_or, Option, Some, None, refl, sym, ◌∙◌, ap, subst, arith}
 use Rattle.std.specs.Prelude.{slice_get, unwrap_or}
 use Rattle.vg_abs.specs.declared.object.Object.{Object}
 use Rattle.vg_abs.specs.declared.object.Object.TheVariants.{Map, Chain, Keys, Cells, Prefixes}
@@ -62,12 +62,12 @@ stored_by s vector index bytes holder d (Some Chain) is some held inside = absur
 stored_by s vector index bytes holder d (Some (Prefixes prefixes)) is some held inside = absurd (no_less index some)
 stored_by s vector index bytes holder d (Some (Cells cells)) is some held inside =
     let got : get_or s.objects holder d ≡ Cells cells =
-        ap (λ (o : Option Object). unwrap_or o d) (sym (at s.objects holder d inside) ∙ ap (slice_get s.objects) held ∙ is) in
+    ap (λ (o : Option Object). unwrap_or o d) (sym (at s.objects holder d inside) ∙ ap (slice_get s.objects) held ∙ is) in
     ap (λ object. record s { objects = slice_set s.objects holder (stored_in object index bytes) }) got
     ∙ ap (λ n. record s { objects = slice_set s.objects n (stored_in (Cells cells) index bytes) }) held
 stored_by s vector index bytes holder d (Some Keys) is some held inside =
     let there : slice_get s.objects (vector - 2) ≡ Some (get_or s.objects holder d) =
-        ap (slice_get s.objects) (sym held) ∙ at s.objects holder d inside in
+    ap (slice_get s.objects) (sym held) ∙ at s.objects holder d inside in
     ap (λ n. record s { objects = slice_set s.objects n (stored_in (get_or s.objects holder d) index bytes) }) held
     ∙ of_link s (vector - 2) index bytes (get_or s.objects holder d) there (omega arith)
 

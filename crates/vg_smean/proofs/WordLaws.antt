@@ -1,11 +1,10 @@
 -- What is read and written past a frame's end, and byte by byte.
-use Rattle.std.proofs.Common.{◌≡◌, ℕ, zero, suc, ◌+◌, ◌-◌, ◌*◌, ◌/◌, ◌%◌, ◌<◌, ◌≤◌, List, [], ◌∷◌, ◌++◌, take, drop, length, fold, refl, sym, ◌∙◌, ap}
-use Rattle.std.proofs.Common.{Option, Some, None, arith, append-nil, append_assoc}
+use Rattle.std.proofs.Common.{◌≡◌, ℕ, zero, suc, ◌+◌, ◌-◌, ◌/◌, ◌%◌, ◌<◌, ◌≤◌, List, [], ◌∷◌, ◌++◌, take, drop, length, refl, sym, ◌∙◌, ap}
+use Rattle.std.proofs.Common.{Option, None, arith, append-nil}
 use Rattle.std.specs.Prelude.{reverse, slice_get, slice_set, unwrap_or}
 use Rattle.std.proofs.Math.Seq.{take-nil}
 use Rattle.std.proofs.lemmas.List.{drop_all, take_all, reverse-append, length-reverse}
 use Rattle.vg_stree.specs.declared.code.FrameWord.{FrameWord}
-use Rattle.vg_stree.specs.declared.code.FrameWord.TheVariants as kinds
 use Rattle.vg_abs.specs.Fields.{number_from_high, low_bytes}
 use Rattle.vg_smean.specs.FrameWords.{bytes_from, word_bytes, word_at, with_bytes_from, with_word}
 
@@ -96,7 +95,7 @@ written_behind : (frame : List ℕ) (place last number : ℕ) →
     ≡ with_bytes_from frame place (reverse (low_bytes (suc last) number))
 written_behind frame place last number =
     ap (λ n. slice_set (with_bytes_from frame place (reverse (low_bytes last (number / 256)))) (place + n) (number % 256))
-        (sym (length-reverse (low_bytes last (number / 256)) ∙ count_low last (number / 256)))
+    (sym (length-reverse (low_bytes last (number / 256)) ∙ count_low last (number / 256)))
     ∙ behind frame (reverse (low_bytes last (number / 256))) place (number % 256)
     ∙ ap (λ (xs : List ℕ). with_bytes_from frame place xs) (sym (last_is last number))
 

@@ -25,13 +25,20 @@ fn one_more(count: u32) -> Result<u32, Memory>
 }
 
 // An index of a link is handed out with a time, its cell holds a key, and the key is mapped to it.
-fn enter(alloc: Global, link: &mut LinkTable, key: &[u8], index: u32, time: u64) -> Result<(), Memory>
+fn enter(
+    alloc: Global,
+    link: &mut LinkTable,
+    key: &[u8],
+    index: u32,
+    time: u64,
+) -> Result<(), Memory>
     ensures { OnOk result (link.new ≡ steps.with_entry link.old key.now index time) }
 {
     link.size = one_more(link.size)?;
     link.count = one_more(link.count)?;
     link.times.insert(u64::from(index), Some(time))?;
-    link.cells.insert(u64::from(index), Bytes::new(alloc, key)?)?;
+    link.cells
+        .insert(u64::from(index), Bytes::new(alloc, key)?)?;
     link.keys.insert(alloc, key, Some(index))?;
     link.highest = time;
     link.bounds = Numbered::new(alloc);

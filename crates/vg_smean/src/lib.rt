@@ -11,12 +11,12 @@ mod telling;
 mod values;
 mod words;
 
+ghost use Rattle.vg_smean.specs.Worked.{WorkedSteps};
+
 pub use step::spec_step;
 pub use stops::SpecStop;
 pub use values::{Scene, value};
 pub use words::{set_word, word_at};
-
-ghost use Rattle.vg_smean.specs.Worked.{WorkedSteps};
 
 /// Small steps, each with what comes of it by the definitions, worked by hand. It does nothing: its contract is what it says.
 #[tactic(auto, using(crate::proofs::Worked::worked_steps))]

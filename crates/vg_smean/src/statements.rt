@@ -9,7 +9,8 @@ ghost use Rattle.vg_smean.specs.Step as steps;
 use crate::effects;
 use crate::keys::key_told;
 use crate::running::{
-    Flow, Place, Run, Target, expire_before, let_name, remove, send, set_cell, set_frame, told, touch,
+    Flow, Place, Run, Target, expire_before, let_name, remove, send, set_cell, set_frame, told,
+    touch,
 };
 use crate::stops::Stop;
 use crate::telling::{index_of, is_used_up, match_in, may_hand_out};
@@ -161,25 +162,59 @@ fn statement_by(
         SStmt::Drop => Ok(Flow::Ends(Verdict::Drop)),
         SStmt::Flood => Ok(Flow::Ends(Verdict::Flood)),
         SStmt::Send { port } => send(run, place, port),
-        SStmt::If { condition, then, otherwise } => {
+        SStmt::If {
+            condition,
+            then,
+            otherwise,
+        } => {
             let test = told(run, place, condition)?;
             let block = if test != 0 { then } else { otherwise };
             either(alloc, run, place, known, (block, block), None)
         }
-        SStmt::SetFrame { word, place: at, value } => set_frame(run, place, word, at, value),
-        SStmt::SetCell { vector, index, field, value } => {
-            set_cell(alloc, run, place, Target { vector, index, field }, value)
+        SStmt::SetFrame {
+            word,
+            place: at,
+            value,
+        } => set_frame(run, place, word, at, value),
+        SStmt::SetCell {
+            vector,
+            index,
+            field,
+            value,
+        } => {
+            set_cell(
+                alloc,
+                run,
+                place,
+                Target {
+                    vector,
+                    index,
+                    field,
+                },
+                value,
+            )
         }
         SStmt::Expire { link, before } => expire_before(alloc, run, place, link, before),
-        SStmt::Find { link, key, then, otherwise } => {
-            find(alloc, run, place, known, (link, key), (then, otherwise))
-        }
-        SStmt::Add { link, key, then, otherwise } => {
-            add(alloc, run, place, known, (link, key), (then, otherwise))
-        }
+        SStmt::Find {
+            link,
+            key,
+            then,
+            otherwise,
+        } => { find(alloc, run, place, known, (link, key), (then, otherwise)) }
+        SStmt::Add {
+            link,
+            key,
+            then,
+            otherwise,
+        } => { add(alloc, run, place, known, (link, key), (then, otherwise)) }
         SStmt::Touch { link, index } => touch(alloc, run, place, link, index),
         SStmt::Remove { link, index } => remove(alloc, run, place, link, index),
-        SStmt::Lookup { table, address, then, otherwise } => {
+        SStmt::Lookup {
+            table,
+            address,
+            then,
+            otherwise,
+        } => {
             let address = told(run, place, address)?;
             let found = match_in(&place.state, table, (address % 4_294_967_296) as u32);
             either(alloc, run, place, known, (then, otherwise), widened(found))
@@ -257,7 +292,14 @@ fn hand_out(
         Some(true) => {
             effects::hand_out(alloc, &mut place.state, link, key, choice, run.time)?;
             place.choices = rest;
-            either(alloc, run, place, known, (block, block), Some(u64::from(choice)))
+            either(
+                alloc,
+                run,
+                place,
+                known,
+                (block, block),
+                Some(u64::from(choice)),
+            )
         }
     }
 }

@@ -31,7 +31,13 @@ fn run_through(alloc: Global, run: &Run<'_>, place: &mut Place<'_>) -> Result<Fl
     ensures { Comes result (place_of place.new) (places.outcome_of run.now.spec.now run.now.numbers.now run.now.port run.now.time (place_of place.old)) }
 {
     let known = statement_count(run.spec)?;
-    all(alloc, run, place, known, run.spec.code().items(run.spec.step()))
+    all(
+        alloc,
+        run,
+        place,
+        known,
+        run.spec.code().items(run.spec.step()),
+    )
 }
 
 /// What the step of a specification does with a frame that came in at a port at a time, where these indices are to be handed out, in order: its
