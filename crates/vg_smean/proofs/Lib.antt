@@ -8,4 +8,6 @@ mod StoreLaws
 mod RunLaws
 mod StatementLaws
 mod StepLaws
+mod NeverAsks
+mod StepAsks
 pub mod Worked
