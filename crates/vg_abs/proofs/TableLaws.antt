@@ -1,15 +1,17 @@
 -- Ordered entries as finite maps.
-use Rattle.std.proofs.Common.{◌≡◌, ℕ, List, [], ◌∷◌, map, Some, Bool, true, false, ◌&&◌, T, subst, refl, sym, ◌∙◌, ap, cond}
+use Rattle.std.proofs.Common.{◌≡◌, ℕ, List, [], ◌∷◌, map, Some, None, Bool, true, false, ◌&&◌, T, subst, refl, sym, ◌∙◌, ap, cond}
 use Rattle.std.specs.declared.cmp.Ordering.{Ordering}
 use Rattle.std.specs.declared.cmp.Ordering.TheVariants.{Less, Equal, Greater}
-use Rattle.std.specs.Ordering.{nat_cmp, eq_by_cmp, match_ordering, is_lt}
-use Rattle.std.specs.Cmp.{IsTotalOrder, nat_cmp_total}
+use Rattle.std.specs.Ordering.{nat_cmp, eq_by_cmp, match_ordering, is_eq, is_lt}
+use Rattle.std.specs.Cmp.{IsTotalOrder, nat_cmp_total, eq_by_cmp_equiv}
 use Rattle.std.specs.Cmp.Lexicographic.{slice_cmp, nat_list_cmp_total}
 use Rattle.std.specs.FinMap.{IsAntisymmetric, get, insert, from_entries, find, put, is_sorted, entries, from_sorted, same_map, entries-from_sorted}
-use Rattle.std.specs.FinMap.{get-from_sorted, get-from_entries, get-insert, nat_cmp-IsAntisymmetric, slice_cmp-IsAntisymmetric}
+use Rattle.std.specs.FinMap.{remove, get-remove, get-from_sorted, get-from_entries, get-insert, nat_cmp-IsAntisymmetric, slice_cmp-IsAntisymmetric}
 use Rattle.std.specs.FinMap.Entries.{find-put, by_order, below_all}
-use Rattle.std.specs.Map.{lookup}
-use Rattle.std.specs.List.{AllZip, AllByRecursion}
+use Rattle.std.specs.Map.{lookup, remove_entry, keys_of}
+use Rattle.std.proofs.lemmas.Map.{lookup-remove_entry}
+use Rattle.std.proofs.lemmas.Map.Keys.{IsDistinct-from_sorted}
+use Rattle.std.specs.List.{AllZip, AllByRecursion, IsDistinct}
 use Rattle.std.specs.List.Sorted.{IsStrictlySortedBy}
 use Rattle.std.specs.BTreeMap.{is_at, insert_entry}
 
@@ -131,3 +133,60 @@ pub key-entries : {K X : Type 0} (see : K → List ℕ) (es : List (K × X)) →
     map (λ e. (see e.0, e.1)) es ≡ entries (from_entries {R = slice_cmp nat_cmp} (map (λ e. (see e.0, e.1)) es))
 key-entries see es sorted = sym (entries_of nat_list_cmp_total (slice_cmp-IsAntisymmetric nat_cmp-IsAntisymmetric) (map (seen see) es)
     (sorted_seen see (slice_cmp nat_cmp) es sorted))
+
+equal : (o : Ordering) → is_eq o ≡ true → o ≡ Equal
+equal Less e = absurd (cc)
+equal Equal e = refl
+equal Greater e = absurd (cc)
+
+-- to take out what ties with a key is to remove the key
+tied_alike : {K : Type 0} {R : K → K → Ordering} → IsTotalOrder R → (k x : K) → eq_by_cmp R k x ≡ true → (y : K) → eq_by_cmp R k y ≡ eq_by_cmp R x y
+tied_alike {R = R} total k x tied y = ap is_eq (total.congr k x y (equal (R k x) tied))
+
+found_as : {K X : Type 0} (R : K → K → Ordering) (q : K) (es : List (K × X)) → find R q es ≡ lookup (eq_by_cmp R q) es
+found_as R q [] = refl
+found_as R q (e ∷ es) = ap (cond (eq_by_cmp R q e.0) (Some e.1)) (found_as R q es)
+
+remove-put : {K X : Type 0} {R : K → K → Ordering} → IsTotalOrder R → IsAntisymmetric R → (es : List (K × X)) (k : K)
+    → IsDistinct (eq_by_cmp R) (keys_of es) → from_entries {R = R} (remove_entry (eq_by_cmp R k) es) ≡ remove (from_entries es) k
+remove-put {R = R} total same es k distinct =
+    same_map total same _ _ (λ q. get-from_entries total (remove_entry (eq_by_cmp R k) es) q ∙ found_as R q (remove_entry (eq_by_cmp R k) es)
+    ∙ lookup-remove_entry (eq_by_cmp_equiv total) (eq_by_cmp R k) (λ x y t. tied_alike total k x t y) q es distinct
+    ∙ ap (λ found. cond (eq_by_cmp R k q) None found) (sym (found_as R q es) ∙ sym (get-from_entries total es q))
+    ∙ ap (λ b. cond b None (get (from_entries {R = R} es) q)) ((eq_by_cmp_equiv total).symm k q)
+    ∙ sym (get-remove total (from_entries es) k q))
+
+above_of : {K L X : Type 0} (see : K → L) (R : L → L → Ordering) (x : K) (es : List (K × X)) → AllByRecursion (λ y. R (see x) (see y) ≡ Less)
+    (map (λ e. e.0) es) → AllByRecursion (λ y. R (see x) y ≡ Less) (map (λ e. e.0) (map (seen see) es))
+above_of see R x [] all = tt
+above_of see R x (e ∷ es) all = (all.0, above_of see R x es all.1)
+
+strictly_seen : {K L X : Type 0} (see : K → L) (R : L → L → Ordering) (es : List (K × X)) → IsStrictlySortedBy (λ x y. R (see x) (see y))
+    (map (λ e. e.0) es) → IsStrictlySortedBy R (keys_of (map (seen see) es))
+unfolding IsStrictlySortedBy
+strictly_seen see R [] all = tt
+strictly_seen see R (e ∷ es) all = (above_of see R e.0 es all.0, strictly_seen see R es all.1)
+
+removed_seen : {K L X : Type 0} (see : K → L) (test : L → Bool) (es : List (K × X)) → map (seen see) (remove_entry (λ k. test (see k)) es) ≡ remove_entry test
+    (map (seen see) es)
+removed_seen see test [] = refl
+removed_seen see test (e ∷ es) =
+    elim (test (see e.0)) as (λ b. map (seen see) (cond b es (e ∷ remove_entry (λ k. test (see k)) es)) ≡ cond b (map (seen see) es)
+    (seen see e ∷ remove_entry test (map (seen see) es))) [
+      | true ↦ refl
+      | false ↦ ap (λ xs. seen see e ∷ xs) (removed_seen see test es)
+    ]
+
+pub number-remove : {X : Type 0} (es new : List (ℕ × X)) (k : ℕ) → IsStrictlySortedBy nat_cmp (map (λ e. e.0) es) → new ≡ remove_entry (is_at (nat_cmp k)) es
+    → from_entries {R = nat_cmp} new ≡ remove (from_entries es) k
+number-remove es new k sorted is = ap (λ xs. from_entries {R = nat_cmp} xs) is
+    ∙ remove-put nat_cmp_total nat_cmp-IsAntisymmetric es k (IsDistinct-from_sorted nat_cmp (keys_of es) sorted)
+
+pub key-remove : {K X : Type 0} (see : K → List ℕ) (es new : List (K × X)) (k : List ℕ)
+    → IsStrictlySortedBy (λ x y. slice_cmp nat_cmp (see x) (see y)) (map (λ e. e.0) es) → new ≡ remove_entry (is_at (λ x. slice_cmp nat_cmp k (see x))) es →
+    from_entries {R = slice_cmp nat_cmp} (map (λ e. (see e.0, e.1)) new) ≡ remove (from_entries (map (λ e. (see e.0, e.1)) es)) k
+key-remove see es new k sorted is =
+    ap (λ xs. from_entries {R = slice_cmp nat_cmp} (map (seen see) xs)) is
+    ∙ ap (λ xs. from_entries {R = slice_cmp nat_cmp} xs) (removed_seen see (eq_by_cmp (slice_cmp nat_cmp) k) es)
+    ∙ remove-put nat_list_cmp_total (slice_cmp-IsAntisymmetric nat_cmp-IsAntisymmetric) (map (seen see) es) k
+        (IsDistinct-from_sorted (slice_cmp nat_cmp) (keys_of (map (seen see) es)) (strictly_seen see (slice_cmp nat_cmp) es sorted))

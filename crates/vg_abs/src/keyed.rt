@@ -76,6 +76,15 @@ impl Keyed {
         Ok(())
     }
 
+    /// Takes out what stands at a key.
+    pub fn remove(&mut self, key: &[u8])
+        ensures { self.new ≡ map.remove self.old key.now }
+    {
+        // what counts the entries also says that their keys ascend
+        let _count = self.entries.len();
+        self.entries.remove(key);
+    }
+
     /// The same table once more.
     pub fn copy(&self) -> Result<Keyed, Memory>
         ensures { IfOk result (λ copied. copied ≡ self.now) }

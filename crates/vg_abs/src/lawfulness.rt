@@ -164,8 +164,8 @@ fn key_struct(shape: &Shape, map: usize) -> u16
     }
 }
 
-// The struct of a vector's cells, by its number.
-fn cell_struct(shape: &Shape, vector: u16) -> u16
+/// The struct of a vector's cells, by its number: its own, or that of the keys of the map two objects before; 0 where there is none.
+pub fn cell_struct(shape: &Shape, vector: u16) -> u16
     ensures { result ≡ shapes.cell_struct shape.now vector }
 {
     match shape.objects().get(vector as usize) {

@@ -11,6 +11,7 @@ mod library;
 mod links;
 mod numbered;
 mod object;
+mod routing;
 mod start;
 mod state;
 mod tables;
@@ -19,13 +20,15 @@ mod tests;
 
 pub use bytes::Bytes;
 pub use evaluation::{Cell, Scope, operate, value};
+pub use fields::field_value;
 pub use keyed::Keyed;
-pub use lawfulness::{lawful, rule_holds};
+pub use lawfulness::{cell_struct, lawful, rule_holds};
 pub use laws::{
     an_opening_link_is_lawful, an_opening_state_is_lawful, only_what_goes_is_forgotten,
 };
 pub use library::Lib;
 pub use numbered::Numbered;
 pub use object::{LinkTable, Object, PrefixTable, VectorTable};
-pub use start::opening;
+pub use routing::longest_match;
+pub use start::{bytes_in, field_at, opening, with_field};
 pub use state::LibState;

@@ -73,6 +73,15 @@ impl<V: Drop> Numbered<V> {
         self.entries.insert(number, value)?;
         Ok(())
     }
+
+    /// Takes out what stands at a number.
+    pub fn remove(&mut self, number: u64)
+        ensures { self.new ≡ map.remove self.old number }
+    {
+        // what counts the entries also says that their numbers ascend
+        let _count = self.entries.len();
+        self.entries.remove(&number);
+    }
 }
 
 impl<V: Drop + Clone> Numbered<V> {

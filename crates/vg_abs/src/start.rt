@@ -39,8 +39,8 @@ fn low_bytes(alloc: Global, count: u8, number: u64) -> Result<Vec<u8>, Memory>
     Ok(bytes)
 }
 
-// The bytes of a field that holds a number.
-fn bytes_in(alloc: Global, of: FieldType, number: u64) -> Result<Vec<u8>, Memory>
+/// The bytes of a field that holds a number, which is taken modulo the field's size.
+pub fn bytes_in(alloc: Global, of: FieldType, number: u64) -> Result<Vec<u8>, Memory>
     ensures { IfOk result (λ bytes. bytes.items ≡ fields.bytes_in of number) }
 {
     let mut bytes = low_bytes(alloc, of.bytes(), number)?;
@@ -66,8 +66,8 @@ pub fn behind(bytes: &[u8], place: u64) -> &[u8]
     behind
 }
 
-// A struct's bytes with a number in the field at a place.
-fn with_field(
+/// A struct's bytes with a number in the field at a place, taken modulo the field's size.
+pub fn with_field(
     alloc: Global,
     place: u64,
     of: FieldType,
@@ -94,8 +94,8 @@ fn zero_cells(alloc: Global, count: u64, bytes: u64) -> Result<Numbered<Bytes>, 
     Ok(cells)
 }
 
-// A field of a struct.
-fn field_at(shape: &Shape, cell: u16, field: u16) -> Option<Field>
+/// A field of a struct, both by their numbers; none where there is no such field.
+pub fn field_at(shape: &Shape, cell: u16, field: u16) -> Option<Field>
     ensures { result ≡ slice_get (fields_of shape.now cell) field }
 {
     shape.fields_of(cell).get(field as usize).copied()

@@ -7,7 +7,6 @@ mod expiry;
 mod link;
 mod object;
 mod plain;
-mod routing;
 mod slots;
 mod telling;
 mod vector;

@@ -1,1 +1,13 @@
+mod WordLaws
+mod TellingLaws
+mod ValueLaws
+mod KeyLaws
+mod EffectLaws
+mod ExpiryLaws
+mod StoreLaws
+mod RunLaws
+mod StatementLaws
+mod StepLaws
+mod NeverAsks
+mod StepAsks
 pub mod Worked

@@ -1,6 +1,7 @@
 -- What a specification's step does with a frame: a plain recursion over its statements, on the tables of the library.
 use Rattle.std.specs.Prelude.{ℕ, ◌+◌, ◌%◌, ◌^◌, ◌==◌, nat_lt, zero, suc, Bool, true, false, List, [], ◌∷◌, ◌++◌, slice_get, Option, Some, None}
 use Rattle.std.specs.Prelude.{if◌then◌else◌}
+use Rattle.std.specs.Option.{option_map}
 use Rattle.std.specs.FinMap.{get}
 use Rattle.vg_core.specs.declared.verdict.Verdict.{Verdict}
 use Rattle.vg_core.specs.declared.verdict.Verdict.TheVariants as verdicts
@@ -11,6 +12,8 @@ use Rattle.vg_stree.specs.declared.shape.Field.{Field}
 use Rattle.vg_stree.specs.Declarations.{Declarations, fields_of, field_place}
 use Rattle.vg_stree.specs.Specification.{Specification}
 use Rattle.vg_stree.specs.Syntax.{listed}
+use Rattle.vg_abs.specs.declared.object.Object.{Object}
+use Rattle.vg_abs.specs.declared.object.Object.TheVariants.{Map}
 use Rattle.vg_abs.specs.Tables.{Link}
 use Rattle.vg_abs.specs.State.{State, link_of_map, vector_of, prefixes_of}
 use Rattle.vg_abs.specs.Answers.{index_of, time_of, match_in, count_before}
@@ -80,6 +83,11 @@ with_field_in_cell shape vector field value bytes =
 abbrev pub with_entry : Link → List ℕ → (index now : ℕ) → Link
 with_entry link key index now = with_key (with_cell (with_index link index now) index key) key index
 
+-- the bytes of a key of a map in a scene, where all its values are told
+abbrev pub key_of : Specification → Scene → (map : ℕ) → Parts → Option (List ℕ)
+key_of spec scene map key =
+    option_map (key_bytes (fields_of spec.shape (cell_struct spec.shape (map + 2)))) (values_of spec scene (listed spec.code.items key))
+
 module _ (spec : Specification) (numbers : List ℕ) (port now : ℕ) where
   -- what the expressions of a statement may speak of
   abbrev pub scene_at : Place → Scene
@@ -91,13 +99,15 @@ module _ (spec : Specification) (numbers : List ℕ) (port now : ℕ) where
 
   -- what follows from a key's bytes
   abbrev pub keyed : Place → ℕ → Parts → (List ℕ → Outcome) → Outcome
-  keyed place map key next =
-      told (values_of spec (scene_at place) (listed spec.code.items key))
-      (λ values. next (key_bytes (fields_of spec.shape (cell_struct spec.shape (map + 2))) values))
+  keyed place map key next = told (key_of spec (scene_at place) map key) next
 
   -- what statements do, by their numbers
   abbrev pub Statements : Type 0
   Statements = ℕ → Place → Outcome
+
+  -- statements of which none is known
+  abbrev pub nothing_known : Statements
+  nothing_known number place = Goes place
 
   -- what the statements of a list do, one after another
   abbrev pub all_by : Statements → List ℕ → Place → Outcome
@@ -125,12 +135,12 @@ module _ (spec : Specification) (numbers : List ℕ) (port now : ℕ) where
       Goes (record place { state = with_bytes place.state vector index (with_field_in_cell spec.shape vector field value bytes) }))
       else Goes place
 
-  -- exactly the indices of a link with a time before a bound are freed
-  abbrev pub expire : Place → (map bound : ℕ) → Outcome
-  expire place map bound =
-      let link = link_of_map place.state map in
+  -- exactly the indices of a link with a time before a bound are freed; nothing is done where there is no such link
+  abbrev pub expire : Place → (map bound : ℕ) → Option Object → Outcome
+  expire place map bound (Some (Map link)) =
       told (count_before place.state.full link bound) (λ freed.
       Goes (record place { state = with_link place.state map (expired place.state.full link bound freed) }))
+  expire place map bound _ = Goes place
 
   -- an index is handed out to a key, and the first block follows, where that is told to be free
   abbrev pub hand_out_if : Statements → Parts → Place → (map : ℕ) → List ℕ → (choice : ℕ) → List ℕ → Bool → Outcome
@@ -179,7 +189,7 @@ module _ (spec : Specification) (numbers : List ℕ) (port now : ℕ) where
       valued place at (λ a. valued place value (λ v. Goes (record place { frame = with_word place.frame word a v })))
   statement_by known (statements.SetCell vector index field value) place =
       valued place index (λ i. valued place value (λ v. store_field place vector i field v))
-  statement_by known (statements.Expire link before) place = valued place before (λ bound. expire place link bound)
+  statement_by known (statements.Expire link before) place = valued place before (λ bound. expire place link bound (slice_get place.state.objects link))
   statement_by known (statements.Find link key chosen otherwise) place =
       keyed place link key (λ bytes. told (index_of place.state.full (link_of_map place.state link) bytes) (either_by known chosen otherwise place))
   statement_by known (statements.Add link key chosen otherwise) place =

@@ -1,6 +1,6 @@
 -- The values of a step's expressions. Every value is a whole number below 2 ^ 64, and all operands and arguments are evaluated, also those of
 -- `&&`, `||` and `?:`: so a value is told only where the state tells all that is asked in it.
-use Rattle.std.specs.Prelude.{ℕ, ◌==◌, nat_lt, not, zero, suc, Bool, List, [], ◌∷◌, ◌++◌, length, fold, slice_get, Option, Some, None, is_some, if◌then◌else◌}
+use Rattle.std.specs.Prelude.{ℕ, ◌==◌, nat_lt, not, zero, suc, List, [], ◌∷◌, length, fold, slice_get, Option, Some, None, is_some, if◌then◌else◌}
 use Rattle.std.specs.Option.{option_map}
 use Rattle.std.specs.FinMap.{get}
 use Rattle.vg_stree.specs.declared.code.SExpr.{SExpr}

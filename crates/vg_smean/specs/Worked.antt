@@ -2,7 +2,6 @@
 use Rattle.std.specs.Prelude.{ℕ, ◌≡◌, List, [], ◌∷◌, Bool, true, false, Some, None}
 use Rattle.std.specs.FinMap.{empty, insert}
 use Rattle.vg_core.specs.declared.verdict.Verdict.TheVariants.{Drop, Send, Flood}
-use Rattle.vg_stree.specs.declared.code.Parts.{Parts}
 use Rattle.vg_stree.specs.declared.code.SExpr.{SExpr}
 use Rattle.vg_stree.specs.declared.code.SExpr.TheVariants.{Number, Port, Local, Length, Frame}
 use Rattle.vg_stree.specs.declared.code.SExpr.TheVariants as expressions
@@ -17,7 +16,6 @@ use Rattle.vg_stree.specs.declared.shape.Width.TheVariants.{Bits8}
 use Rattle.vg_stree.specs.declared.shape.Size.TheVariants as sizes
 use Rattle.vg_stree.specs.declared.shape.ObjectKind.TheVariants as kinds
 use Rattle.vg_stree.specs.Specification.{Specification}
-use Rattle.vg_stree.specs.Syntax.{Syntax}
 use Rattle.vg_abs.specs.declared.object.Object.TheVariants.{Map, Chain, Keys}
 use Rattle.vg_abs.specs.Tables.{Link}
 use Rattle.vg_abs.specs.State.{State}

@@ -1,7 +1,22 @@
 //! What a specification's step means, as definitions, with worked steps. The step itself isn't built yet.
 #![tactic(auto)]
 
+mod effects;
+mod keys;
+mod running;
+mod statements;
+mod step;
+mod stops;
+mod telling;
+mod values;
+mod words;
+
 ghost use Rattle.vg_smean.specs.Worked.{WorkedSteps};
+
+pub use step::spec_step;
+pub use stops::SpecStop;
+pub use values::{Scene, value};
+pub use words::{set_word, word_at};
 
 /// Small steps, each with what comes of it by the definitions, worked by hand. It does nothing: its contract is what it says.
 #[tactic(auto, using(crate::proofs::Worked::worked_steps))]

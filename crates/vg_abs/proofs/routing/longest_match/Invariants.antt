@@ -1,6 +1,6 @@
 use Rattle.std.proofs.Common.{◌≡◌, ◌≤◌, drop, length}
 use Rattle.vg_stree.specs.Routes as routes
-use Rattle.vg_plain.proofs.routing.longest_match.Given as goal
+use Rattle.vg_abs.proofs.routing.longest_match.Given as goal
 
 abbrev pub decreases-loop-left : goal.decreases-loop-left
 decreases-loop-left l = l.left
