@@ -4,6 +4,8 @@ use Rattle.vg_forms.specs.declared.token.Token.{Token}
 use Rattle.vg_forms.specs.Forms.{Form, Plain, Place, One, Unless, Both, Either, Chain, Inner, Made, Growth}
 use Rattle.vg_forms.specs.Places.{State, place_at, passes, tested}
 use Rattle.vg_forms.specs.Grammar.{Grammar}
+use Rattle.vg_forms.specs.declared.stops.Stop.{Stop}
+use Rattle.vg_forms.specs.declared.stops.Stop.TheVariants as stops
 
 -- where a reader stops: before so many tokens, since the next fits nothing there, or since it opens one nesting too many
 pub data Refusal : Type 0 where
@@ -61,3 +63,10 @@ module _ {K N G : Type 0} (grammar : Grammar K N G) (toks : List (Token K)) wher
 
   abbrev pub read : {A : Type 0} → ℕ → Form K N G A → Reads G A
   read room f s = read_with toks (read_inner room) f s
+
+-- a call answers what reading gives, unless memory ran out; where it stops, the reader stands at that token
+abbrev pub Gives : {G A : Type 0} → Result A Stop → State G → Result (A × State G) Refusal → Type 0
+Gives (Ok a) t given = given ≡ Ok (a, t)
+Gives (Err stops.Wrong) t given = given ≡ Err (Wrong t.at)
+Gives (Err stops.Deep) t given = given ≡ Err (Deep t.at)
+Gives (Err stops.Memory) t given = Unit {0}

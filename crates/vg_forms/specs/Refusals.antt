@@ -5,6 +5,8 @@ use Rattle.vg_forms.specs.Forms.{Form, Plain, Place, One, Unless, Both, Either, 
 use Rattle.vg_forms.specs.Places.{State, place_at, passes, tested}
 use Rattle.vg_forms.specs.Grammar.{Grammar}
 use Rattle.vg_forms.specs.Spelling.{Spelled, spelled_with, spelled_inner, start, Spells}
+use Rattle.vg_forms.specs.declared.stops.ReadFault.{ReadFault}
+use Rattle.vg_forms.specs.declared.stops.ReadFault.TheVariants as faults
 
 module _ {K G : Type 0} (toks : List (Token K)) where
   -- any number of turns of a chain are spelled, and in the next one its form comes to such a construct
@@ -57,3 +59,9 @@ module _ {K N G : Type 0} (grammar : Grammar K N G) where
   -- at a place stands a token that opens a construct for which there is no room
   abbrev pub IsDeep : ℕ → List (Token K) → ℕ → Type 0
   IsDeep room toks at = (i : ℕ) × (at ≡ place_at toks i) × Opens room toks i
+
+  -- the faults that tokens have
+  abbrev pub Refuses : ℕ → List (Token K) → ReadFault → Type 0
+  Refuses room toks (faults.Syntax at) = IsSyntax room toks at
+  Refuses room toks (faults.Deep at) = IsDeep room toks at
+  Refuses room toks faults.Memory = ⊥

@@ -2,6 +2,8 @@
 //! constructs that are counted, and any tree.
 #![tactic(auto)]
 
+mod stops;
 mod token;
 
+pub use stops::{ReadFault, Stop};
 pub use token::Token;
