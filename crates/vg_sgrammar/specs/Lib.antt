@@ -1,2 +1,4 @@
 pub mod Written
 pub mod Kinds
+pub mod Growing
+pub mod Rules
