@@ -1,9 +1,9 @@
 -- The grammar's forms meet what makes reading the same as spelling.
-use Rattle.std.proofs.Common.{◌≡◌, ◌≤◌, inl, inr, ℕ, zero, suc, Bool, true, false, List, [], ◌∷◌, length, slice_get, Option, Some, None, refl, sym, subst, arith}
+use Rattle.std.proofs.Common.{◌≡◌, ◌≤◌, inl, inr, ℕ, zero, suc, Bool, true, false, List, [], ◌∷◌, ◌++◌, length, slice_get, Option, Some, None, refl, sym, ap, subst, arith}
 use Rattle.std.specs.Prelude.{◌&&◌, ◌||◌, not, is_some}
 use Rattle.std.proofs.lemmas.Bool.{and_parts}
 use Rattle.std.proofs.lemmas.Option.{slice_get_cases}
-use Rattle.vg_forms.specs.Forms.{Form, Plain, One, Inner, ◌⊛◌, ◌⊳◌, optional, Growth}
+use Rattle.vg_forms.specs.Forms.{Form, Plain, One, Inner, ◌⊛◌, ◌⊳◌, optional, one_more, Growth}
 use Rattle.vg_forms.specs.Places.{State, passes}
 use Rattle.vg_forms.specs.Spelling.{start}
 use Rattle.vg_forms.specs.Guided.{guided}
@@ -14,10 +14,10 @@ use Rattle.vg_stok.specs.declared.kinds.Word.TheVariants as words
 use Rattle.vg_stok.specs.declared.kinds.Sign.TheVariants as signs
 use Rattle.vg_stree.specs.declared.code.Operation.{Operation}
 use Rattle.vg_sgrammar.specs.Written.{Written}
-use Rattle.vg_sgrammar.specs.Growing.{operated, chained}
 use Rattle.vg_sgrammar.specs.Kinds.{SToken, is_sign, is_word, is_binary, binary_of, any_token}
 use Rattle.vg_sgrammar.specs.Rules.{Nested, Expression, Operand, Statement, Block, SForm, sgrammar, begins, form, sign, word, name, number, number_alone}
-use Rattle.vg_sgrammar.specs.Rules.{some_expressions, arguments, behind_name, frame_word, pair, framed, parens, has, primary, unary, operator, operation}
+use Rattle.vg_sgrammar.specs.Rules.{some_expressions, arguments, behind_name, frame_word, pair, framed, parens, has, frame_primary, cell_primary}
+use Rattle.vg_sgrammar.specs.Rules.{known, named_primary, primary, unary, operator, operation_of, operation}
 use Rattle.vg_sgrammar.specs.Rules.{operations, binary, expression, otherwise, assigned, let_statement, alone, send_statement, if_statement}
 use Rattle.vg_sgrammar.specs.Rules.{frame_statement, cell_statement, expire_statement, key, keyed, indexed, lookup_statement, statement, statements}
 use Rattle.vg_sgrammar.specs.Rules.{block, ports, width, config, premise, field_type, field, fields, struct, size, link, vector, prefix, rule}
@@ -28,30 +28,30 @@ and_both a b one two = rw (one, two) refl
 
 -- each counted construct has a token
 pub binary_eats : (rank : ℕ) → eats (binary rank) ≡ true
-unfolding binary operations operation operator unary primary parens has framed frame_word number_alone behind_name arguments some_expressions
-    sign word name number
+unfolding binary operations operation operator unary primary parens has frame_primary cell_primary known named_primary framed frame_word
+    number_alone behind_name arguments some_expressions sign word name number
 binary_eats zero = refl
-binary_eats (suc rank) = binary_eats rank
+binary_eats (suc rank) = rw (binary_eats rank) refl
 
 pub form_eats : (n : Nested) → eats (form n) ≡ true
-unfolding expression unary primary statement block statements parens has framed frame_word number_alone behind_name arguments
-    some_expressions sign word name number assigned otherwise let_statement alone send_statement if_statement frame_statement cell_statement
-    expire_statement key keyed indexed lookup_statement
+unfolding expression unary primary statement block statements parens has frame_primary cell_primary known named_primary framed frame_word
+    number_alone behind_name arguments some_expressions sign word name number assigned otherwise let_statement alone send_statement
+    if_statement frame_statement cell_statement expire_statement key keyed indexed lookup_statement
 form_eats Expression = rw (binary_eats 10) refl
 form_eats Operand = refl
 form_eats Statement = refl
 form_eats Block = refl
 
 binary_tidy : (rank : ℕ) → tidy (binary rank) ≡ true
-unfolding binary operations operation operator unary primary parens has framed frame_word number_alone behind_name arguments some_expressions
-    sign word name number
+unfolding binary operations operation operator unary primary parens has frame_primary cell_primary known named_primary framed frame_word
+    number_alone behind_name arguments some_expressions sign word name number
 binary_tidy zero = refl
 binary_tidy (suc rank) = rw (binary_tidy rank) refl
 
 pub form_tidy : (n : Nested) → tidy (form n) ≡ true
-unfolding expression unary primary statement block statements parens has framed frame_word number_alone behind_name arguments
-    some_expressions sign word name number assigned otherwise let_statement alone send_statement if_statement frame_statement cell_statement
-    expire_statement key keyed indexed lookup_statement
+unfolding expression unary primary statement block statements parens has frame_primary cell_primary known named_primary framed frame_word
+    number_alone behind_name arguments some_expressions sign word name number assigned otherwise let_statement alone send_statement
+    if_statement frame_statement cell_statement expire_statement key keyed indexed lookup_statement
 form_tidy Expression = rw (binary_tidy 10) refl
 form_tidy Operand = refl
 form_tidy Statement = refl
@@ -127,26 +127,29 @@ hints = record {
 
 -- the tests tell the sides
 operand_tells : (kind : TokenKind) (from to : ℕ) → tells sgrammar hints (form Operand) (follows Operand (record { kind = kind; from = from; to = to })) (record { kind = kind; from = from; to = to }) ≡ true
-unfolding unary primary parens has framed frame_word number_alone behind_name arguments some_expressions sign word name number
+unfolding unary primary parens has frame_primary cell_primary known named_primary framed frame_word number_alone behind_name arguments
+    some_expressions sign word name number
 operand_tells (kinds.Sign signs.Plus) from to = refl
 operand_tells (kinds.Word words.If) from to = refl
 operand_tells _ from to = refl
 
 operand_begins : (kind : TokenKind) (from to : ℕ) → implies (first sgrammar (form Operand) (record { kind = kind; from = from; to = to })) (begins Operand (record { kind = kind; from = from; to = to })) ≡ true
-unfolding unary primary parens has framed frame_word number_alone behind_name arguments some_expressions sign word name number
+unfolding unary primary parens has frame_primary cell_primary known named_primary framed frame_word number_alone behind_name arguments
+    some_expressions sign word name number
 operand_begins (kinds.Sign signs.Plus) from to = refl
 operand_begins (kinds.Word words.If) from to = refl
 operand_begins _ from to = refl
 
 expression_begins : (kind : TokenKind) (from to : ℕ) → implies (first sgrammar (form Expression) (record { kind = kind; from = from; to = to })) (begins Expression (record { kind = kind; from = from; to = to })) ≡ true
-unfolding expression binary operations operation operator unary primary parens has framed frame_word number_alone behind_name arguments
-    some_expressions sign word name number
+unfolding expression binary operations operation operator unary primary parens has frame_primary cell_primary known named_primary framed
+    frame_word number_alone behind_name arguments some_expressions sign word name number
 expression_begins (kinds.Sign signs.Plus) from to = refl
 expression_begins (kinds.Word words.If) from to = refl
 expression_begins _ from to = refl
 
 unary_tells : (kind : TokenKind) (from to : ℕ) → tells sgrammar hints unary false (record { kind = kind; from = from; to = to }) ≡ true
-unfolding unary primary parens has framed frame_word number_alone behind_name arguments some_expressions sign word name number
+unfolding unary primary parens has frame_primary cell_primary known named_primary framed frame_word number_alone behind_name arguments
+    some_expressions sign word name number
 unary_tells (kinds.Sign signs.Plus) from to = refl
 unary_tells (kinds.Word words.If) from to = refl
 unary_tells _ from to = refl
@@ -197,18 +200,23 @@ implies_itself : (b : Bool) → implies (b || false) b ≡ true
 implies_itself true = refl
 implies_itself false = refl
 
+and_true : (b : Bool) → (b && true) ≡ b
+and_true true = refl
+and_true false = refl
+
 binary_tells : (rank : ℕ) (behind : Bool) (t : SToken) → loose rank behind t ≡ true → tells sgrammar hints (binary rank) behind t ≡ true
 unfolding binary operations operation operator
 binary_tells zero behind t is = any_tells behind t is
 binary_tells (suc rank) behind t is =
-    let more = (is_binary (suc rank) t || false) || behind in
-    let parts = and_parts (loose rank more t) (implies behind (not (is_binary (suc rank) t))) is in
+    let now = is_binary (suc rank) t in
+    let more = (now || false) || behind in
+    let parts = and_parts (loose rank more t) (implies behind (not now)) is in
     let below = binary_tells rank more t parts.0 in
-    let tests = and_both (implies (is_binary (suc rank) t || false) (is_binary (suc rank) t)) (implies behind (not (is_binary (suc rank) t)))
-    (implies_itself (is_binary (suc rank) t)) parts.1 in
-    and_both (tells sgrammar hints (binary rank) more t && tells sgrammar hints (binary rank) more t)
-    (implies (is_binary (suc rank) t || false) (is_binary (suc rank) t) && implies behind (not (is_binary (suc rank) t)))
-    (and_both (tells sgrammar hints (binary rank) more t) (tells sgrammar hints (binary rank) more t) below below) tests
+    let left = subst (λ (b : Bool). tells sgrammar hints (binary rank) ((now || false) || b) t ≡ true) (sym (and_true behind)) below in
+    let tests = and_both (implies (now || false) now) (implies behind (not now)) (implies_itself now) parts.1 in
+    and_both (tells sgrammar hints (binary rank) ((now || false) || (behind && true)) t)
+    (tells sgrammar hints (binary rank) more t && (implies (now || false) now && implies behind (not now))) left
+    (and_both (tells sgrammar hints (binary rank) more t) (implies (now || false) now && implies behind (not now)) below tests)
 
 abbrev choice : SForm (Option (ℕ × ℕ))
 choice = optional (is_sign signs.Question) (Plain pair ⊛ (sign signs.Question ⊳ Inner Expression) ⊛ (sign signs.Colon ⊳ Inner Expression))
@@ -269,7 +277,8 @@ closing P a b c d e f g t is = by t.kind t.from t.to is
     by _ from to is = absurd (cc)
 
 unary_stops : (t : SToken) → closes t ≡ true → stops hints unary t ≡ true
-unfolding unary primary parens has framed frame_word number_alone behind_name arguments some_expressions sign word name number
+unfolding unary primary parens has frame_primary cell_primary known named_primary framed frame_word number_alone behind_name arguments
+    some_expressions sign word name number
 unary_stops t is = closing (λ t. stops hints unary t ≡ true) (λ from to. refl) (λ from to. refl) (λ from to. refl) (λ from to. refl) (λ from to. refl) (λ from to. refl) (λ from to. refl) t is
 
 choice_stops : (t : SToken) → closes t ≡ true → stops hints choice t ≡ true
@@ -291,7 +300,7 @@ not_binary rank t is = closing (λ t. not (is_binary rank t) ≡ true) (λ from 
 binary_stops : (rank : ℕ) (t : SToken) → closes t ≡ true → stops hints (binary rank) t ≡ true
 unfolding binary operations operation operator
 binary_stops zero t is = unary_stops t is
-binary_stops (suc rank) t is = rw (binary_stops rank t is, binary_eats rank) (rw (not_binary (suc rank) t is) refl)
+binary_stops (suc rank) t is = rw (binary_stops rank t is, binary_eats rank, not_binary (suc rank) t is) refl
 
 expression_stops : (t : SToken) → closes t ≡ true → stops hints expression t ≡ true
 unfolding expression sign
@@ -305,14 +314,15 @@ form_stops Block = block_stops
 
 -- shortest spellings
 unary_fits : fits hints unary ≡ true
-unfolding unary primary parens has framed frame_word number_alone behind_name arguments some_expressions sign word name number
+unfolding unary primary parens has frame_primary cell_primary known named_primary framed frame_word number_alone behind_name arguments
+    some_expressions sign word name number
 unary_fits = refl
 
 binary_whole : (rank : ℕ) → whole hints (binary rank) ≡ token kinds.Name ∷ []
-unfolding binary operations operation operator unary primary parens has framed frame_word number_alone behind_name arguments some_expressions
-    sign word name number
+unfolding binary operations operation operator unary primary parens has frame_primary cell_primary known named_primary framed frame_word
+    number_alone behind_name arguments some_expressions sign word name number
 binary_whole zero = refl
-binary_whole (suc rank) = binary_whole rank
+binary_whole (suc rank) = rw (binary_whole rank) refl
 
 abbrev plain : {A : Type 0} → A → SForm A
 plain a = Plain a
@@ -331,15 +341,34 @@ pair_fits p test right first two eat is = rw (leads_any p (λ t. is_some (test t
 operation_fits : (rank : ℕ) → fits hints (operator (suc rank)) ≡ true → fits hints (binary rank) ≡ true
     → fits hints (operation (suc rank) (binary rank)) ≡ true
 unfolding operation operator
-operation_fits rank one is = pair_fits operated (binary_of (suc rank)) (binary rank) one is (binary_eats rank) (binary_whole rank)
+operation_fits rank one is = pair_fits operation_of (binary_of (suc rank)) (binary rank) one is (binary_eats rank) (binary_whole rank)
 
-operation_eats : (rank : ℕ) → eats (operation (suc rank) (binary rank)) ≡ true
-unfolding operation operator
-operation_eats rank = refl
+leads_last : {A : Type 0} (a : A) (xs : List SToken) (t : SToken) → leads (stops hints (plain a)) (xs ++ t ∷ []) ≡ true
+leads_last a [] t = refl
+leads_last a (x ∷ xs) t = refl
+
+operations_fit : (rank : ℕ) → fits hints (operation (suc rank) (binary rank)) ≡ true → fits hints (operations (suc rank) (binary rank)) ≡ true
+unfolding operations operation operator
+operations_fit rank is = rw (is, binary_whole rank, leads_last (one_more {G = Written} {A = Operation}) (sample hints (binary_of (suc rank))) (token kinds.Name)) refl
+
+operations_eat : (rank : ℕ) → eats (operations (suc rank) (binary rank)) ≡ false
+unfolding operations
+operations_eat rank = refl
+
+operations_whole : (rank : ℕ) → whole hints (operations (suc rank) (binary rank)) ≡ []
+unfolding operations
+operations_whole rank = refl
 
 rank_fits : (rank : ℕ) → fits hints (binary rank) ≡ true → fits hints (operator (suc rank)) ≡ true → fits hints (binary (suc rank)) ≡ true
-unfolding binary operations
-rank_fits rank is one = rw (is, operation_fits rank one is, operation_eats rank, binary_eats rank, binary_whole rank) refl
+unfolding binary
+rank_fits rank is one = rw (
+  is,
+  operations_fit rank (operation_fits rank one is),
+  operations_eat rank,
+  operations_whole rank,
+  binary_eats rank,
+  binary_whole rank,
+) refl
 
 binary_fits : fits hints (binary 10) ≡ true
 unfolding operator binary
@@ -364,24 +393,24 @@ unfolding specification declarations declaration ports config width premise stru
 unit_fits = refl
 
 pub form_whole : (n : Nested) → whole hints (form n) ≡ whole_inner n
-unfolding expression unary primary statement block statements parens has framed frame_word number_alone behind_name arguments
-    some_expressions sign word name number assigned otherwise let_statement alone send_statement if_statement frame_statement cell_statement
-    expire_statement key keyed indexed lookup_statement
+unfolding expression unary primary statement block statements parens has frame_primary cell_primary known named_primary framed frame_word
+    number_alone behind_name arguments some_expressions sign word name number assigned otherwise let_statement alone send_statement
+    if_statement frame_statement cell_statement expire_statement key keyed indexed lookup_statement
 form_whole Expression = rw (binary_whole 10) refl
 form_whole Operand = refl
 form_whole Statement = refl
 form_whole Block = refl
 
 binary_calls : (rank : ℕ) (ready : Nested → Bool) → calls ready (binary rank) ≡ true
-unfolding binary operations operation operator unary primary parens has framed frame_word number_alone behind_name arguments some_expressions
-    sign word name number
+unfolding binary operations operation operator unary primary parens has frame_primary cell_primary known named_primary framed frame_word
+    number_alone behind_name arguments some_expressions sign word name number
 binary_calls zero ready = refl
-binary_calls (suc rank) ready = binary_calls rank ready
+binary_calls (suc rank) ready = rw (binary_calls rank ready) refl
 
 pub all_calls : (n : Nested) (ready : Nested → Bool) → calls ready (form n) ≡ true
-unfolding expression unary primary statement block statements parens has framed frame_word number_alone behind_name arguments
-    some_expressions sign word name number assigned otherwise let_statement alone send_statement if_statement frame_statement cell_statement
-    expire_statement key keyed indexed lookup_statement
+unfolding expression unary primary statement block statements parens has frame_primary cell_primary known named_primary framed frame_word
+    number_alone behind_name arguments some_expressions sign word name number assigned otherwise let_statement alone send_statement
+    if_statement frame_statement cell_statement expire_statement key keyed indexed lookup_statement
 all_calls Expression ready = rw (binary_calls 10 ready) refl
 all_calls Operand ready = refl
 all_calls Statement ready = refl

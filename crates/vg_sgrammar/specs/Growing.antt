@@ -2,7 +2,6 @@
 use Rattle.std.specs.Prelude.{ℕ, List, [], ◌∷◌, ◌++◌, length, Option, Some, None}
 use Rattle.vg_forms.specs.Forms.{Growth, same}
 use Rattle.vg_stree.specs.declared.code.Operation.{Operation}
-use Rattle.vg_stree.specs.declared.code.Operator.{Operator}
 use Rattle.vg_stree.specs.declared.code.Parts.{Parts}
 use Rattle.vg_sgrammar.specs.Written.{Written, with_expression, with_statement, with_block, with_declaration, with_operations, with_items, with_names}
 use Rattle.vg_sgrammar.specs.Written.{with_fields}
@@ -52,14 +51,10 @@ abbrev pub define_with : ℕ → Name → List Name → ℕ → Grows ℕ
 define_with at name names value tree = declaration at (decls.Define name (behind (length tree.names) names) value) (with_names tree names)
 
 -- the first operand of a chain with the operations behind it; without one it stands alone
-abbrev pub chained : ℕ → ℕ × List Operation → Grows ℕ
-chained at (first, []) tree = (first, tree)
-chained at (first, operation ∷ operations) tree =
+abbrev pub chained : ℕ → ℕ → List Operation → Grows ℕ
+chained at first [] tree = (first, tree)
+chained at first (operation ∷ operations) tree =
     expression at (exprs.Chain first (behind (length tree.operations) (operation ∷ operations))) (with_operations tree (operation ∷ operations))
-
--- one operation more
-abbrev pub operated : Operator → ℕ → ℕ → ℕ × List Operation → Grows (ℕ × List Operation)
-operated op right at left = same (left.0, left.1 ++ record { operator = op; operand = right } ∷ [])
 
 -- a condition alone, or with what is chosen between
 abbrev pub chosen : ℕ → ℕ → Option (ℕ × ℕ) → Grows ℕ

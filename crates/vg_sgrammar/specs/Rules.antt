@@ -15,7 +15,7 @@ use Rattle.vg_stree.specs.declared.code.Parts.{Parts}
 use Rattle.vg_stree.specs.declared.shape.FieldType.{FieldType}
 use Rattle.vg_stree.specs.declared.shape.Width.{Width}
 use Rattle.vg_sgrammar.specs.Written.{Written, empty}
-use Rattle.vg_sgrammar.specs.Growing.{Grows, expression_with, statement_with, struct_with, define_with, chained, operated, chosen, named, Behind}
+use Rattle.vg_sgrammar.specs.Growing.{Grows, expression_with, statement_with, struct_with, define_with, chained, chosen, named, Behind}
 use Rattle.vg_sgrammar.specs.Growing.{Alone, Called, Indexed}
 use Rattle.vg_sgrammar.specs.Growing as grow
 use Rattle.vg_sgrammar.specs.Kinds.{SToken, is_sign, is_word, name_of, number_of, binary_of, is_binary, frame_word_of, width_of, field_type_of}
@@ -24,6 +24,7 @@ use Rattle.vg_sgrammar.specs.declared.tree.Name.{Name}
 use Rattle.vg_sgrammar.specs.declared.tree.Field.{Field}
 use Rattle.vg_sgrammar.specs.declared.tree.Size.{Size}
 use Rattle.vg_sgrammar.specs.declared.tree.Size.TheVariants as sizes
+use Rattle.vg_sgrammar.specs.declared.tree.Expression as wrote
 use Rattle.vg_sgrammar.specs.declared.tree.Expression.TheVariants as exprs
 use Rattle.vg_sgrammar.specs.declared.tree.Statement as said
 use Rattle.vg_sgrammar.specs.declared.tree.Statement.TheVariants as stmts
@@ -93,19 +94,35 @@ unfoldable pub has : SForm ℕ
 has = Made (Plain (λ at link index. grow.expression at (exprs.Has link index)) ⊛ Place ⊲ word words.Has ⊲ sign signs.LeftParen ⊛ name
     ⊲ sign signs.Comma ⊛ Inner Expression ⊲ sign signs.RightParen)
 
+-- frame . w [ number ]
+unfoldable pub frame_primary : SForm ℕ
+frame_primary = Made (Plain (λ at p. grow.expression at (exprs.Frame p.0 p.1)) ⊛ Place ⊛ framed)
+
+-- cell . name
+unfoldable pub cell_primary : SForm ℕ
+cell_primary = Made (Plain (λ at field. grow.expression at (exprs.CellField field)) ⊛ Place ⊲ word words.Cell ⊲ sign signs.Dot ⊛ name)
+
+-- a word alone
+unfoldable pub known : Word → wrote.Expression → SForm ℕ
+known w what = Made (Plain (λ at. grow.expression at what) ⊛ Place ⊲ word w)
+
+-- name what-is-behind-it
+unfoldable pub named_primary : SForm ℕ
+named_primary = Made (Plain named ⊛ Place ⊛ name ⊛ behind_name)
+
 -- primary: ( expression ) | number | frame . w [ number ] | cell . name | has ( name , expression ) | length | port | now
 --     | name what-is-behind-it
 unfoldable pub primary : SForm ℕ
 primary =
     Either (is_sign signs.LeftParen) parens
     (Either is_number number_alone
-    (Either (is_word words.Frame) (Made (Plain (λ at p. grow.expression at (exprs.Frame p.0 p.1)) ⊛ Place ⊛ framed))
-    (Either (is_word words.Cell) (Made (Plain (λ at field. grow.expression at (exprs.CellField field)) ⊛ Place ⊲ word words.Cell ⊲ sign signs.Dot ⊛ name))
+    (Either (is_word words.Frame) frame_primary
+    (Either (is_word words.Cell) cell_primary
     (Either (is_word words.Has) has
-    (Either (is_word words.Length) (Made (Plain (λ at. grow.expression at exprs.Length) ⊛ Place ⊲ word words.Length))
-    (Either (is_word words.Port) (Made (Plain (λ at. grow.expression at exprs.Port) ⊛ Place ⊲ word words.Port))
-    (Either (is_word words.Now) (Made (Plain (λ at. grow.expression at exprs.Now) ⊛ Place ⊲ word words.Now))
-    (Made (Plain named ⊛ Place ⊛ name ⊛ behind_name)))))))))
+    (Either (is_word words.Length) (known words.Length exprs.Length)
+    (Either (is_word words.Port) (known words.Port exprs.Port)
+    (Either (is_word words.Now) (known words.Now exprs.Now)
+    named_primary)))))))
 
 -- unary: ! unary | primary
 unfoldable pub unary : SForm ℕ
@@ -115,17 +132,20 @@ unfoldable pub operator : ℕ → SForm Operator
 operator rank = One (binary_of rank)
 
 -- operation of a rank: operator of the rank, what stands to its right
-unfoldable pub operation : ℕ → SForm ℕ → SForm (ℕ → ℕ × List Operation → Grows (ℕ × List Operation))
-operation rank right = Plain operated ⊛ operator rank ⊛ right
+abbrev pub operation_of : Operator → ℕ → Operation
+operation_of op right = record { operator = op; operand = right }
 
--- operations of a rank: binary of the rank below { operation of the rank }
-unfoldable pub operations : ℕ → SForm ℕ → SForm (ℕ × List Operation)
-operations rank below = Chain (is_binary rank) (Plain (λ first. (first, [])) ⊛ below) (operation rank below)
+unfoldable pub operation : ℕ → SForm ℕ → SForm Operation
+operation rank right = Plain operation_of ⊛ operator rank ⊛ right
 
--- binary of a rank: operations of the rank; of rank 0: unary
+-- operations of a rank: { operation of the rank }
+unfoldable pub operations : ℕ → SForm ℕ → SForm (List Operation)
+operations rank right = listed (is_binary rank) (operation rank right)
+
+-- binary of a rank: binary of the rank below, operations of the rank; of rank 0: unary
 unfoldable pub binary : ℕ → SForm ℕ
 binary zero = unary
-binary (suc rank) = Made (Plain chained ⊛ Place ⊛ operations (suc rank) (binary rank))
+binary (suc rank) = Made (Plain chained ⊛ Place ⊛ binary rank ⊛ operations (suc rank) (binary rank))
 
 -- expression: binary of rank 10 [ ? expression : expression ]
 unfoldable pub expression : SForm ℕ
