@@ -2,3 +2,4 @@ pub mod Written
 pub mod Kinds
 pub mod Growing
 pub mod Rules
+pub mod Reader

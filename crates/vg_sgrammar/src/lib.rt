@@ -2,6 +2,7 @@
 #![tactic(auto)]
 
 mod kinds;
+mod reader;
 mod tree;
 
 pub use tree::{Block, Declaration, Expression, Field, Name, Placed, Size, Statement, Tree};
