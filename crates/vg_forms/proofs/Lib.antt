@@ -1,0 +1,16 @@
+pub mod Checks
+pub mod Onward
+pub mod Chains
+pub mod Rooms
+pub mod Agreement
+pub mod Bounds
+pub mod Roomier
+pub mod Choices
+pub mod Telling
+pub mod Reaching
+pub mod Units
+pub mod Stopping
+pub mod Prefixes
+pub mod Going
+pub mod Completing
+pub mod Answering

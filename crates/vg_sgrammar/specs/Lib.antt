@@ -1,0 +1,5 @@
+pub mod Written
+pub mod Kinds
+pub mod Growing
+pub mod Rules
+pub mod Reader
