@@ -86,7 +86,7 @@ is_by l t m v old new e r (inl same) is =
     (subst (λ (j : ℕ). slice_get l.state.objects j ≡ Some (Map old)) same.1 r.is) is in absurd none
 is_by l t m v old new e r (inr other) is =
     let after : slice_get t.state.objects v ≡ slice_get l.state.objects v =
-        ap (λ (s : State). slice_get s.objects v) e ∙ get_other l.state.objects m v (Map new) other.1 in
+    ap (λ (s : State). slice_get s.objects v) e ∙ get_other l.state.objects m v (Map new) other.1 in
     subst (λ (o : Option Object). IsVectorIn t v o) (sym after)
     (in_by l t v (slice_get l.state.objects v)
     (λ was. subst (λ (s : State). IsMapIn (slice_get s.objects (v - 2))) (sym e) (map_by l.state m (v - 2) old new r (eqb_tells m (v - 2)) was)) is)

@@ -13,7 +13,7 @@ loans = (
   rw (get-insert {X = List ℕ} nat_cmp_total empty 0 (0 ∷ []) 0) refl,
   rw (get-insert {X = List ℕ} nat_cmp_total empty 0 (0 ∷ []) 0) refl,
   rw (get-insert {X = List ℕ} nat_cmp_total empty 0 (0 ∷ []) 0) refl,
-  rw (get-insert {X = List ℕ} nat_cmp_total empty 0 (0 ∷ []) 0) refl
+  rw (get-insert {X = List ℕ} nat_cmp_total empty 0 (0 ∷ []) 0) refl,
 )
 
 pub refusals : RefusalsComeInOrder
@@ -28,5 +28,5 @@ refusals = (
   refl,
   rw (get-empty nat_cmp 0) refl,
   refl,
-  rw (get-empty (slice_cmp nat_cmp) (7 ∷ [])) refl
+  rw (get-empty (slice_cmp nat_cmp) (7 ∷ [])) refl,
 )

@@ -182,7 +182,6 @@ target pointer size = Some (record { pointer = pointer; size = size })
 abbrev pub perform : (choices : List ℕ) → State → Request → Outcome
 perform choices s requests.PacketLength = Ok (answers.Word (length s.memory.frame), s)
 perform choices s (requests.PacketBorrow count) =
-    
     on_frame s (answers.Address (frame.start_of_loan s.memory.own)) (frame.borrow s.memory.own (length s.memory.frame) count)
 perform choices s (requests.PacketReturn chunk) = on_frame s answers.Nothing (frame.give_back s.memory.own chunk)
 perform choices s (requests.MapGet map key index) =

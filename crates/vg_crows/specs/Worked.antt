@@ -31,9 +31,15 @@ objects_at_first = record (start []) {
 
 abbrev pub empty_link : Link
 empty_link = record {
-  capacity = 2; key_length = 1; keys = empty; times = empty;
+  capacity = 2;
+  key_length = 1;
+  keys = empty;
+  times = empty;
   cells = insert empty 0 (0 ∷ []);
-  size = 0; count = 0; highest = 3; bounds = empty;
+  size = 0;
+  count = 0;
+  highest = 3;
+  bounds = empty;
 }
 
 abbrev pub tables_at_first : library.State

@@ -32,7 +32,7 @@ set_cases [] i j x = inr refl
 set_cases (y ∷ ys) zero zero x = inl (refl, refl)
 set_cases (y ∷ ys) zero (suc j) x = inr refl
 set_cases (y ∷ ys) (suc i) zero x = inr refl
-set_cases (y ∷ ys) (suc i) (suc j) x = elim (set_cases ys i j x) [ | inl e ↦ inl (ap suc e.0, e.1) | inr e ↦ inr e ]
+set_cases (y ∷ ys) (suc i) (suc j) x = elim (set_cases ys i j x) [ inl e ↦ inl (ap suc e.0, e.1) | inr e ↦ inr e ]
 
 -- a state whose link has all its cells
 kept_link : (s : State) (map : ℕ) (link : Link) → TellsAll s → ((index : ℕ) → index < link.capacity → Told (get link.cells index)) → TellsAll (with_link s map link)
@@ -81,6 +81,7 @@ kept_vector s vector k bytes cells all here = record {
 } where
   no_less : (n : ℕ) → n < 0 → ⊥
   no_less n less = omega arith
+
   one_told : Option Object → ℕ → Type 0
   one_told (Some (Cells cells)) index = index < cells.cell_count → Told (get cells.cells index)
   one_told _ index = Unit {0}
