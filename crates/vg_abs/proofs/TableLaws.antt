@@ -189,4 +189,4 @@ key-remove see es new k sorted is =
     ap (λ xs. from_entries {R = slice_cmp nat_cmp} (map (seen see) xs)) is
     ∙ ap (λ xs. from_entries {R = slice_cmp nat_cmp} xs) (removed_seen see (eq_by_cmp (slice_cmp nat_cmp) k) es)
     ∙ remove-put nat_list_cmp_total (slice_cmp-IsAntisymmetric nat_cmp-IsAntisymmetric) (map (seen see) es) k
-        (IsDistinct-from_sorted (slice_cmp nat_cmp) (keys_of (map (seen see) es)) (strictly_seen see (slice_cmp nat_cmp) es sorted))
+    (IsDistinct-from_sorted (slice_cmp nat_cmp) (keys_of (map (seen see) es)) (strictly_seen see (slice_cmp nat_cmp) es sorted))

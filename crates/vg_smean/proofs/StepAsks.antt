@@ -1,8 +1,7 @@
 -- No step asks more than a lawful full state tells.
-use Rattle.std.proofs.Common.{◌≡◌, ◌≢◌, ◌+◌, ◌-◌, ◌%◌, ◌^◌, ◌<◌, ◌≤◌, ◌⊎◌, ℕ, zero, suc, List, [], ◌∷◌, length, slice_set, Option, Some, None, Bool, true, false, cond}
-use Rattle.std.proofs.Common.{refl, sym, ◌∙◌, ap, subst, inl, inr, arith, IsSome}
-use Rattle.std.specs.Prelude.{slice_get, is_none, nat_lt, ◌==◌}
-use Rattle.std.specs.Option.{option_map}
+use Rattle.std.proofs.Common.{◌≡◌, ◌≢◌, ◌+◌, ◌-◌, ◌%◌, ◌^◌, ◌<◌, ◌⊎◌, ℕ, zero, suc, List, [], ◌∷◌, slice_set, Option, Some, None, Bool, true, false, cond}
+use Rattle.std.proofs.Common.{refl, sym, ◌∙◌, ap, subst, inl, inr, arith}
+use Rattle.std.specs.Prelude.{slice_get, nat_lt, ◌==◌}
 use Rattle.std.specs.Ordering.{nat_cmp, eq_by_cmp}
 use Rattle.std.specs.Cmp.{nat_cmp_total}
 use Rattle.std.specs.FinMap.{get, insert, get-insert}
@@ -17,15 +16,15 @@ use Rattle.vg_abs.specs.declared.object.Object.{Object}
 use Rattle.vg_abs.specs.declared.object.Object.TheVariants.{Map, Chain, Keys, Cells, Prefixes}
 use Rattle.vg_abs.specs.Tables.{Link, Vector, CellTable}
 use Rattle.vg_abs.specs.State.{State, link_in, link_of_map, vector_of, prefixes_of}
-use Rattle.vg_abs.specs.Answers.{listed_or_none, index_of, time_of, match_in, count_before}
-use Rattle.vg_abs.specs.Effects.{with_link, with_cell, with_bytes, with_bytes_in}
+use Rattle.vg_abs.specs.Answers.{time_of, match_in, count_before}
+use Rattle.vg_abs.specs.Effects.{with_link, with_cell, with_bytes_in}
 use Rattle.vg_abs.specs.Rows.{may_hand_out}
 use Rattle.vg_abs.specs.Expressions.{is_true}
-use Rattle.vg_abs.specs.Lawful.{IsLawful, IsLawfulObject, IsLawfulLink}
-use Rattle.vg_smean.specs.Step.{Place, Outcome, Goes, Ends, Refused, Untold, told, followed_by, back_to, named, with_entry, with_field_in_cell, key_of, scene_at, valued}
+use Rattle.vg_smean.specs.Step.{Place, Outcome, Goes, Ends, Refused, Untold, told, followed_by, back_to, named, with_entry, with_field_in_cell, scene_at, valued}
 use Rattle.vg_smean.specs.Step.{keyed, Statements, all_by, block_by, either_by, store_field, expire, hand_out_if, hand_out, add_by, touch, remove, statement_by}
-use Rattle.vg_smean.specs.Step.{statement_found, statements_before, statement_of, StepEnd, AsksMore, done, end_of, step}
-use Rattle.vg_smean.proofs.NeverAsks.{Told, TellsAll, told_map, told_time, told_time_of, told_index_of, told_cell, told_either, value_told, all_values_told}
+use Rattle.vg_smean.specs.Step.{statement_found, statements_before, statement_of, AsksMore, done, end_of, step}
+use Rattle.vg_smean.specs.Places.{outcome_of}
+use Rattle.vg_smean.proofs.NeverAsks.{Told, TellsAll, told_map, told_time_of, told_index_of, told_cell, told_either, value_told, all_values_told}
 
 -- ---- states
 set_cases : (xs : List Object) (i j : ℕ) (x : Object) → ((i ≡ j) × (slice_get (slice_set xs i x) j ≡ Some x)) ⊎ (slice_get (slice_set xs i x) j ≡ slice_get xs j)
@@ -33,7 +32,7 @@ set_cases [] i j x = inr refl
 set_cases (y ∷ ys) zero zero x = inl (refl, refl)
 set_cases (y ∷ ys) zero (suc j) x = inr refl
 set_cases (y ∷ ys) (suc i) zero x = inr refl
-set_cases (y ∷ ys) (suc i) (suc j) x = elim (set_cases ys i j x) [ | inl e ↦ inl (ap suc e.0, e.1) | inr e ↦ inr e ]
+set_cases (y ∷ ys) (suc i) (suc j) x = elim (set_cases ys i j x) [ inl e ↦ inl (ap suc e.0, e.1) | inr e ↦ inr e ]
 
 -- a state whose link has all its cells
 kept_link : (s : State) (map : ℕ) (link : Link) → TellsAll s → ((index : ℕ) → index < link.capacity → Told (get link.cells index)) → TellsAll (with_link s map link)
@@ -82,6 +81,7 @@ kept_vector s vector k bytes cells all here = record {
 } where
   no_less : (n : ℕ) → n < 0 → ⊥
   no_less n less = omega arith
+
   one_told : Option Object → ℕ → Type 0
   one_told (Some (Cells cells)) index = index < cells.cell_count → Told (get cells.cells index)
   one_told _ index = Unit {0}
@@ -293,8 +293,11 @@ module _ (spec : Specification) (numbers : List ℕ) (port now : ℕ) where
   asks_no_more Refused sound = λ same. cc
   asks_no_more Untold sound = absurd sound
 
+  pub sound_step : (place : Place) → TellsAll place.state → Sound (outcome_of spec numbers port now place)
+  sound_step place all =
+      sound_list (statement_of spec numbers port now) (λ number at. sound_before (suc number) number at) (listed spec.code.items spec.step) place all
+
   pub step_told : (s : State) (frame choices : List ℕ) → TellsAll s → step spec numbers s port frame now choices ≢ AsksMore
   step_told s frame choices all =
-      asks_no_more _ (sound_list (statement_of spec numbers port now) (λ number place. sound_before (suc number) number place)
-      (listed spec.code.items spec.step) (record { state = s; frame = frame; choices = choices; names = [] })
+      asks_no_more _ (sound_step (record { state = s; frame = frame; choices = choices; names = [] })
       (record { full = all.full; links = all.links; vectors = all.vectors }))

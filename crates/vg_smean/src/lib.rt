@@ -11,6 +11,7 @@ mod telling;
 mod values;
 mod words;
 
+ghost use Rattle.vg_smean.specs.Outcomes.{LawfulTellsAll};
 ghost use Rattle.vg_smean.specs.Worked.{WorkedSteps};
 
 pub use step::spec_step;
@@ -22,4 +23,9 @@ pub use words::{set_word, word_at};
 #[tactic(auto, using(crate::proofs::Worked::worked_steps))]
 pub fn steps_are_as_worked()
     ensures { WorkedSteps }
+{}
+
+/// A lawful full state tells all that a step of its specification asks. It does nothing: its contract is what it says.
+pub fn a_lawful_state_tells_all()
+    ensures { LawfulTellsAll }
 {}
