@@ -1,4 +1,4 @@
-//! What a specification's step means, as definitions, with worked steps. The step itself isn't built yet.
+//! The step of a specification: what it means, as definitions with worked steps, and the call that takes it.
 #![tactic(auto)]
 
 mod effects;
@@ -8,6 +8,8 @@ mod statements;
 mod step;
 mod stops;
 mod telling;
+#[cfg(test)]
+mod tests;
 mod values;
 mod words;
 
