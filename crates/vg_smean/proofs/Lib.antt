@@ -10,4 +10,5 @@ mod StatementLaws
 mod StepLaws
 mod NeverAsks
 mod StepAsks
+mod LawfulTells
 pub mod Worked

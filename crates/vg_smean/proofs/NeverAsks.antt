@@ -1,28 +1,22 @@
 -- A lawful full state tells all that a step asks.
-use Rattle.std.proofs.Common.{◌≡◌, ◌≢◌, ◌+◌, ◌-◌, ◌<◌, ◌≤◌, ◌⊎◌, ℕ, zero, suc, List, [], ◌∷◌, length, fold, slice_set, Option, Some, None, Bool, true, false, cond, refl, sym}
-use Rattle.std.proofs.Common.{◌∙◌, ap, subst, inl, inr, arith, IsSome}
-use Rattle.std.specs.Prelude.{slice_get, is_some, is_none, nat_lt, ◌==◌}
+use Rattle.std.proofs.Common.{◌≡◌, ◌-◌, ◌<◌, ℕ, zero, suc, List, [], ◌∷◌, fold, Option, Some, None, Bool, true, false, cond, refl, sym}
+use Rattle.std.proofs.Common.{subst, inl, inr, arith}
+use Rattle.std.specs.Prelude.{slice_get, nat_lt, ◌==◌}
 use Rattle.std.specs.Option.{option_map}
-use Rattle.std.specs.Ordering.{nat_cmp, eq_by_cmp}
-use Rattle.std.specs.Cmp.{nat_cmp_total}
-use Rattle.std.specs.FinMap.{get, insert, get-insert}
-use Rattle.std.proofs.lemmas.Bool.{cases_lt, cases_eq, eq-eqb, ne_eqb, lt-ltb, le-ltb}
+use Rattle.std.specs.FinMap.{get}
+use Rattle.std.proofs.lemmas.Bool.{cases_lt, lt-ltb, le-ltb}
 use Rattle.vg_stree.specs.declared.code.SExpr.{SExpr}
 use Rattle.vg_stree.specs.declared.code.SExpr.TheVariants as expressions
-use Rattle.vg_stree.specs.declared.code.SStmt.{SStmt}
-use Rattle.vg_stree.specs.declared.code.SStmt.TheVariants as statements
 use Rattle.vg_stree.specs.declared.code.Operation.{Operation}
-use Rattle.vg_stree.specs.declared.code.Parts.{Parts}
 use Rattle.vg_stree.specs.Specification.{Specification}
 use Rattle.vg_stree.specs.Syntax.{listed}
 use Rattle.vg_abs.specs.declared.object.Object.{Object}
 use Rattle.vg_abs.specs.declared.object.Object.TheVariants.{Map, Chain, Keys, Cells, Prefixes}
 use Rattle.vg_abs.specs.Tables.{Link, Vector}
-use Rattle.vg_abs.specs.State.{State, no_link, link_in, link_of_map, vector_in, vector_of, prefixes_of}
-use Rattle.vg_abs.specs.Answers.{listed_or_none, index_of, time_of, match_in, count_before}
-use Rattle.vg_abs.specs.Effects.{with_link, with_cell, with_bytes_in}
+use Rattle.vg_abs.specs.State.{State, link_of_map, vector_in, vector_of}
+use Rattle.vg_abs.specs.Answers.{listed_or_none, index_of, time_of}
 use Rattle.vg_abs.specs.Expressions.{operate}
-use Rattle.vg_smean.specs.Values.{Scene, Values, asking, both, values_by, value_by, value_found, values_before, value_of, values_of, field_of_cell, is_allocated}
+use Rattle.vg_smean.specs.Values.{Scene, Values, asking, both, values_by, value_by, value_found, values_before, value_of, values_of, field_of_cell}
 
 -- what is told
 abbrev pub Told : {A : Type 0} → Option A → Type 0

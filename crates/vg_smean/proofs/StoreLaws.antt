@@ -8,7 +8,7 @@ use Rattle.vg_abs.specs.Effects.{with_bytes, with_bytes_in, with_link, with_cell
 use Rattle.vg_smean.specs.Places.{stored_in, holder_of}
 
 -- an object that is there is within
-within : (objects : List Object) (i : ℕ) (object : Object) → slice_get objects i ≡ Some object → i < length objects
+pub within : (objects : List Object) (i : ℕ) (object : Object) → slice_get objects i ≡ Some object → i < length objects
 within [] i object is = absurd (cc)
 within (x ∷ xs) zero object is = omega arith
 within (x ∷ xs) (suc i) object is = let less = within xs i object is in omega arith

@@ -2,7 +2,7 @@
 ghost use Rattle.std.specs.Prelude.{◌≡◌, true, length, IfOk, OnErr};
 ghost use Rattle.vg_smean.specs.Places as places;
 ghost use Rattle.vg_smean.specs.Places.{place_of, Comes};
-ghost use Rattle.vg_smean.specs.Outcomes.{StepsTo};
+ghost use Rattle.vg_smean.specs.Outcomes.{StepsTo, IsLawfulBy};
 ghost use Rattle.vg_smean.specs.Step as steps;
 
 use crate::running::{Flow, Place, Run};
@@ -41,7 +41,7 @@ fn run_through(alloc: Global, run: &Run<'_>, place: &mut Place<'_>) -> Result<Fl
 }
 
 /// What the step of a specification does with a frame that came in at a port at a time, where these indices are to be handed out, in order: its
-/// verdict is answered, and state and frame are as it leaves them. The state is full. `Choice` where an index is asked for and none is left, the
+/// verdict is answered, and state and frame are as it leaves them. The state is full and lawful. `Choice` where an index is asked for and none is left, the
 /// next isn't below the capacity or isn't free, or where one is left at the end. After any refusal state and frame are as before.
 pub fn spec_step(
     alloc: Global,
@@ -53,7 +53,8 @@ pub fn spec_step(
     now: u64,
     choices: &[u32],
 ) -> Result<Verdict, SpecStop>
-    requires { state.old.full ≡ true }
+    requires full { state.old.full ≡ true }
+    requires lawful { IsLawfulBy spec.now config.now.numbers now state.old }
     ensures step { StepsTo result state.new frame.new.items (steps.step spec.now config.now.numbers state.old port frame.old.items now choices.now) }
     ensures state { OnErr result (state.new ≡ state.old) }
     ensures frame { OnErr result (frame.new.items ≡ frame.old.items) }
@@ -70,7 +71,12 @@ pub fn spec_step(
         choices,
         names: Vec::new(alloc),
     };
-    let flow = run_through(alloc, &run, &mut place)?;
+    let flow = match run_through(alloc, &run, &mut place) {
+        Ok(flow) => flow,
+        Err(Stop::Choice) => return Err(SpecStop::Choice),
+        Err(Stop::Memory) => return Err(SpecStop::Memory),
+        Err(Stop::Untold) => unreachable!(),
+    };
     if !place.choices.is_empty() {
         return Err(SpecStop::Choice);
     }

@@ -1,6 +1,5 @@
 //! Why a step is refused.
 ghost use Rattle.std.specs.Prelude.{◌≡◌};
-ghost use Rattle.vg_smean.specs.Outcomes.{refusal_of};
 ghost use Rattle.vg_smean.specs.declared.stops.Stop.TheVariants as stops;
 ghost use Rattle.vg_smean.specs.declared.stops.SpecStop.TheVariants as refusals;
 
@@ -52,18 +51,6 @@ pub enum SpecStop {
     /// Memory ran out.
     #[error("out of memory")]
     Memory,
-}
-
-impl From<Stop> for SpecStop {
-    ghost from_gives = { refusal_of };
-
-    fn from(e: Stop) -> SpecStop {
-        match e {
-            Stop::Choice => SpecStop::Choice,
-            // a lawful full state tells all that is asked of it
-            Stop::Untold | Stop::Memory => SpecStop::Memory,
-        }
-    }
 }
 
 impl From<Memory> for SpecStop {
