@@ -61,8 +61,11 @@ unfoldable pub number_alone : SForm ℕ
 number_alone = Made (Plain (λ at n. grow.expression at (exprs.Number n)) ⊛ Place ⊛ number)
 
 -- some expressions: expression { , expression }
+unfoldable pub next_expression : SForm ℕ
+next_expression = sign signs.Comma ⊳ Inner Expression
+
 unfoldable pub some_expressions : SForm (List ℕ)
-some_expressions = Chain (is_sign signs.Comma) (Plain (λ n. n ∷ []) ⊛ Inner Expression) (Plain one_more ⊛ (sign signs.Comma ⊳ Inner Expression))
+some_expressions = Chain (is_sign signs.Comma) (Plain (λ n. n ∷ []) ⊛ Inner Expression) (Plain one_more ⊛ next_expression)
 
 -- arguments: [ some-expressions ]
 unfoldable pub arguments : SForm (List ℕ)
@@ -143,9 +146,12 @@ unfoldable pub operations : ℕ → SForm ℕ → SForm (List Operation)
 operations rank right = listed (is_binary rank) (operation rank right)
 
 -- binary of a rank: binary of the rank below, operations of the rank; of rank 0: unary
+unfoldable pub ranked : ℕ → SForm ℕ → SForm ℕ
+ranked rank below = Made (Plain chained ⊛ Place ⊛ below ⊛ operations rank below)
+
 unfoldable pub binary : ℕ → SForm ℕ
 binary zero = unary
-binary (suc rank) = Made (Plain chained ⊛ Place ⊛ binary rank ⊛ operations (suc rank) (binary rank))
+binary (suc rank) = ranked (suc rank) (binary rank)
 
 -- expression: binary of rank 10 [ ? expression : expression ]
 unfoldable pub expression : SForm ℕ
@@ -212,6 +218,17 @@ unfoldable pub lookup_statement : SForm ℕ
 lookup_statement = Made (Plain (λ at table address value a b. grow.statement at (stmts.Lookup table address value a b)) ⊛ Place ⊲ word words.Lookup ⊛ name
     ⊛ Inner Expression ⊲ word words.As ⊛ name ⊛ Inner Block ⊛ otherwise)
 
+-- a statement on a link or a table, or a drop
+unfoldable pub link_statement : SForm ℕ
+link_statement =
+    Either (is_word words.Expire) expire_statement
+    (Either (is_word words.Find) (keyed words.Find stmts.Find)
+    (Either (is_word words.Add) (keyed words.Add stmts.Add)
+    (Either (is_word words.Touch) (indexed words.Touch stmts.Touch)
+    (Either (is_word words.Remove) (indexed words.Remove stmts.Remove)
+    (Either (is_word words.Lookup) lookup_statement
+    (alone words.Drop stmts.Drop))))))
+
 -- statement: one of these
 unfoldable pub statement : SForm ℕ
 statement =
@@ -221,13 +238,7 @@ statement =
     (Either (is_word words.If) if_statement
     (Either (is_word words.Frame) frame_statement
     (Either is_name cell_statement
-    (Either (is_word words.Expire) expire_statement
-    (Either (is_word words.Find) (keyed words.Find stmts.Find)
-    (Either (is_word words.Add) (keyed words.Add stmts.Add)
-    (Either (is_word words.Touch) (indexed words.Touch stmts.Touch)
-    (Either (is_word words.Remove) (indexed words.Remove stmts.Remove)
-    (Either (is_word words.Lookup) lookup_statement
-    (alone words.Drop stmts.Drop))))))))))))
+    link_statement)))))
 
 -- block: { { statement } }
 unfoldable pub statements : SForm (List ℕ)
@@ -298,8 +309,11 @@ rule = Made (Plain (λ at n value. grow.declaration at (decls.Rule n value)) ⊛
     ⊲ sign signs.Semicolon)
 
 -- parameters: [ name { , name } ]
+unfoldable pub next_name : SForm Name
+next_name = sign signs.Comma ⊳ name
+
 unfoldable pub some_names : SForm (List Name)
-some_names = Chain (is_sign signs.Comma) (Plain (λ n. n ∷ []) ⊛ name) (Plain one_more ⊛ (sign signs.Comma ⊳ name))
+some_names = Chain (is_sign signs.Comma) (Plain (λ n. n ∷ []) ⊛ name) (Plain one_more ⊛ next_name)
 
 unfoldable pub parameters : SForm (List Name)
 parameters = Either is_name some_names (Plain [])

@@ -1,8 +1,10 @@
 //! The grammar of specifications, and reading a text as it is written.
 #![tactic(auto)]
 
+mod expressions;
 mod kinds;
 mod reader;
+mod statements;
 mod tree;
 
 pub use tree::{Block, Declaration, Expression, Field, Name, Placed, Size, Statement, Tree};
