@@ -20,8 +20,8 @@ use Rattle.vg_sgrammar.specs.Rules.{some_expressions, next_expression, ranked, a
 use Rattle.vg_sgrammar.specs.Rules.{known, named_primary, primary, unary, operator, operation_of, operation}
 use Rattle.vg_sgrammar.specs.Rules.{operations, binary, expression, otherwise, assigned, let_statement, alone, send_statement, if_statement}
 use Rattle.vg_sgrammar.specs.Rules.{frame_statement, cell_statement, expire_statement, key, keyed, indexed, lookup_statement, link_statement, statement, statements}
-use Rattle.vg_sgrammar.specs.Rules.{block, ports, width, config, premise, field_type, field, fields, struct, size, link, vector, prefix, rule}
-use Rattle.vg_sgrammar.specs.Rules.{some_names, next_name, parameters, define, declaration, declarations, specification}
+use Rattle.vg_sgrammar.specs.Rules.{block, ports, width, config, premise, field_type, field, fields, struct_declaration, size, link, vector, prefix, rule}
+use Rattle.vg_sgrammar.specs.Rules.{some_names, next_name, parameters, define, declaration, declarations, ended, specification}
 
 and_both : (a b : Bool) → a ≡ true → b ≡ true → (a && b) ≡ true
 and_both a b one two = rw (one, two) refl
@@ -58,8 +58,8 @@ form_tidy Statement = refl
 form_tidy Block = refl
 
 pub unit_tidy : tidy specification ≡ true
-unfolding specification declarations declaration ports config width premise struct fields field field_type link size vector prefix rule
-    define parameters some_names next_name assigned sign word name number
+unfolding specification declarations declaration ended ports config width premise struct_declaration fields field field_type link size vector
+    prefix rule define parameters some_names next_name assigned sign word name number
 unit_tidy = refl
 
 -- hints
@@ -181,8 +181,8 @@ block_begins (kinds.Word words.If) from to = refl
 block_begins _ from to = refl
 
 unit_kinds : (kind : TokenKind) (from to : ℕ) → tells sgrammar hints specification false (record { kind = kind; from = from; to = to }) ≡ true
-unfolding specification declarations declaration ports config width premise struct fields field field_type link size vector prefix rule
-    define parameters some_names next_name assigned sign word name number
+unfolding specification declarations declaration ended ports config width premise struct_declaration fields field field_type link size vector
+    prefix rule define parameters some_names next_name assigned sign word name number
 unit_kinds (kinds.Sign signs.Plus) from to = refl
 unit_kinds (kinds.Word words.If) from to = refl
 unit_kinds _ from to = refl
@@ -389,8 +389,8 @@ form_fits Statement = refl
 form_fits Block = refl
 
 pub unit_fits : fits hints specification ≡ true
-unfolding specification declarations declaration ports config width premise struct fields field field_type link size vector prefix rule
-    define parameters some_names next_name assigned sign word name number
+unfolding specification declarations declaration ended ports config width premise struct_declaration fields field field_type link size vector
+    prefix rule define parameters some_names next_name assigned sign word name number
 unit_fits = refl
 
 pub form_whole : (n : Nested) → whole hints (form n) ≡ whole_inner n
@@ -430,7 +430,7 @@ no_token toks i (Some t) is unless within = absurd (cc unless)
 
 pub unit_ends : (toks : List SToken) (room root : ℕ) (t : State Written) → guided sgrammar toks room specification (start sgrammar) root t
     → t.at ≤ length toks → t.at ≡ length toks
-unfolding specification
+unfolding specification ended
 unit_ends toks room root t (g, u, a, front, (unless, to), same) within =
     no_token toks t.at (slice_get toks t.at) refl (subst (λ (v : State Written). passes any_token (slice_get toks v.at) ≡ false) (sym to) unless) within
 

@@ -13,9 +13,13 @@ use Rattle.vg_forms.proofs.Rooms.{inner_gains}
 use Rattle.vg_forms.proofs.Rooms as rooms
 use Rattle.vg_sgrammar.specs.Written.{Written}
 use Rattle.vg_stok.specs.declared.kinds.Sign.TheVariants as signs
-use Rattle.vg_sgrammar.specs.Kinds.{SToken, is_sign, is_binary, begins_statement}
+use Rattle.vg_sgrammar.specs.Kinds.{SToken, is_sign, is_binary, is_name, begins_statement, begins_declaration}
 use Rattle.vg_sgrammar.specs.Rules.{Nested, SForm, sgrammar, begins, form, unary, binary, ranked, sign, operator, operation, operations}
-use Rattle.vg_sgrammar.specs.Rules.{Expression, Statement, some_expressions, next_expression, statements}
+use Rattle.vg_sgrammar.specs.Rules.{Expression, Statement, some_expressions, next_expression, statements, name, field, fields, next_name}
+use Rattle.vg_sgrammar.specs.Rules.{some_names, done, declaration, declarations, word, ports, config, premise, struct_declaration, link, vector}
+use Rattle.vg_sgrammar.specs.Rules.{prefix, rule, define}
+use Rattle.vg_sgrammar.specs.declared.tree.Name.{Name}
+use Rattle.vg_sgrammar.specs.declared.tree.Field.{Field}
 use Rattle.vg_sgrammar.specs.Reader.{SState, reads, reads_inner, next}
 use Rattle.vg_sgrammar.specs.declared.reader.Source.{Source}
 use Rattle.vg_sgrammar.proofs.Laws.{law}
@@ -141,3 +145,69 @@ expressions_init src s n t e = listing_one src (is_sign signs.Comma) next_expres
 pub statements_init : (src : Source) (s : SState) → Listing src begins_statement (Inner Statement) [] s (reads src statements s)
 unfolding statements
 statements_init src s = listing_none src begins_statement (Inner Statement) s
+
+-- the fields of a struct
+pub field_eats : eats field ≡ true
+unfolding field name
+field_eats = refl
+
+pub fields_init : (src : Source) (s : SState) (f : Field) (t : SState) → reads src field s ≡ Ok (f, t)
+    → Listing src is_name field (f ∷ []) t (reads src fields s)
+unfolding fields
+fields_init src s f t e = listing_one src is_name field field s f t e
+
+-- names with commas between them
+pub name_eats : eats next_name ≡ true
+unfolding next_name sign
+name_eats = refl
+
+pub names_init : (src : Source) (s : SState) (n : Name) (t : SState) → reads src name s ≡ Ok (n, t)
+    → Listing src (is_sign signs.Comma) next_name (n ∷ []) t (reads src some_names s)
+unfolding some_names
+names_init src s n t e = listing_one src (is_sign signs.Comma) next_name name s n t e
+
+-- declarations
+abbrev pub Declaring : Source → SState → SState → Type 0
+Declaring src s start = (at : ℕ) × Going law src.toks.now begins_declaration (reads src (Plain done ⊛ declaration)) at tt s (reads src declarations start)
+
+declaration_eats : eats declaration ≡ true
+unfolding declaration ports config premise struct_declaration link vector prefix rule define word
+declaration_eats = refl
+
+done_turn : (src : Source) (at : ℕ) (s : SState) (n : ℕ) (t : SState) → reads src declaration s ≡ Ok (n, t)
+    → turn (reads src (Plain done ⊛ declaration)) at tt s ≡ Ok (tt, t)
+done_turn src at s n t e = rw e refl
+
+done_fails : (src : Source) (at : ℕ) (s : SState) (f : Refusal) → reads src declaration s ≡ Err f
+    → turn (reads src (Plain done ⊛ declaration)) at tt s ≡ Err f
+done_fails src at s f e = rw e refl
+
+pub declaring_init : (src : Source) (s : SState) → Declaring src s s
+unfolding declarations
+declaring_init src s = (
+  place_at src.toks.now s.at,
+  started law src.toks.now (read_inner sgrammar src.toks.now src.room) begins_declaration (Plain tt) (Plain done ⊛ declaration) s tt s refl,
+)
+
+pub declaring_smaller : (src : Source) (s : SState) (n : ℕ) (t : SState) → passes begins_declaration (next src s) ≡ true
+    → reads src declaration s ≡ Ok (n, t) → length src.toks.now - t.at < length src.toks.now - s.at
+declaring_smaller src s n t so e = less_left src begins_declaration s t so (goes_on src declaration s n t declaration_eats e)
+
+pub declaring_turned : (src : Source) (s start : SState) (n : ℕ) (t : SState) → Declaring src s start → passes begins_declaration (next src s) ≡ true
+    → reads src declaration s ≡ Ok (n, t) → Declaring src t start
+declaring_turned src s start n t going so e = (
+  going.0,
+  turned law src.toks.now begins_declaration (reads src (Plain done ⊛ declaration)) going.0 tt s (reads src declarations start) going.1 tt t so
+      (done_turn src going.0 s n t e) (goes_on src declaration s n t declaration_eats e),
+)
+
+pub declaring_failed : (src : Source) (s start : SState) (f : Refusal) → Declaring src s start → passes begins_declaration (next src s) ≡ true
+    → reads src declaration s ≡ Err f → reads src declarations start ≡ Err f
+declaring_failed src s start f going so e =
+    failed law src.toks.now begins_declaration (reads src (Plain done ⊛ declaration)) going.0 tt s (reads src declarations start) going.1 f so
+    (done_fails src going.0 s f e)
+
+pub declaring_ended : (src : Source) (s start : SState) → Declaring src s start → passes begins_declaration (next src s) ≡ false
+    → reads src declarations start ≡ Ok (tt, s)
+declaring_ended src s start going unless =
+    ended law src.toks.now begins_declaration (reads src (Plain done ⊛ declaration)) going.0 tt s (reads src declarations start) going.1 unless

@@ -253,7 +253,7 @@ block = Made (Plain (λ at parts end. grow.block at parts end) ⊛ Place ⊲ sig
 unfoldable pub ports : SForm ℕ
 ports = Made (Plain (λ at n. grow.declaration at (decls.Ports n)) ⊛ Place ⊲ word words.Ports ⊛ number ⊲ sign signs.Semicolon)
 
--- range: : number .. number
+-- the width of a number
 unfoldable pub width : SForm Width
 width = One width_of
 
@@ -281,8 +281,8 @@ unfoldable pub fields : SForm (List Field)
 fields = Chain is_name (Plain (λ f. f ∷ []) ⊛ field) (Plain one_more ⊛ field)
 
 -- struct name { fields }
-unfoldable pub struct : SForm ℕ
-struct = Made (Plain struct_with ⊛ Place ⊲ word words.Struct ⊛ name ⊲ sign signs.LeftBrace ⊛ fields ⊲ sign signs.RightBrace)
+unfoldable pub struct_declaration : SForm ℕ
+struct_declaration = Made (Plain struct_with ⊛ Place ⊲ word words.Struct ⊛ name ⊲ sign signs.LeftBrace ⊛ fields ⊲ sign signs.RightBrace)
 
 -- size: number | name
 unfoldable pub size : SForm Size
@@ -328,7 +328,7 @@ declaration =
     Either (is_word words.Ports) ports
     (Either (is_word words.Config) config
     (Either (is_word words.Premise) premise
-    (Either (is_word words.Struct) struct
+    (Either (is_word words.Struct) struct_declaration
     (Either (is_word words.Link) link
     (Either (is_word words.Vector) vector
     (Either (is_word words.Prefix) prefix
@@ -341,9 +341,13 @@ done n at u = same tt
 unfoldable pub declarations : SForm (Unit {0})
 declarations = Chain begins_declaration (Plain tt) (Plain done ⊛ declaration)
 
+-- no token is left
+unfoldable pub ended : SForm (Unit {0})
+ended = Unless any_token
+
 -- a whole text: declarations step block, and nothing behind it
 unfoldable pub specification : SForm ℕ
-specification = Plain (λ u block. block) ⊛ declarations ⊲ word words.Step ⊛ Inner Block ⊲ Unless any_token
+specification = Plain (λ u block. block) ⊛ declarations ⊲ word words.Step ⊛ Inner Block ⊲ ended
 
 -- what the counted constructs begin with, for the reader, and their forms
 abbrev pub begins : Nested → SToken → Bool

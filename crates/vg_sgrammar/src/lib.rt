@@ -1,6 +1,7 @@
 //! The grammar of specifications, and reading a text as it is written.
 #![tactic(auto)]
 
+mod declarations;
 mod expressions;
 mod kinds;
 mod reader;
