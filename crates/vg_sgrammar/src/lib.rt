@@ -5,7 +5,9 @@ mod declarations;
 mod expressions;
 mod kinds;
 mod reader;
+mod reading;
 mod statements;
 mod tree;
 
+pub use reading::{MOST_NESTED, WrittenSpec, read_written};
 pub use tree::{Block, Declaration, Expression, Field, Name, Placed, Size, Statement, Tree};
