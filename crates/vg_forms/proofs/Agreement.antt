@@ -21,47 +21,56 @@ module _ {K N G : Type 0} (law : Law K N G) where
     -- what is spelled is read
     one_read : {A : Type 0} (test : Token K → Option A) (s t : State G) (a : A) (x : Token K) → slice_get toks s.at ≡ Some x → test x ≡ Some a
         → t ≡ record s { at = s.at + 1 } → taken (tested test (slice_get toks s.at)) s ≡ Ok (a, t)
-    one_read test s t a x found is to = ap (λ (o : Option (Token K)). taken (tested test o) s) found ∙ ap (λ o. taken o s) is ∙ ap (λ (u : State G). ok_at law a u) (sym to)
+    one_read test s t a x found is to = ap (λ (o : Option (Token K)). taken (tested test o) s) found ∙ ap (λ o. taken o s) is ∙ ap (λ
+        (u : State G). ok_at law a u) (sym to)
 
     Completes : {A : Type 0} → Reads G A → Spelled G A → Type 0
     Completes r p = (s : State G) (a : _) (t : State G) → p s a t → r s ≡ Ok (a, t)
 
-    turns_read : {A : Type 0} (n left : ℕ) (test : Token K → Bool) (more : Reads G (ℕ → A → Growth G A)) (says : Spelled G (ℕ → A → Growth G A))
+    turns_read : {A : Type 0} (n left : ℕ) (test : Token K → Bool) (more : Reads G (ℕ → A → Growth G A)) (says : Spelled G (ℕ → A
+        → Growth G A))
         → ((s : State G) (g : ℕ → A → Growth G A) (t : State G) → says s g t → more s ≡ Ok (g, t))
         → ((s : State G) (g : ℕ → A → Growth G A) (t : State G) → more s ≡ Ok (g, t) → s.at + 1 ≤ t.at)
         → (at : ℕ) (a : A) (s : State G) (b : A) (t : State G) → length toks ≤ left + s.at → GuidedTurns toks n test says at a s b t
         → turns toks left test more at a s ≡ Ok (b, t)
-    turns_read zero zero test more says h on at a s b t enough (unless, same, to) = ap (λ (u : State G). ok_at law a u) (sym to) ∙ ap (λ c. ok_at law c t) (sym same)
+    turns_read zero zero test more says h on at a s b t enough (unless, same, to) = ap (λ (u : State G). ok_at law a u) (sym to) ∙ ap
+        (λ c. ok_at law c t) (sym same)
     turns_read zero (suc left) test more says h on at a s b t enough (unless, same, to) = rw unless
         (ap (λ (u : State G). ok_at law a u) (sym to) ∙ ap (λ c. ok_at law c t) (sym same))
     turns_read (suc n) zero test more says h on at a s b t enough (so, g, u, first, rest) = absurd (omega (arith, enough, some_next law toks test s.at so))
     turns_read (suc n) (suc left) test more says h on at a s b t enough (so, g, u, first, rest) =
         let one = h s g u first in
         let step = on s g u one in
-        let later = turns_read n left test more says h on at (g at a u.tree).0 (record u { tree = (g at a u.tree).1 }) b t (omega (arith, enough, step)) rest in
+        let later = turns_read n left test more says h on at (g at a u.tree).0 (record u { tree = (g at a u.tree).1 }) b t (omega
+        (arith, enough, step)) rest in
         rw (so, one) later
 
     -- of a form that reads behind another
-    both_read : {A B : Type 0} (f : Reads G (A → B)) (x : Reads G A) (s u t : State G) (g : A → B) (a : A) (b : B) → f s ≡ Ok (g, u) → x u ≡ Ok (a, t)
+    both_read : {A B : Type 0} (f : Reads G (A → B)) (x : Reads G A) (s u t : State G) (g : A → B) (a : A) (b : B) → f s ≡ Ok (g, u) → x u
+        ≡ Ok (a, t)
         → b ≡ g a → (f s >>= λ p. x p.1 >>= λ q. ok_at law (p.0 q.0) q.1) ≡ ok_at law b t
     both_read f x s u t g a b one two same = rw (one, two) (ap (λ c. ok_at law c t) (sym same))
 
     made_read : {A : Type 0} (f : Reads G (Growth G A)) (s u t : State G) (g : Growth G A) (b : A) → f s ≡ Ok (g, u) → b ≡ (g u.tree).0
         → t ≡ record u { tree = (g u.tree).1 } → (f s >>= λ p. Ok (grown (p.0 p.1.tree) p.1)) ≡ Ok (b, t)
-    made_read f s u t g b one same to = rw one (ap (λ c. ok_at law c (record u { tree = (g u.tree).1 })) (sym same) ∙ ap (λ (v : State G). ok_at law b v) (sym to))
+    made_read f s u t g b one same to = rw one (ap (λ c. ok_at law c (record u { tree = (g u.tree).1 })) (sym same) ∙ ap (λ
+        (v : State G). ok_at law b v) (sym to))
 
     pub complete : (inner : N → Reads G ℕ) (says : N → Spelled G ℕ) → Gains law toks inner
         → ((n : N) (s : State G) (a : ℕ) (t : State G) → says n s a t → inner n s ≡ Ok (a, t))
-        → {A : Type 0} (f : Form K N G A) → tidy f ≡ true → (s : State G) (a : A) (t : State G) → guided_with toks says f s a t → read_with toks inner f s ≡ Ok (a, t)
+        → {A : Type 0} (f : Form K N G A) → tidy f ≡ true → (s : State G) (a : A) (t : State G) → guided_with toks says f s a t
+        → read_with toks inner f s ≡ Ok (a, t)
     complete inner says gain h (Plain b) neat s a t (same, to) = ap (λ (u : State G). ok_at law b u) (sym to) ∙ ap (λ c. ok_at law c t) (sym same)
-    complete inner says gain h Place neat s a t (same, to) = ap (λ (u : State G). ok_at law (place_at toks s.at) u) (sym to) ∙ ap (λ c. ok_at law c t) (sym same)
+    complete inner says gain h Place neat s a t (same, to) = ap (λ (u : State G). ok_at law (place_at toks s.at) u) (sym to) ∙ ap
+        (λ c. ok_at law c t) (sym same)
     complete inner says gain h (One test) neat s a t (x, found, is, to) = one_read test s t a x found is to
     complete inner says gain h (Unless test) neat s a t (unless, to) = rw unless (ap (λ (u : State G). ok_at law a u) (sym to))
     complete inner says gain h (Both f x) neat s b t (g, u, a, one, two, same) =
         let parts = and_parts (tidy f) (tidy x) neat in
         both_read (read_with toks inner f) (read_with toks inner x) s u t g a b (complete inner says gain h f parts.0 s g u one)
         (complete inner says gain h x parts.1 u a t two) same
-    complete inner says gain h (Either test x y) neat s a t (inl (so, one)) = rw so (complete inner says gain h x (and_parts (tidy x) (tidy y) neat).0 s a t one)
+    complete inner says gain h (Either test x y) neat s a t (inl (so, one)) = rw so (complete inner says gain h x (and_parts (tidy x)
+        (tidy y) neat).0 s a t one)
     complete inner says gain h (Either test x y) neat s a t (inr (unless, two)) =
         rw unless (complete inner says gain h y (and_parts (tidy x) (tidy y) neat).1 s a t two)
     complete inner says gain h (Chain test x more) neat s b t (a, u, n, one, rest) =
@@ -70,7 +79,8 @@ module _ {K N G : Type 0} (law : Law K N G) where
         let first = complete inner says gain h x front.0 s a u one in
         let later = turns_read n (length toks - u.at) test (read_with toks inner more) (guided_with toks says more)
         (λ v g w is. complete inner says gain h more all.1 v g w is)
-        (λ v g w is. subst (λ (c : Bool). further c v.at ≤ w.at) front.1 (gains law toks inner gain more v g w is)) (place_at toks s.at) a u b t (omega arith) rest in
+        (λ v g w is. subst (λ (c : Bool). further c v.at ≤ w.at) front.1 (gains law toks inner gain more v g w is)) (place_at toks s.at) a u b t
+        (omega arith) rest in
         rw first later
     complete inner says gain h (Inner n) neat s a t is = h n s a t is
     complete inner says gain h (Made f) neat s a t (g, u, one, same, to) = made_read (read_with toks inner f) s u t g a
@@ -88,10 +98,12 @@ module _ {K N G : Type 0} (law : Law K N G) where
         by None is e = absurd (cc)
         by (Some b) is e = (x, found, is ∙ ap (λ c. Some c) (same_value law e), sym (same_state law e))
 
-    turns_spelled : {A : Type 0} (left : ℕ) (test : Token K → Bool) (more : Reads G (ℕ → A → Growth G A)) (says : Spelled G (ℕ → A → Growth G A))
+    turns_spelled : {A : Type 0} (left : ℕ) (test : Token K → Bool) (more : Reads G (ℕ → A → Growth G A)) (says : Spelled G (ℕ → A
+        → Growth G A))
         → ((s : State G) (g : ℕ → A → Growth G A) (t : State G) → more s ≡ Ok (g, t) → says s g t)
         → ((s : State G) (g : ℕ → A → Growth G A) (t : State G) → more s ≡ Ok (g, t) → s.at + 1 ≤ t.at)
-        → (at : ℕ) (a : A) (s : State G) (b : A) (t : State G) → length toks ≤ left + s.at → turns toks left test more at a s ≡ Ok (b, t) → (n : ℕ)
+        → (at : ℕ) (a : A) (s : State G) (b : A) (t : State G) → length toks ≤ left + s.at → turns toks left test more at a s ≡ Ok (b, t)
+        → (n : ℕ)
         × GuidedTurns toks n test says at a s b t
     turns_spelled zero test more says h on at a s b t enough e =
         (0, (ap (passes test) (slice_get_past toks s.at (omega (arith, enough))), sym (same_value law e), sym (same_state law e)))
@@ -107,14 +119,17 @@ module _ {K N G : Type 0} (law : Law K N G) where
         let state : record u { tree = (g at a u.tree).1 } ≡ parts.0.1 = same_state law one.2 in
         let moved : u.at ≡ parts.0.1.at = ap (λ (v : State G). v.at) state in
         let rest : turns toks left test more at (g at a u.tree).0 (record u { tree = (g at a u.tree).1 }) ≡ Ok (b, t) =
-        ap (λ (v : State G). turns toks left test more at (g at a u.tree).0 v) state ∙ ap (λ c. turns toks left test more at c parts.0.1) value ∙ parts.2 in
-        let later = turns_spelled left test more says h on at (g at a u.tree).0 (record u { tree = (g at a u.tree).1 }) b t (omega (arith, enough, step)) rest in
+        ap (λ (v : State G). turns toks left test more at (g at a u.tree).0 v) state ∙ ap (λ c. turns toks left test more at c parts.0.1) value
+        ∙ parts.2 in
+        let later = turns_spelled left test more says h on at (g at a u.tree).0 (record u { tree = (g at a u.tree).1 }) b t (omega
+        (arith, enough, step)) rest in
         (suc later.0, (so, g, u, h s g u one.1, later.1)))
         (λ unless is. (0, (unless, sym (same_value law is), sym (same_state law is)))) e
 
     pub sound : (inner : N → Reads G ℕ) (says : N → Spelled G ℕ) → Gains law toks inner → ((n : N) (s : State G) (a : ℕ) (t : State G)
         → inner n s ≡ Ok (a, t) → says n s a t)
-        → {A : Type 0} (f : Form K N G A) → tidy f ≡ true → (s : State G) (a : A) (t : State G) → read_with toks inner f s ≡ Ok (a, t) → guided_with toks says f s a t
+        → {A : Type 0} (f : Form K N G A) → tidy f ≡ true → (s : State G) (a : A) (t : State G) → read_with toks inner f s ≡ Ok (a, t)
+        → guided_with toks says f s a t
     sound inner says gain h (Plain b) neat s a t e = (sym (same_value law e), sym (same_state law e))
     sound inner says gain h Place neat s a t e = (sym (same_value law e), sym (same_state law e))
     sound inner says gain h (One test) neat s a t e = one_spelled test s a t (slice_get toks s.at) refl e
@@ -139,10 +154,12 @@ module _ {K N G : Type 0} (law : Law K N G) where
     sound inner says gain h (Chain test x more) neat s b t e =
         let all = and_parts (tidy x && eats more) (tidy more) neat in
         let front = and_parts (tidy x) (eats more) all.0 in
-        let one = bound (read_with toks inner x s) (λ p. turns toks (length toks - p.1.at) test (read_with toks inner more) (place_at toks s.at) p.0 p.1) e in
+        let one = bound (read_with toks inner x s) (λ p. turns toks (length toks - p.1.at) test (read_with toks inner more)
+        (place_at toks s.at) p.0 p.1) e in
         let later = turns_spelled (length toks - one.0.1.at) test (read_with toks inner more) (guided_with toks says more)
         (λ v g w is. sound inner says gain h more all.1 v g w is)
-        (λ v g w is. subst (λ (c : Bool). further c v.at ≤ w.at) front.1 (gains law toks inner gain more v g w is)) (place_at toks s.at) one.0.0 one.0.1 b t
+        (λ v g w is. subst (λ (c : Bool). further c v.at ≤ w.at) front.1 (gains law toks inner gain more v g w is))
+        (place_at toks s.at) one.0.0 one.0.1 b t
         (omega arith) one.2 in
         (one.0.0, one.0.1, later.0, sound inner says gain h x front.0 s one.0.0 one.0.1 one.1, later.1)
     sound inner says gain h (Inner n) neat s a t e = h n s a t e

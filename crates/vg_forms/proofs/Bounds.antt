@@ -41,7 +41,8 @@ module _ {K N G : Type 0} (law : Law K N G) where
     within_one test s None found h = (omega arith, h)
     within_one test s (Some x) found h = within_taken s (test x) (slice_get_within toks s.at x found)
 
-    pub within_turns : {A : Type 0} (n : ℕ) (test : Token K → Bool) (more : Reads G (ℕ → A → Growth G A)) → ((s : State G) → s.at ≤ length toks → Within s.at (more s))
+    pub within_turns : {A : Type 0} (n : ℕ) (test : Token K → Bool) (more : Reads G (ℕ → A → Growth G A)) → ((s : State G)
+        → s.at ≤ length toks → Within s.at (more s))
         → (at : ℕ) (a : A) (s : State G) → s.at ≤ length toks → Within s.at (turns toks n test more at a s)
     within_turns zero test more h at a s le = (omega arith, le)
     within_turns (suc n) test more h at a s le =
@@ -64,7 +65,8 @@ module _ {K N G : Type 0} (law : Law K N G) where
     within inner h (Chain test x more) s le =
         within_bind s.at (read_with toks inner x s) (λ p. turns toks (length toks - p.1.at) test (read_with toks inner more) (place_at toks s.at) p.0
         p.1) (within inner h x s le)
-        (λ a t here. within_turns (length toks - t.at) test (read_with toks inner more) (λ u there. within inner h more u there) (place_at toks s.at) a t here)
+        (λ a t here. within_turns (length toks - t.at) test (read_with toks inner more) (λ u there. within inner h more u there)
+        (place_at toks s.at) a t here)
     within inner h (Inner n) s le = h n s le
     within inner h (Made f) s le =
         within_bind s.at (read_with toks inner f s) (λ p. Ok (grown (p.0 p.1.tree) p.1)) (within inner h f s le) (λ g t here. (omega arith, here))
@@ -77,5 +79,6 @@ module _ {K N G : Type 0} (law : Law K N G) where
     pub within_inner : (room : ℕ) (n : N) (s : State G) → s.at ≤ length toks → Within s.at (read_inner law.grammar toks room n s)
     within_inner zero n s le = within_deep (law.grammar.begins n) s (passes (law.grammar.begins n) (slice_get toks s.at)) refl le
     within_inner (suc room) n s le =
-        within_either s.at (passes (law.grammar.begins n) (slice_get toks s.at)) _ _ (within (read_inner law.grammar toks room) (λ m u here. within_inner room m u here)
+        within_either s.at (passes (law.grammar.begins n) (slice_get toks s.at)) _ _ (within (read_inner law.grammar toks room)
+        (λ m u here. within_inner room m u here)
         (law.grammar.form n) s le) (omega arith, le)

@@ -17,22 +17,26 @@ module _ {K N G : Type 0} (law : Law K N G) where
     pub enough : length toks ≤ left + s.at
     pub is : turns toks left test more at a s ≡ whole
 
-  some_at : (toks : List (Token K)) (test : Token K → Bool) (i : ℕ) (o : Option (Token K)) → slice_get toks i ≡ o → passes test o ≡ true → i < length toks
+  some_at : (toks : List (Token K)) (test : Token K → Bool) (i : ℕ) (o : Option (Token K)) → slice_get toks i ≡ o → passes test o ≡ true
+      → i < length toks
   some_at toks test i None is so = absurd (false≢true so)
   some_at toks test i (Some t) is so = slice_get_within toks i t is
 
   pub some_next : (toks : List (Token K)) (test : Token K → Bool) (i : ℕ) → passes test (slice_get toks i) ≡ true → i < length toks
   some_next toks test i e = some_at toks test i (slice_get toks i) refl e
 
-  turn-first : {A : Type 0} (toks : List (Token K)) (n : ℕ) (test : Token K → Bool) (more : Reads G (ℕ → A → Growth G A)) (at : ℕ) (a : A) (s : State G)
+  turn-first : {A : Type 0} (toks : List (Token K)) (n : ℕ) (test : Token K → Bool) (more : Reads G (ℕ → A → Growth G A)) (at : ℕ) (a : A)
+      (s : State G)
       → passes test (slice_get toks s.at) ≡ true → 0 < n
       → turns toks n test more at a s ≡ (turn more at a s >>= λ q. turns toks (n - 1) test more at q.0 q.1)
   turn-first toks zero test more at a s so some = absurd (omega (arith, some))
   turn-first toks (suc n) test more at a s so some = let less : suc n - 1 ≡ n = omega arith in rw (so, less) refl
 
-  pub started : {A : Type 0} (toks : List (Token K)) (inner : N → Reads G ℕ) (test : Token K → Bool) (x : Form K N G A) (more : Form K N G (ℕ → A → Growth G A))
+  pub started : {A : Type 0} (toks : List (Token K)) (inner : N → Reads G ℕ) (test : Token K → Bool) (x : Form K N G A) (more : Form K N G (ℕ
+      → A → Growth G A))
       (s : State G) (a : A) (t : State G)
-      → read_with toks inner x s ≡ Ok (a, t) → Going toks test (read_with toks inner more) (place_at toks s.at) a t (read_with toks inner (Chain test x more) s)
+      → read_with toks inner x s ≡ Ok (a, t) → Going toks test (read_with toks inner more) (place_at toks s.at) a t (read_with toks inner
+      (Chain test x more) s)
   started toks inner test x more s a t e = record {
     left = length toks - t.at;
     enough = omega arith;
@@ -54,7 +58,8 @@ module _ {K N G : Type 0} (law : Law K N G) where
     pub failed : (e : Refusal) → passes test (slice_get toks s.at) ≡ true → turn more at a s ≡ Err e → whole ≡ Err e
     failed e so is = sym (goes so) ∙ ap (λ r. r >>= λ q. turns toks (going.left - 1) test more at q.0 q.1) is
 
-    pub turned : (b : A) (t : State G) → passes test (slice_get toks s.at) ≡ true → turn more at a s ≡ Ok (b, t) → s.at < t.at → Going toks test more at b t whole
+    pub turned : (b : A) (t : State G) → passes test (slice_get toks s.at) ≡ true → turn more at a s ≡ Ok (b, t) → s.at < t.at
+        → Going toks test more at b t whole
     turned b t so is on = record {
       left = going.left - 1;
       enough = omega (arith, going.enough, on, some_next toks test s.at so);

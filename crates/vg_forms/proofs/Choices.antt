@@ -52,7 +52,8 @@ module _ {K N G : Type 0} (law : Law K N G) where
   pub after_at : (these : Token K → Bool) (o : Option (Token K)) (t : Token K) → o ≡ Some t → these t ≡ true → After these o
   after_at these o t found is = subst (λ p. After these p) (sym found) is
 
-  after_more : (these those : Token K → Bool) → ((t : Token K) → these t ≡ true → those t ≡ true) → (o : Option (Token K)) → After these o → After those o
+  after_more : (these those : Token K → Bool) → ((t : Token K) → these t ≡ true → those t ≡ true) → (o : Option (Token K))
+      → After these o → After those o
   after_more these those h None is = tt
   after_more these those h (Some t) is = h t is
 
@@ -62,15 +63,19 @@ module _ {K N G : Type 0} (law : Law K N G) where
   pub some_fails : (test : Token K → Bool) (o : Option (Token K)) (t : Token K) → o ≡ Some t → not (test t) ≡ true → passes test o ≡ false
   some_fails test o t found is = ap (passes test) found ∙ not-true (test t) is
 
-  none_pass : (test these : Token K → Bool) → ((t : Token K) → these t ≡ true → not (test t) ≡ true) → (o : Option (Token K)) → After these o → passes test o ≡ false
+  none_pass : (test these : Token K → Bool) → ((t : Token K) → these t ≡ true → not (test t) ≡ true) → (o : Option (Token K))
+      → After these o → passes test o ≡ false
   none_pass test these h None is = refl
   none_pass test these h (Some t) is = not-true (test t) (h t is)
 
-  pub either_tells : {A : Type 0} (test : Token K → Bool) (x y : Form K N G A) (behind : Bool) (t : Token K) → tells law.grammar law.hints (Either test x y) behind t ≡ true
-      → (tells law.grammar law.hints x behind t ≡ true) × (tells law.grammar law.hints y behind t ≡ true) × (eats x ≡ true) × (implies (first law.grammar x t) (test t) ≡ true)
+  pub either_tells : {A : Type 0} (test : Token K → Bool) (x y : Form K N G A) (behind : Bool) (t : Token K) → tells law.grammar law.hints
+      (Either test x y) behind t ≡ true
+      → (tells law.grammar law.hints x behind t ≡ true) × (tells law.grammar law.hints y behind t ≡ true) × (eats x ≡ true) × (implies
+      (first law.grammar x t) (test t) ≡ true)
       × (implies (led law.grammar y behind t) (not (test t)) ≡ true)
   either_tells test x y behind t h =
-      let halves = and_parts (tells law.grammar law.hints x behind t && tells law.grammar law.hints y behind t) (eats x && (implies (first law.grammar x t) (test t) && implies (led law.grammar y behind t) (not (test t)))) h in
+      let halves = and_parts (tells law.grammar law.hints x behind t && tells law.grammar law.hints y behind t) (eats x && (implies
+      (first law.grammar x t) (test t) && implies (led law.grammar y behind t) (not (test t)))) h in
       let parts = and_parts (tells law.grammar law.hints x behind t) (tells law.grammar law.hints y behind t) halves.0 in
       let rest = and_parts (eats x) (implies (first law.grammar x t) (test t) && implies (led law.grammar y behind t) (not (test t))) halves.1 in
       let tests = and_parts (implies (first law.grammar x t) (test t)) (implies (led law.grammar y behind t) (not (test t))) rest.1 in
@@ -79,19 +84,23 @@ module _ {K N G : Type 0} (law : Law K N G) where
   pub led_first : {A : Type 0} (y : Form K N G A) (behind : Bool) (t : Token K) → first law.grammar y t ≡ true → led law.grammar y behind t ≡ true
   led_first y behind t is = or_left (first law.grammar y t) (not (eats y) && (behind && not (bars y t))) is
 
-  led_behind : {A : Type 0} (y : Form K N G A) (behind : Bool) (t : Token K) → eats y ≡ false → behind ≡ true → bars y t ≡ false → led law.grammar y behind t ≡ true
+  led_behind : {A : Type 0} (y : Form K N G A) (behind : Bool) (t : Token K) → eats y ≡ false → behind ≡ true → bars y t ≡ false
+      → led law.grammar y behind t ≡ true
   led_behind y behind t none is bar =
       or_right (first law.grammar y t) (not (eats y) && (behind && not (bars y t))) (and_both (not (eats y)) (behind && not (bars y t)) (not_of (eats y) none)
       (and_both behind (not (bars y t)) is (not_of (bars y t) bar)))
 
   pub chain_tells : {A : Type 0} (test : Token K → Bool) (x : Form K N G A) (more : Form K N G (ℕ → A → Growth G A)) (behind : Bool) (t : Token K)
       → tells law.grammar law.hints (Chain test x more) behind t ≡ true
-      → (tells law.grammar law.hints x (first law.grammar more t || behind) t ≡ true) × (tells law.grammar law.hints more (first law.grammar more t || behind) t ≡ true) × (eats more ≡ true)
+      → (tells law.grammar law.hints x (first law.grammar more t || behind) t ≡ true) × (tells law.grammar law.hints more
+      (first law.grammar more t || behind) t ≡ true) × (eats more ≡ true)
       × (implies (first law.grammar more t) (test t) ≡ true) × (implies behind (not (test t)) ≡ true)
   chain_tells test x more behind t h =
-      let halves = and_parts (tells law.grammar law.hints x (first law.grammar more t || behind) t && tells law.grammar law.hints more (first law.grammar more t || behind) t)
+      let halves = and_parts (tells law.grammar law.hints x (first law.grammar more t || behind) t && tells law.grammar law.hints more
+      (first law.grammar more t || behind) t)
       (eats more && (implies (first law.grammar more t) (test t) && implies behind (not (test t)))) h in
-      let parts = and_parts (tells law.grammar law.hints x (first law.grammar more t || behind) t) (tells law.grammar law.hints more (first law.grammar more t || behind) t) halves.0 in
+      let parts = and_parts (tells law.grammar law.hints x (first law.grammar more t || behind) t) (tells law.grammar law.hints more
+      (first law.grammar more t || behind) t) halves.0 in
       let rest = and_parts (eats more) (implies (first law.grammar more t) (test t) && implies behind (not (test t))) halves.1 in
       let tests = and_parts (implies (first law.grammar more t) (test t)) (implies behind (not (test t))) rest.1 in
       (parts.0, parts.1, rest.0, tests.0, tests.1)
@@ -105,7 +114,8 @@ module _ {K N G : Type 0} (law : Law K N G) where
 
     -- a construct that is counted has a first token
     abbrev pub Leading : (N → Spelled G ℕ) → Type 0
-    Leading says = (n : N) (s : State G) (a : ℕ) (u : State G) → says n s a u → (t : Token K) × (slice_get toks s.at ≡ Some t) × (law.grammar.begins n t ≡ true)
+    Leading says = (n : N) (s : State G) (a : ℕ) (u : State G) → says n s a u → (t : Token K) × (slice_get toks s.at ≡ Some t) ×
+        (law.grammar.begins n t ≡ true)
 
     leads_both : {A B : Type 0} (f : Form K N G (A → B)) (x : Form K N G A) (s v u : State G) → Leads f s v → Leads x v u → Leads (Both f x) s u
     leads_both f x s v u (inr (t, found, is)) second = inr (t, found, or_left (first law.grammar f t) (not (eats f) && first law.grammar x t) is)
@@ -141,7 +151,8 @@ module _ {K N G : Type 0} (law : Law K N G) where
       ]
     ]
 
-    leads_chain : {A : Type 0} (test : Token K → Bool) (x : Form K N G A) (more : Form K N G (ℕ → A → Growth G A)) (s v u : State G) → Leads x s v → (u.at ≡ v.at)
+    leads_chain : {A : Type 0} (test : Token K → Bool) (x : Form K N G A) (more : Form K N G (ℕ → A → Growth G A)) (s v u : State G)
+        → Leads x s v → (u.at ≡ v.at)
         ⊎ ((t : Token K) × (slice_get toks v.at ≡ Some t) × (first law.grammar more t ≡ true))
         → Leads (Chain test x more) s u
     leads_chain test x more s v u (inr (t, found, is)) turns = inr (t, found, or_left (first law.grammar x t) (not (eats x) && first law.grammar more t) is)
@@ -154,7 +165,8 @@ module _ {K N G : Type 0} (law : Law K N G) where
               (and_both (not (eats x)) (first law.grammar more t) (not_of (eats x) none) is),
         )
 
-    pub leads : (says : N → Spelled G ℕ) → Leading says → {A : Type 0} (f : Form K N G A) (s : State G) (a : A) (u : State G) → spelled_with toks says f s a u
+    pub leads : (says : N → Spelled G ℕ) → Leading says → {A : Type 0} (f : Form K N G A) (s : State G) (a : A) (u : State G)
+        → spelled_with toks says f s a u
         → Leads f s u
     leads says h (Plain b) s a u (same, to) = inl (ap (λ (v : State G). v.at) to, refl, λ t found. refl)
     leads says h Place s a u (same, to) = inl (ap (λ (v : State G). v.at) to, refl, λ t found. refl)
@@ -173,14 +185,16 @@ module _ {K N G : Type 0} (law : Law K N G) where
     ]
 
     -- a form that has a token has a first one
-    pub leads_some : {A : Type 0} (f : Form K N G A) (s u : State G) → eats f ≡ true → Leads f s u → (t : Token K) × (slice_get toks s.at ≡ Some t) × (first law.grammar f t ≡ true)
+    pub leads_some : {A : Type 0} (f : Form K N G A) (s u : State G) → eats f ≡ true → Leads f s u → (t : Token K) × (slice_get toks s.at
+        ≡ Some t) × (first law.grammar f t ≡ true)
     leads_some f s u eat (inl (here, none, bar)) = absurd (not_both (eats f) eat none)
     leads_some f s u eat (inr next) = next
 
     -- the token behind a form that stands before another
     behind_both : {A : Type 0} (x : Form K N G A) (these : Token K → Bool) (v u : State G) → Leads x v u → After these (slice_get toks u.at)
         → After (λ t. led law.grammar x (these t) t) (slice_get toks v.at)
-    behind_both x these v u (inr (t, found, is)) after = after_at (λ t. led law.grammar x (these t) t) (slice_get toks v.at) t found (led_first x (these t) t is)
+    behind_both x these v u (inr (t, found, is)) after = after_at (λ t. led law.grammar x (these t) t) (slice_get toks v.at) t found (led_first x
+        (these t) t is)
     behind_both x these v u (inl (here, none, bar)) after = by (slice_get toks v.at) refl (subst (λ (n : ℕ). After these (slice_get toks n)) here after)
       where
         by : (o : Option (Token K)) → slice_get toks v.at ≡ o → After these o → After (λ t. led law.grammar x (these t) t) (slice_get toks v.at)
@@ -188,12 +202,14 @@ module _ {K N G : Type 0} (law : Law K N G) where
         by (Some t) found is = after_at (λ t. led law.grammar x (these t) t) (slice_get toks v.at) t found (led_behind x (these t) t none is (bar t found))
 
     -- the second side of a choice fails the test
-    fails_side : {A : Type 0} (test : Token K → Bool) (x y : Form K N G A) (these : Token K → Bool) → ((t : Token K) → tells law.grammar law.hints (Either test x y) (these t) t ≡ true)
+    fails_side : {A : Type 0} (test : Token K → Bool) (x y : Form K N G A) (these : Token K → Bool) → ((t : Token K)
+        → tells law.grammar law.hints (Either test x y) (these t) t ≡ true)
         → (s u : State G) → Leads y s u → After these (slice_get toks u.at) → passes test (slice_get toks s.at) ≡ false
     fails_side test x y these h s u (inr (t, found, is)) after =
         some_fails test (slice_get toks s.at) t found (implied (led law.grammar y (these t) t) (not (test t)) (either_tells test x y (these t) t (h t)).4
         (led_first y (these t) t is))
-    fails_side test x y these h s u (inl (here, none, bar)) after = by (slice_get toks s.at) refl (subst (λ (n : ℕ). After these (slice_get toks n)) here after)
+    fails_side test x y these h s u (inl (here, none, bar)) after = by (slice_get toks s.at) refl (subst (λ (n : ℕ). After these
+        (slice_get toks n)) here after)
       where
         by : (o : Option (Token K)) → slice_get toks s.at ≡ o → After these o → passes test (slice_get toks s.at) ≡ false
         by None found is = ap (passes test) found
@@ -207,7 +223,8 @@ module _ {K N G : Type 0} (law : Law K N G) where
           → ((t : Token K) → tells law.grammar law.hints (Chain test x more) (these t) t ≡ true)
           → ((s : State G) (g : ℕ → A → Growth G A) (u : State G) → spelled_with toks says more s g u
           → After (λ t. first law.grammar more t || these t) (slice_get toks u.at) → guided_with toks goes more s g u)
-          → (n at : ℕ) (a : A) (s : State G) (b : A) (u : State G) → Turns toks n (spelled_with toks says more) at a s b u → After these (slice_get toks u.at)
+          → (n at : ℕ) (a : A) (s : State G) (b : A) (u : State G) → Turns toks n (spelled_with toks says more) at a s b u → After these
+          (slice_get toks u.at)
           → GuidedTurns toks n test (guided_with toks goes more) at a s b u × After (λ t. first law.grammar more t || these t) (slice_get toks s.at)
       turns_guided test x more these h each zero at a s b u (same, to) after =
           let here : After these (slice_get toks s.at) = subst (λ (v : State G). After these (slice_get toks v.at)) to after in (
@@ -217,11 +234,13 @@ module _ {K N G : Type 0} (law : Law K N G) where
               same,
               to,
             ),
-            after_more these (λ t. first law.grammar more t || these t) (λ t is. or_right (first law.grammar more t) (these t) is) (slice_get toks s.at) here,
+            after_more these (λ t. first law.grammar more t || these t) (λ t is. or_right (first law.grammar more t) (these t) is)
+                (slice_get toks s.at) here,
           )
       turns_guided test x more these h each (suc n) at a s b u (g, v, one, rest) after =
           let later = turns_guided test x more these h each n at (g at a v.tree).0 (record v { tree = (g at a v.tree).1 }) b u rest after in
-          let next = leads_some more s v (chain_tells test x more (these law.hints.any) law.hints.any (h law.hints.any)).2 (leads says lead more s g v one) in (
+          let next = leads_some more s v (chain_tells test x more (these law.hints.any) law.hints.any (h law.hints.any)).2
+          (leads says lead more s g v one) in (
             (
               some_passes test (slice_get toks s.at) next.0 next.1 (implied (first law.grammar more next.0) (test next.0)
                   (chain_tells test x more (these next.0) next.0 (h next.0)).3 next.2),
@@ -230,17 +249,20 @@ module _ {K N G : Type 0} (law : Law K N G) where
               each s g v one later.1,
               later.0,
             ),
-            after_at (λ t. first law.grammar more t || these t) (slice_get toks s.at) next.0 next.1 (or_left (first law.grammar more next.0) (these next.0) next.2),
+            after_at (λ t. first law.grammar more t || these t) (slice_get toks s.at) next.0 next.1 (or_left (first law.grammar more next.0)
+                (these next.0) next.2),
           )
 
-      pub guide : {A : Type 0} (f : Form K N G A) (these : Token K → Bool) → ((t : Token K) → tells law.grammar law.hints f (these t) t ≡ true) → (s : State G) (a : A) (u : State G)
+      pub guide : {A : Type 0} (f : Form K N G A) (these : Token K → Bool) → ((t : Token K) → tells law.grammar law.hints f (these t) t
+          ≡ true) → (s : State G) (a : A) (u : State G)
           → spelled_with toks says f s a u → After these (slice_get toks u.at) → guided_with toks goes f s a u
       guide (Plain b) these h s a u is after = is
       guide Place these h s a u is after = is
       guide (One test) these h s a u is after = is
       guide (Unless test) these h s a u is after = is
       guide (Both f x) these h s b u (g, v, a, one, two, same) after =
-          let parts = λ (t : Token K). and_parts (tells law.grammar law.hints f (led law.grammar x (these t) t) t) (tells law.grammar law.hints x (these t) t) (h t) in (
+          let parts = λ (t : Token K). and_parts (tells law.grammar law.hints f (led law.grammar x (these t) t) t) (tells law.grammar law.hints x
+          (these t) t) (h t) in (
             g,
             v,
             a,

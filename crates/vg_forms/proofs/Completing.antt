@@ -55,7 +55,8 @@ module _ {K N G : Type 0} (law : Law K N G) where
 
     -- what is gone along of the first tokens is gone along there, if the next token ends it
     abbrev Surely : List (Token K) → (N → Spelled G ℕ) → (N → Spelled G ℕ) → Type 0
-    Surely all says far = (n : N) (s : State G) (a : ℕ) (t : State G) → says n s a t → t.at ≤ i → (t.at ≡ i → halts law (Inner n) (slice_get all i) ≡ true)
+    Surely all says far = (n : N) (s : State G) (a : ℕ) (t : State G) → says n s a t → t.at ≤ i → (t.at ≡ i → halts law (Inner n)
+        (slice_get all i) ≡ true)
         → Goes law all far (Inner n) s.at t.at
 
     module _ (all : List (Token K)) (agrees : Agrees all) (says far : N → Spelled G ℕ) (gain : Gaining law toks says) (inner : Surely all says far) where
@@ -66,7 +67,8 @@ module _ {K N G : Type 0} (law : Law K N G) where
           → ((s : State G) (g : ℕ → A → Growth G A) (t : State G) → guided_with toks says more s g t → t.at ≤ i
           → (t.at ≡ i → halts law more (slice_get all i) ≡ true) → Goes law all far more s.at t.at)
           → (at : ℕ) (a : A) (s : State G) (b : A) (t : State G) → GuidedTurns toks n test (guided_with toks says more) at a s b t → t.at ≤ i
-          → (t.at ≡ i → halts law more (slice_get all i) ≡ true) → (t.at ≡ i → passes test (slice_get all i) ≡ false) → Rounds law all far n test more s.at t.at
+          → (t.at ≡ i → halts law more (slice_get all i) ≡ true) → (t.at ≡ i → passes test (slice_get all i) ≡ false)
+          → Rounds law all far n test more s.at t.at
       turns_sure zero test more eat h at a s b t (unless, same, to) le ended tested =
           let here : t.at ≡ s.at = ap (λ (u : State G). u.at) to in
           let none : passes test (slice_get all s.at) ≡ false = elim (below_or s.at i (omega (arith, here, le))) [
@@ -85,13 +87,15 @@ module _ {K N G : Type 0} (law : Law K N G) where
             turns_sure n test more eat h at (g at a u.tree).0 (record u { tree = (g at a u.tree).1 }) b t rest le ended tested,
           )
 
-      pub sure : {A : Type 0} (f : Form K N G A) → fits law.hints f ≡ true → (s : State G) (a : A) (t : State G) → guided_with toks says f s a t → t.at ≤ i
+      pub sure : {A : Type 0} (f : Form K N G A) → fits law.hints f ≡ true → (s : State G) (a : A) (t : State G)
+          → guided_with toks says f s a t → t.at ≤ i
           → (t.at ≡ i → halts law f (slice_get all i) ≡ true) → Goes law all far f s.at t.at
       sure (Plain b) fit s a t (same, to) le ended = λ v e. (b, v, (refl, refl), e ∙ sym (ap (λ (u : State G). u.at) to))
       sure Place fit s a t (same, to) le ended = λ v e. (place_at all v.at, v, (refl, refl), e ∙ sym (ap (λ (u : State G). u.at) to))
       sure (One test) fit s a t (x, found, is, to) le ended =
           let next : t.at ≡ s.at + 1 = ap (λ (u : State G). u.at) to in
-          ends law all far (One test) s.at (s.at + 1) t.at (sym next) (goes_one law all far test s.at x (agrees s.at (omega (arith, next, le)) ∙ found) (ap is_some is))
+          ends law all far (One test) s.at (s.at + 1) t.at (sym next) (goes_one law all far test s.at x (agrees s.at (omega (arith, next, le))
+          ∙ found) (ap is_some is))
       sure (Unless test) fit s a t (unless, to) le ended =
           let here : t.at ≡ s.at = ap (λ (u : State G). u.at) to in
           let none : passes test (slice_get all s.at) ≡ false = elim (below_or s.at i (omega (arith, here, le))) [
@@ -122,7 +126,8 @@ module _ {K N G : Type 0} (law : Law K N G) where
             | inl less ↦ same_test test s.at less ∙ unless
             | inr end ↦ elim (bool_cases (eats y)) [
               | inl so ↦ absurd (omega (arith, eaten (eats y) s.at t.at step so, end, le))
-              | inr plain ↦ ap (λ n. passes test (slice_get all n)) end ∙ halts_side law test x y (slice_get all i) plain (ended (omega (arith, end, later, le)))
+              | inr plain ↦ ap (λ n. passes test (slice_get all n)) end ∙ halts_side law test x y (slice_get all i) plain (ended (omega
+                  (arith, end, later, le)))
             ]
           ] in
           goes_right law all far test x y s.at t.at none (sure y parts.1 s a t two le (λ here. halts_right law test x y (slice_get all i) (ended here)))
@@ -138,19 +143,23 @@ module _ {K N G : Type 0} (law : Law K N G) where
       sure (Inner n) fit s a t is le ended = inner n s a t is le ended
       sure (Made f) fit s a t (g, u, one, same, to) le ended =
           let here : t.at ≡ u.at = ap (λ (v : State G). v.at) to in
-          goes_made law all far f s.at t.at (ends law all far f s.at u.at t.at (sym here) (sure f fit s g u one (omega (arith, here, le)) (λ end. ended (here ∙ end))))
+          goes_made law all far f s.at t.at (ends law all far f s.at u.at t.at (sym here) (sure f fit s g u one (omega (arith, here, le))
+          (λ end. ended (here ∙ end))))
 
     inner_gaining : (room : ℕ) → Gaining law toks (guided_inner law.grammar toks room)
     inner_gaining zero n s a t is = absurd is
     inner_gaining (suc room) n s a t (so, is) =
-        eaten (eats (law.grammar.form n)) s.at t.at (spelled_gains law toks (guided_inner law.grammar toks room) (inner_gaining room) (law.grammar.form n) s a t is) (law.form_eats n)
+        eaten (eats (law.grammar.form n)) s.at t.at (spelled_gains law toks (guided_inner law.grammar toks room) (inner_gaining room)
+        (law.grammar.form n) s a t is) (law.form_eats n)
 
-    inner_sure : (all : List (Token K)) → Agrees all → (room : ℕ) → Surely all (guided_inner law.grammar toks room) (guided_inner law.grammar all (suc (suc room)))
+    inner_sure : (all : List (Token K)) → Agrees all → (room : ℕ) → Surely all (guided_inner law.grammar toks room)
+        (guided_inner law.grammar all (suc (suc room)))
     inner_sure all agrees zero n s a t is le ended = absurd is
     inner_sure all agrees (suc room) n s a t (so, is) le ended =
         let step = inner_gaining (suc room) n s a t (so, is) in
         goes_form law all (suc (suc room)) n s.at t.at (ap (passes (law.grammar.begins n)) (agrees s.at (omega (arith, step, le))) ∙ so)
-        (sure all agrees (guided_inner law.grammar toks room) (guided_inner law.grammar all (suc (suc room))) (inner_gaining room) (inner_sure all agrees room) (law.grammar.form n)
+        (sure all agrees (guided_inner law.grammar toks room) (guided_inner law.grammar all (suc (suc room))) (inner_gaining room)
+        (inner_sure all agrees room) (law.grammar.form n)
         (law.form_fits n) s a t is le (λ here. halts_form law n (slice_get all i) (ended here)))
 
     -- where the grammar needs a token is not before the start
@@ -191,12 +200,14 @@ module _ {K N G : Type 0} (law : Law K N G) where
       -- what completes a form: tokens with which it goes on from the place and comes to its end
       module _ (far : List (Token K) → N → Spelled G ℕ) (kept : (all : List (Token K)) → Agrees all → Surely all says (far all))
           (ready : (all : List (Token K)) → Ready law all (λ n. true) (far all)) where
-        short : (all : List (Token K)) {A : Type 0} (f : Form K N G A) → fits law.hints f ≡ true → (j k : ℕ) → k ≡ j + length (whole law.hints f) → Stands law all j (whole law.hints f)
+        short : (all : List (Token K)) {A : Type 0} (f : Form K N G A) → fits law.hints f ≡ true → (j k : ℕ) → k ≡ j + length
+            (whole law.hints f) → Stands law all j (whole law.hints f)
             → halts law f (slice_get all k) ≡ true → Goes law all (far all) f j k
         short all f fit j k far-off stand ended = shortest law all (λ n. true) (far all) (ready all) f fit (all_called f) j k far-off stand ended
 
         abbrev pub Completed : {A : Type 0} → Form K N G A → State G → Type 0
-        Completed f s = (more : List (Token K)) × ((all : List (Token K)) → Agrees all → Stands law all i more → halts law f (slice_get all (i + length more)) ≡ true
+        Completed f s = (more : List (Token K)) × ((all : List (Token K)) → Agrees all → Stands law all i more → halts law f (slice_get all
+            (i + length more)) ≡ true
             → Goes law all (far all) f s.at (i + length more))
 
         abbrev Turning : {A : Type 0} → (Token K → Bool) → Form K N G (ℕ → A → Growth G A) → State G → Type 0
@@ -205,7 +216,8 @@ module _ {K N G : Type 0} (law : Law K N G) where
             → passes test (slice_get all (i + length more)) ≡ false → (n : ℕ) × Rounds law all (far all) n test rest s.at (i + length more))
 
         -- a chain that comes to its next turn at the place has none
-        turning_end : {A : Type 0} (test : Token K → Bool) (rest : Form K N G (ℕ → A → Growth G A)) (s : State G) → s.at ≡ i → Turning test rest s
+        turning_end : {A : Type 0} (test : Token K → Bool) (rest : Form K N G (ℕ → A → Growth G A)) (s : State G) → s.at ≡ i
+            → Turning test rest s
         turning_end test rest s end = (
           [],
           (λ here. refl),
@@ -217,7 +229,8 @@ module _ {K N G : Type 0} (law : Law K N G) where
 
         turns_complete : {A : Type 0} (n : ℕ) (test : Token K → Bool) (rest : Form K N G (ℕ → A → Growth G A)) → fits law.hints rest ≡ true
             → ((s : State G) → comes_guided toks says (λ u. u.at ≡ i) lacks rest s → s.at < i → Completed rest s)
-            → (at : ℕ) (a : A) (s : State G) → GuidedTurnsTo toks n test (guided_with toks says rest) (comes_guided toks says (λ u. u.at ≡ i) lacks rest)
+            → (at : ℕ) (a : A) (s : State G) → GuidedTurnsTo toks n test (guided_with toks says rest) (comes_guided toks says (λ u. u.at
+            ≡ i) lacks rest)
             at a s → s.at ≤ i → Turning test rest s
         turns_complete zero test rest fit h at a s (so, is) le = elim (below_or s.at i le) [
           | inr end ↦ turning_end test rest s end
@@ -225,7 +238,15 @@ module _ {K N G : Type 0} (law : Law K N G) where
               let c = h s is less in (
                 c.0,
                 (λ here. absurd (omega (arith, here, less))),
-                λ all agrees stand ended tested. (1, (ap (passes test) (agrees s.at less) ∙ so, i + length c.0, c.1 all agrees stand ended, (tested, refl))),
+                λ all agrees stand ended tested. (
+                  1,
+                  (
+                    ap (passes test) (agrees s.at less) ∙ so,
+                    i + length c.0,
+                    c.1 all agrees stand ended,
+                    (tested, refl),
+                  ),
+                ),
               )
         ]
         turns_complete (suc n) test rest fit h at a s (so, g, u, one, later) le = elim (below_or s.at i le) [
@@ -253,7 +274,8 @@ module _ {K N G : Type 0} (law : Law K N G) where
               )
         ]
 
-        pub complete : {A : Type 0} (f : Form K N G A) → fits law.hints f ≡ true → ((n : N) (s : State G) → lacks n s → s.at < i → Completed (Inner n) s)
+        pub complete : {A : Type 0} (f : Form K N G A) → fits law.hints f ≡ true → ((n : N) (s : State G) → lacks n s → s.at < i
+            → Completed (Inner n) s)
             → (s : State G) → comes_guided toks says (λ u. u.at ≡ i) lacks f s → s.at < i → Completed f s
         complete (Plain a) fit inner s is less = absurd is
         complete Place fit inner s is less = absurd is
@@ -352,7 +374,8 @@ module _ {K N G : Type 0} (law : Law K N G) where
     inner_complete (suc room) n s (inl (here, unless)) less = absurd (omega (arith, here, less))
     inner_complete (suc room) n s (inr (so, is)) less =
         let c = complete (guided_inner law.grammar toks room) (lacks_guided law.grammar toks i room) (inner_gaining room) (inner_within room) (roomy room)
-        (λ all agrees. inner_sure all agrees room) (λ all. room_begins law all room) (law.grammar.form n) (law.form_fits n) (inner_complete room) s is less in (
+        (λ all agrees. inner_sure all agrees room) (λ all. room_begins law all room) (law.grammar.form n) (law.form_fits n)
+        (inner_complete room) s is less in (
           c.0,
           λ all agrees stand ended.
               goes_form law all (suc (suc room)) n s.at (i + length c.0) (ap (passes (law.grammar.begins n)) (agrees s.at less) ∙ so)
@@ -363,14 +386,17 @@ module _ {K N G : Type 0} (law : Law K N G) where
         → Completed (guided_inner law.grammar toks room) (lacks_guided law.grammar toks i room) (inner_gaining room) (inner_within room) (roomy room)
         (λ all agrees. inner_sure all agrees room) (λ all. room_begins law all room) law.grammar.unit (start law.grammar)
     unit_complete room is = elim (below_or 0 i (omega arith)) [
-      | inl less ↦ complete (guided_inner law.grammar toks room) (lacks_guided law.grammar toks i room) (inner_gaining room) (inner_within room) (roomy room)
-          (λ all agrees. inner_sure all agrees room) (λ all. room_begins law all room) law.grammar.unit law.unit_fits (inner_complete room) (start law.grammar) is less
+      | inl less ↦ complete (guided_inner law.grammar toks room) (lacks_guided law.grammar toks i room) (inner_gaining room) (inner_within room)
+          (roomy room)
+          (λ all agrees. inner_sure all agrees room) (λ all. room_begins law all room) law.grammar.unit law.unit_fits (inner_complete room)
+          (start law.grammar) is less
       | inr same ↦ (
         whole law.hints law.grammar.unit,
         λ all agrees stand ended.
             begins_at law all (roomy room all) law.grammar.unit i 0 (i + length (whole law.hints law.grammar.unit)) (sym same)
             (short (guided_inner law.grammar toks room) (lacks_guided law.grammar toks i room) (inner_gaining room) (inner_within room) (roomy room)
-            (λ all agrees. inner_sure all agrees room) (λ all. room_begins law all room) all law.grammar.unit law.unit_fits i (i + length (whole law.hints law.grammar.unit)) refl
+            (λ all agrees. inner_sure all agrees room) (λ all. room_begins law all room) all law.grammar.unit law.unit_fits i (i + length
+            (whole law.hints law.grammar.unit)) refl
             stand ended),
       )
     ]
@@ -415,15 +441,18 @@ module _ {K N G : Type 0} (law : Law K N G) where
     opens_within : (room : ℕ) (n : N) (s : State G) → opens_guided law.grammar toks i room n s → s.at ≤ i
     opens_within zero n s (here, so) = omega (arith, here)
     opens_within (suc room) n s (so, is) =
-        comes_within toks i (guided_inner law.grammar toks room) (opens_guided law.grammar toks i room) (inner_gaining toks i room) (opens_within room) (law.grammar.form n) s
+        comes_within toks i (guided_inner law.grammar toks room) (opens_guided law.grammar toks i room) (inner_gaining toks i room)
+        (opens_within room) (law.grammar.form n) s
         (also (guided_inner law.grammar toks room) (opens_guided law.grammar toks i room) (law.grammar.form n) s is)
 
     opens_complete : (room : ℕ) (n : N) (s : State G) → opens_guided law.grammar toks i room n s → s.at < i
-        → Completed toks i (guided_inner law.grammar toks room) (opens_guided law.grammar toks i room) (inner_gaining toks i room) (opens_within room) (roomy toks i room)
+        → Completed toks i (guided_inner law.grammar toks room) (opens_guided law.grammar toks i room) (inner_gaining toks i room)
+        (opens_within room) (roomy toks i room)
         (λ all agrees. inner_sure toks i all agrees room) (λ all. room_begins law all room) (Inner n) s
     opens_complete zero n s (here, so) less = absurd (omega (arith, here, less))
     opens_complete (suc room) n s (so, is) less =
-        let c = complete toks i (guided_inner law.grammar toks room) (opens_guided law.grammar toks i room) (inner_gaining toks i room) (opens_within room) (roomy toks i room)
+        let c = complete toks i (guided_inner law.grammar toks room) (opens_guided law.grammar toks i room) (inner_gaining toks i room)
+        (opens_within room) (roomy toks i room)
         (λ all agrees. inner_sure toks i all agrees room) (λ all. room_begins law all room) (law.grammar.form n) (law.form_fits n)
         (opens_complete room) s (also (guided_inner law.grammar toks room) (opens_guided law.grammar toks i room) (law.grammar.form n) s is) less in (
           c.0,
@@ -433,18 +462,22 @@ module _ {K N G : Type 0} (law : Law K N G) where
         )
 
     opened_complete : (room : ℕ) → OpensGuided law.grammar room toks i
-        → Completed toks i (guided_inner law.grammar toks room) (opens_guided law.grammar toks i room) (inner_gaining toks i room) (opens_within room) (roomy toks i room)
+        → Completed toks i (guided_inner law.grammar toks room) (opens_guided law.grammar toks i room) (inner_gaining toks i room)
+        (opens_within room) (roomy toks i room)
         (λ all agrees. inner_sure toks i all agrees room) (λ all. room_begins law all room) law.grammar.unit (start law.grammar)
     opened_complete room is = elim (below_or 0 i (omega arith)) [
       | inl less ↦
-          complete toks i (guided_inner law.grammar toks room) (opens_guided law.grammar toks i room) (inner_gaining toks i room) (opens_within room) (roomy toks i room)
+          complete toks i (guided_inner law.grammar toks room) (opens_guided law.grammar toks i room) (inner_gaining toks i room) (opens_within room)
+          (roomy toks i room)
           (λ all agrees. inner_sure toks i all agrees room) (λ all. room_begins law all room) law.grammar.unit law.unit_fits
-          (opens_complete room) (start law.grammar) (also (guided_inner law.grammar toks room) (opens_guided law.grammar toks i room) law.grammar.unit (start law.grammar) is) less
+          (opens_complete room) (start law.grammar) (also (guided_inner law.grammar toks room) (opens_guided law.grammar toks i room) law.grammar.unit
+          (start law.grammar) is) less
       | inr same ↦ (
         whole law.hints law.grammar.unit,
         λ all agrees stand ended.
             begins_at law all (roomy toks i room all) law.grammar.unit i 0 (i + length (whole law.hints law.grammar.unit)) (sym same)
-            (short toks i (guided_inner law.grammar toks room) (opens_guided law.grammar toks i room) (inner_gaining toks i room) (opens_within room) (roomy toks i room)
+            (short toks i (guided_inner law.grammar toks room) (opens_guided law.grammar toks i room) (inner_gaining toks i room) (opens_within room)
+            (roomy toks i room)
             (λ all agrees. inner_sure toks i all agrees room) (λ all. room_begins law all room) all law.grammar.unit law.unit_fits i
             (i + length (whole law.hints law.grammar.unit)) refl stand ended),
       )
@@ -467,7 +500,8 @@ module _ {K N G : Type 0} (law : Law K N G) where
 
   -- tokens along which the grammar goes begin a whole tree
   begun_by : (toks : List (Token K)) (room i : ℕ) → i ≤ length toks
-      → (more : List (Token K)) × ((all : List (Token K)) → Agrees toks i all → Stands law all i more → halts law law.grammar.unit (slice_get all (i + length more)) ≡ true
+      → (more : List (Token K)) × ((all : List (Token K)) → Agrees toks i all → Stands law all i more → halts law law.grammar.unit
+      (slice_get all (i + length more)) ≡ true
       → Goes law all (guided_inner law.grammar all (suc (suc room))) law.grammar.unit 0 (i + length more)) → Begins law.grammar (take i toks)
   begun_by toks room i le c =
       let front = take i toks in
@@ -478,13 +512,23 @@ module _ {K N G : Type 0} (law : Law K N G) where
       ∙ ap (λ (l : List (Token K)). slice_get l k) (take-append-drop i toks) in
       let stand : Stands law all i c.0 = subst (λ n. Stands law all n c.0) size (stands_behind c.0 front) in
       let end : length all ≡ i + length c.0 = omega (arith, length-append front c.0, size) in
-      let ended : halts law law.grammar.unit (slice_get all (i + length c.0)) ≡ true = ap (halts law law.grammar.unit) (slice_get_past all (i + length c.0) (omega (arith, end))) in
+      let ended : halts law law.grammar.unit (slice_get all (i + length c.0)) ≡ true = ap (halts law law.grammar.unit) (slice_get_past all
+      (i + length c.0) (omega (arith, end))) in
       let g = c.1 all agrees stand ended (start law.grammar) refl in
-      let to : g.1 ≡ record { at = length all; tree = g.1.tree } = ap (λ (n : ℕ). record g.1 { at = n }) (g.3 ∙ sym end) in
-      (suc (suc room), c.0, g.1.tree, spelled_of law all (suc (suc room)) g.1.tree (g.0, subst (λ (u : State G). guided law.grammar all (suc (suc room)) law.grammar.unit (start law.grammar) g.0 u) to g.2))
+      let to : g.1 ≡ record { at = length all; tree = g.1.tree } = ap (λ (n : ℕ). record g.1 { at = n }) (g.3 ∙ sym end) in (
+        suc (suc room),
+        c.0,
+        g.1.tree,
+        spelled_of law all (suc (suc room)) g.1.tree (
+          g.0,
+          subst (λ (u : State G). guided law.grammar all (suc
+              (suc room)) law.grammar.unit (start law.grammar) g.0 u) to g.2,
+        ),
+      )
 
   pub begins_tree : (toks : List (Token K)) (room i : ℕ) → i ≤ length toks → LacksGuided law.grammar room toks i → Begins law.grammar (take i toks)
   begins_tree toks room i le is = begun_by toks room i le (unit_complete toks i room is)
 
-  pub begins_opened : (toks : List (Token K)) (room i : ℕ) → i ≤ length toks → OpensGuided law.grammar room toks i → Begins law.grammar (take i toks)
+  pub begins_opened : (toks : List (Token K)) (room i : ℕ) → i ≤ length toks → OpensGuided law.grammar room toks i → Begins law.grammar
+      (take i toks)
   begins_opened toks room i le is = begun_by toks room i le (opened_complete toks i room is)

@@ -15,7 +15,8 @@ bound (Ok x) f e = (x, refl, e)
 bound (Err e) f is = absurd (cc)
 
 -- which side of a choice was read
-pub either_side : {A : Type 0} (b : Bool) {x y r : A} {P : Type 0} → (b ≡ true → x ≡ r → P) → (b ≡ false → y ≡ r → P) → cond b x y ≡ r → P
+pub either_side : {A : Type 0} (b : Bool) {x y r : A} {P : Type 0} → (b ≡ true → x ≡ r → P) → (b ≡ false → y ≡ r → P)
+    → cond b x y ≡ r → P
 either_side true f g e = f refl e
 either_side false f g e = g refl e
 
@@ -71,7 +72,8 @@ module _ {K N G : Type 0} (law : Law K N G) where
   taken-onward (Some b) s a t e = let same = same_state e in subst (λ (u : State G). s.at + 1 ≤ u.at) same (omega arith)
 
   module _ (toks : List (Token K)) where
-    pub turn-onward : {A : Type 0} (more : Reads G (ℕ → A → Growth G A)) (b : Bool) → ((s : State G) (g : ℕ → A → Growth G A) (t : State G) → more s ≡ Ok (g, t)
+    pub turn-onward : {A : Type 0} (more : Reads G (ℕ → A → Growth G A)) (b : Bool) → ((s : State G) (g : ℕ → A → Growth G A)
+        (t : State G) → more s ≡ Ok (g, t)
         → further b s.at ≤ t.at)
         → (at : ℕ) (a : A) (s : State G) (c : A) (t : State G) → turn more at a s ≡ Ok (c, t) → further b s.at ≤ t.at
     turn-onward more b h at a s c t e =
@@ -101,19 +103,22 @@ module _ {K N G : Type 0} (law : Law K N G) where
     gains inner h Place s a t e = subst (λ (u : State G). s.at ≤ u.at) (same_state e) (omega arith)
     gains inner h (One test) s a t e = taken-onward (tested test (slice_get toks s.at)) s a t e
     gains inner h (Unless test) s a t e =
-        either_side (passes test (slice_get toks s.at)) (λ so is. absurd (cc)) (λ unless is. subst (λ (u : State G). s.at ≤ u.at) (same_state is) (omega arith)) e
+        either_side (passes test (slice_get toks s.at)) (λ so is. absurd (cc)) (λ unless is. subst (λ (u : State G). s.at ≤ u.at) (same_state is)
+        (omega arith)) e
     gains inner h (Both f x) s a t e =
         let one = bound (read_with toks inner f s) (λ p. read_with toks inner x p.1 >>= λ q. Ok (p.0 q.0, q.1)) e in
         let two = bound (read_with toks inner x one.0.1) (λ q. Ok (one.0.0 q.0, q.1)) one.2 in
         let first = gains inner h f s one.0.0 one.0.1 one.1 in
         let second = gains inner h x one.0.1 two.0.0 two.0.1 two.1 in
-        subst (λ (u : State G). further (eats f || eats x) s.at ≤ u.at) (same_state two.2) (further-both (eats f) (eats x) s.at one.0.1.at two.0.1.at first second)
+        subst (λ (u : State G). further (eats f || eats x) s.at ≤ u.at) (same_state two.2) (further-both (eats f)
+        (eats x) s.at one.0.1.at two.0.1.at first second)
     gains inner h (Either test x y) s a t e =
         either_side (passes test (slice_get toks s.at))
         (λ so is. further-first (eats x) (eats y) s.at t.at (gains inner h x s a t is))
         (λ unless is. further-second (eats x) (eats y) s.at t.at (gains inner h y s a t is)) e
     gains inner h (Chain test x more) s a t e =
-        let one = bound (read_with toks inner x s) (λ p. turns toks (length toks - p.1.at) test (read_with toks inner more) (place_at toks s.at) p.0 p.1) e in
+        let one = bound (read_with toks inner x s) (λ p. turns toks (length toks - p.1.at) test (read_with toks inner more)
+        (place_at toks s.at) p.0 p.1) e in
         let first = gains inner h x s one.0.0 one.0.1 one.1 in
         let rest = turns-onward (length toks - one.0.1.at) test (read_with toks inner more) (λ u g v is. further-least (eats more) u.at v.at
         (gains inner h more u g v is)) (place_at toks s.at) one.0.0 one.0.1 a t one.2 in

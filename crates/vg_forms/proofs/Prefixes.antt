@@ -54,7 +54,8 @@ module _ {K N G : Type 0} (law : Law K N G) where
     past at (Err (Deep f)) e h = omega (arith, e, h.0, h.1)
 
     -- readings that start at the end of the front
-    ended_cut : {A : Type 0} (at : ℕ) (one two : Result (A × State G) Refusal) → at ≡ length front → Within law front at one → Within law all at two → Cut one two
+    ended_cut : {A : Type 0} (at : ℕ) (one two : Result (A × State G) Refusal) → at ≡ length front → Within law front at one
+        → Within law all at two → Cut one two
     ended_cut at one two e h i = inl (at_end at one e h, past at two (omega (arith, e)) i)
 
     cut_bind : {A B : Type 0} (at : ℕ) (one two : Result (A × State G) Refusal) (k m : A × State G → Result (B × State G) Refusal) → Cut one two
@@ -90,14 +91,17 @@ module _ {K N G : Type 0} (law : Law K N G) where
       | inr beyond ↦ inr (omega (arith, beyond.0, h))
     ]
 
-    turn_cut : {A : Type 0} (near far : Reads G (ℕ → A → Growth G A)) (at : ℕ) (a : A) (s : State G) → Cut (near s) (far s) → Within law front s.at (near s)
+    turn_cut : {A : Type 0} (near far : Reads G (ℕ → A → Growth G A)) (at : ℕ) (a : A) (s : State G) → Cut (near s) (far s)
+        → Within law front s.at (near s)
         → Within law all s.at (far s) → Cut (turn near at a s) (turn far at a s)
     turn_cut near far at a s cut h i =
         cut_bind s.at (near s) (far s) (λ q. Ok (grown (q.0 at a q.1.tree) q.1)) (λ q. Ok (grown (q.0 at a q.1.tree) q.1)) cut h i
         (λ g t is le. inr refl) (λ g t le. (omega arith, le)) (λ g t le. (omega arith, le))
 
-    turns_cut : {A : Type 0} (n m : ℕ) (test : Token K → Bool) (near far : Reads G (ℕ → A → Growth G A)) → ((s : State G) → s.at < length front → Cut (near s) (far s))
-        → ((s : State G) → s.at ≤ length front → Within law front s.at (near s)) → ((s : State G) → s.at ≤ length all → Within law all s.at (far s))
+    turns_cut : {A : Type 0} (n m : ℕ) (test : Token K → Bool) (near far : Reads G (ℕ → A → Growth G A)) → ((s : State G)
+        → s.at < length front → Cut (near s) (far s))
+        → ((s : State G) → s.at ≤ length front → Within law front s.at (near s)) → ((s : State G) → s.at ≤ length all
+        → Within law all s.at (far s))
         → ((s : State G) (g : ℕ → A → Growth G A) (t : State G) → near s ≡ Ok (g, t) → s.at + 1 ≤ t.at)
         → (at : ℕ) (a : A) (s : State G) → s.at ≤ length front → length front ≤ n + s.at → length all ≤ m + s.at
         → Cut (turns front n test near at a s) (turns all m test far at a s)
@@ -139,7 +143,8 @@ module _ {K N G : Type 0} (law : Law K N G) where
     pub cut : (near far : N → Reads G ℕ) → ((n : N) (s : State G) → s.at < length front → Cut (near n s) (far n s))
         → ((n : N) (s : State G) → s.at ≤ length front → Within law front s.at (near n s)) → ((n : N) (s : State G) → s.at ≤ length all
         → Within law all s.at (far n s)) → Gains law front near
-        → {A : Type 0} (f : Form K N G A) → tidy f ≡ true → (s : State G) → s.at < length front → Cut (read_with front near f s) (read_with all far f s)
+        → {A : Type 0} (f : Form K N G A) → tidy f ≡ true → (s : State G) → s.at < length front → Cut (read_with front near f s)
+        (read_with all far f s)
     cut near far both h i gain (Plain a) neat s le = inr refl
     cut near far both h i gain Place neat s le = inr (ap (λ (p : ℕ). ok_at law p s) (same_place s.at le))
     cut near far both h i gain (One test) neat s le = inr (one_cut test s le)
@@ -156,8 +161,10 @@ module _ {K N G : Type 0} (law : Law K N G) where
         cut_bind t.at (read_with front near x t) (read_with all far x t) (λ q. Ok (g q.0, q.1)) (λ q. Ok (g q.0, q.1))
         (anywhere t (read_with front near x t) (read_with all far x t) at (λ inside. cut near far both h i gain x two.1 t inside)
         (within law front near h x t at) (within law all far i x t at_all))
-        (within law front near h x t at) (within law all far i x t at_all) (λ a u is le. inr refl) (λ a u le. (omega arith, le)) (λ a u le. (omega arith, le)))
-        (λ g t at. within_bind law front t.at (read_with front near x t) (λ q. Ok (g q.0, q.1)) (within law front near h x t at) (λ a u le. (omega arith, le)))
+        (within law front near h x t at) (within law all far i x t at_all) (λ a u is le. inr refl) (λ a u le. (omega arith, le)) (λ a u le.
+        (omega arith, le)))
+        (λ g t at. within_bind law front t.at (read_with front near x t) (λ q. Ok (g q.0, q.1)) (within law front near h x t at) (λ a u le.
+        (omega arith, le)))
         (λ g t at. within_bind law all t.at (read_with all far x t) (λ q. Ok (g q.0, q.1)) (within law all far i x t at) (λ a u le. (omega arith, le)))
     cut near far both h i gain (Either test x y) neat s le =
         let two = and_parts (tidy x) (tidy y) neat in
@@ -178,23 +185,30 @@ module _ {K N G : Type 0} (law : Law K N G) where
         (turns_cut (length front - t.at) (length all - t.at) test (read_with front near more) (read_with all far more)
         (λ u inside. cut near far both h i gain more three.1 u inside)
         (λ u at. within law front near h more u at) (λ u at. within law all far i more u at)
-        (λ u g v is. subst (λ (c : Bool). further c u.at ≤ v.at) two.1 (gains law front near gain more u g v is)) (place_at front s.at) a t at (omega arith)
+        (λ u g v is. subst (λ (c : Bool). further c u.at ≤ v.at) two.1 (gains law front near gain more u g v is)) (place_at front s.at) a t at
+        (omega arith)
         (omega arith)))
-        (λ a t at. within_turns law front (length front - t.at) test (read_with front near more) (λ u at. within law front near h more u at) (place_at front s.at) a t at)
-        (λ a t at. within_turns law all (length all - t.at) test (read_with all far more) (λ u at. within law all far i more u at) (place_at all s.at) a t at)
+        (λ a t at. within_turns law front (length front - t.at) test (read_with front near more) (λ u at. within law front near h more u at)
+        (place_at front s.at) a t at)
+        (λ a t at. within_turns law all (length all - t.at) test (read_with all far more) (λ u at. within law all far i more u at)
+        (place_at all s.at) a t at)
     cut near far both h i gain (Inner n) neat s le = both n s le
     cut near far both h i gain (Made f) neat s le =
         let here : s.at ≤ length front = omega (arith, le) in
         let there : s.at ≤ length all = omega (arith, le, longer) in
         cut_bind s.at (read_with front near f s) (read_with all far f s) (λ p. Ok (grown (p.0 p.1.tree) p.1)) (λ p. Ok (grown (p.0 p.1.tree) p.1))
         (cut near far both h i gain f neat s le)
-        (within law front near h f s here) (within law all far i f s there) (λ g t is at. inr refl) (λ g t at. (omega arith, at)) (λ g t at. (omega arith, at))
+        (within law front near h f s here) (within law all far i f s there) (λ g t is at. inr refl) (λ g t at. (omega arith, at)) (λ g t at.
+        (omega arith, at))
 
-    inner_cut : (room : ℕ) (n : N) (s : State G) → s.at < length front → Cut (read_inner law.grammar front room n s) (read_inner law.grammar all room n s)
+    inner_cut : (room : ℕ) (n : N) (s : State G) → s.at < length front → Cut (read_inner law.grammar front room n s)
+        (read_inner law.grammar all room n s)
     inner_cut zero n s le = inr (ap (λ b. cond b (Err (Deep s.at)) (Err (Wrong s.at))) (ap (passes (law.grammar.begins n)) (same_token s.at le)))
     inner_cut (suc room) n s le =
-        cut_either (passes (law.grammar.begins n) (slice_get front s.at)) (passes (law.grammar.begins n) (slice_get all s.at)) _ _ _ _ (ap (passes (law.grammar.begins n)) (same_token s.at le))
-        (cut (read_inner law.grammar front room) (read_inner law.grammar all room) (λ m u inside. inner_cut room m u inside) (within_inner law front room) (within_inner law all room)
+        cut_either (passes (law.grammar.begins n) (slice_get front s.at)) (passes (law.grammar.begins n) (slice_get all s.at)) _ _ _ _ (ap (passes
+        (law.grammar.begins n)) (same_token s.at le))
+        (cut (read_inner law.grammar front room) (read_inner law.grammar all room) (λ m u inside. inner_cut room m u inside)
+        (within_inner law front room) (within_inner law all room)
         (inner_gains law front room) (law.grammar.form n) (law.form_tidy n) s le)
         (inr refl)
 
@@ -203,5 +217,6 @@ module _ {K N G : Type 0} (law : Law K N G) where
     all_cut room f neat s le =
         anywhere s _ _ le (λ inside. cut (read_inner law.grammar front room) (read_inner law.grammar all room) (inner_cut room) (within_inner law front room)
         (within_inner law all room) (inner_gains law front room) f neat s inside)
-        (within law front (read_inner law.grammar front room) (within_inner law front room) f s le) (within law all (read_inner law.grammar all room) (within_inner law all room) f s
+        (within law front (read_inner law.grammar front room) (within_inner law front room) f s le) (within law all (read_inner law.grammar all room)
+        (within_inner law all room) f s
         (omega (arith, le, longer)))

@@ -37,7 +37,8 @@ module _ {K N G : Type 0} (law : Law K N G) where
           (and_both (not (eats f)) (first law.grammar x t) (not_of (eats f) none) is),
     )
 
-    first_chain : {A : Type 0} (test : Token K → Bool) (x : Form K N G A) (more : Form K N G (ℕ → A → Growth G A)) (s u : State G) → Leads law toks x s u → First more u
+    first_chain : {A : Type 0} (test : Token K → Bool) (x : Form K N G A) (more : Form K N G (ℕ → A → Growth G A)) (s u : State G)
+        → Leads law toks x s u → First more u
         → First (Chain test x more) s
     first_chain test x more s u (inr (t, found, is)) next = (t, found, or_left (first law.grammar x t) (not (eats x) && first law.grammar more t) is)
     first_chain test x more s u (inl (here, none, bar)) (t, found, is) = (
@@ -97,39 +98,47 @@ module _ {K N G : Type 0} (law : Law K N G) where
                   (chain_tells law test x more (these next.0) next.0 (h next.0)).3 next.2),
               each s is,
             ),
-            after_at law (λ t. first law.grammar more t || these t) (slice_get toks s.at) next.0 next.1 (or_left (first law.grammar more next.0) (these next.0) next.2),
+            after_at law (λ t. first law.grammar more t || these t) (slice_get toks s.at) next.0 next.1 (or_left (first law.grammar more next.0)
+                (these next.0) next.2),
           )
       turns_to test x more these h each (suc n) at a s (g, v, one, rest) =
           let later = turns_to test x more these h each n at (g at a v.tree).0 (record v { tree = (g at a v.tree).1 }) rest in
-          let next = leads_some law toks more s v (chain_tells law test x more (these law.hints.any) law.hints.any (h law.hints.any)).2 (leads law toks says lead more s g v one) in (
+          let next = leads_some law toks more s v (chain_tells law test x more (these law.hints.any) law.hints.any (h law.hints.any)).2
+          (leads law toks says lead more s g v one) in (
             (
               some_passes law test (slice_get toks s.at) next.0 next.1 (implied (first law.grammar more next.0) (test next.0)
                   (chain_tells law test x more (these next.0) next.0 (h next.0)).3 next.2),
               g,
               v,
-              guide law toks says goes lead inner more (λ t. first law.grammar more t || these t) (λ t. (chain_tells law test x more (these t) t (h t)).1) s g v one later.1,
+              guide law toks says goes lead inner more (λ t. first law.grammar more t || these t) (λ t. (chain_tells law test x more (these t) t
+                  (h t)).1) s g v one later.1,
               later.0,
             ),
-            after_at law (λ t. first law.grammar more t || these t) (slice_get toks s.at) next.0 next.1 (or_left (first law.grammar more next.0) (these next.0) next.2),
+            after_at law (λ t. first law.grammar more t || these t) (slice_get toks s.at) next.0 next.1 (or_left (first law.grammar more next.0)
+                (these next.0) next.2),
           )
 
       -- where the grammar comes, the tests lead
-      come : {A : Type 0} (f : Form K N G A) (these : Token K → Bool) → ((t : Token K) → tells law.grammar law.hints f (these t) t ≡ true) → (s : State G)
+      come : {A : Type 0} (f : Form K N G A) (these : Token K → Bool) → ((t : Token K) → tells law.grammar law.hints f (these t) t ≡ true) →
+          (s : State G)
           → comes_with toks says opens f s → comes_guided toks goes (λ u. ⊥) gone f s
       come (Plain a) these h s is = absurd is
       come Place these h s is = absurd is
       come (One test) these h s is = absurd is
       come (Unless test) these h s is = absurd is
       come (Both f x) these h s (inl is) =
-          inl (come f (λ t. led law.grammar x (these t) t) (λ t. (and_parts (tells law.grammar law.hints f (led law.grammar x (these t) t) t) (tells law.grammar law.hints x (these t) t) (h t)).0) s is)
+          inl (come f (λ t. led law.grammar x (these t) t) (λ t. (and_parts (tells law.grammar law.hints f (led law.grammar x (these t) t) t)
+          (tells law.grammar law.hints x (these t) t) (h t)).0) s is)
       come (Both f x) these h s (inr (g, u, one, is)) =
           let next = comes_first says lead opens begun x u is in
           inr (
             g,
             u,
-            guide law toks says goes lead inner f (λ t. led law.grammar x (these t) t) (λ t. (and_parts (tells law.grammar law.hints f (led law.grammar x (these t) t) t) (tells law.grammar law.hints x (these t) t) (h t)).0) s g u one
+            guide law toks says goes lead inner f (λ t. led law.grammar x (these t) t) (λ t. (and_parts (tells law.grammar law.hints f
+                (led law.grammar x (these t) t) t) (tells law.grammar law.hints x (these t) t) (h t)).0) s g u one
                 (after_at law (λ t. led law.grammar x (these t) t) (slice_get toks u.at) next.0 next.1 (led_first law x (these next.0) next.0 next.2)),
-            come x these (λ t. (and_parts (tells law.grammar law.hints f (led law.grammar x (these t) t) t) (tells law.grammar law.hints x (these t) t) (h t)).1) u is,
+            come x these (λ t. (and_parts (tells law.grammar law.hints f (led law.grammar x (these t) t) t) (tells law.grammar law.hints x
+                (these t) t) (h t)).1) u is,
           )
       come (Either test x y) these h s (inl is) =
           let next = comes_first says lead opens begun x s is in
@@ -145,7 +154,8 @@ module _ {K N G : Type 0} (law : Law K N G) where
                 (either_tells law test x y (these next.0) next.0 (h next.0)).4 (led_first law y (these next.0) next.0 next.2)),
             come y these (λ t. (either_tells law test x y (these t) t (h t)).1) s is,
           )
-      come (Chain test x more) these h s (inl is) = inl (come x (λ t. first law.grammar more t || these t) (λ t. (chain_tells law test x more (these t) t (h t)).0) s is)
+      come (Chain test x more) these h s (inl is) = inl (come x (λ t. first law.grammar more t || these t) (λ t. (chain_tells law test x more
+          (these t) t (h t)).0) s is)
       come (Chain test x more) these h s (inr (a, u, n, one, rest)) =
           let turns = turns_to test x more these h (λ p is. come more (λ t. first law.grammar more t || these t)
           (λ t. (chain_tells law test x more (these t) t (h t)).1) p is) n (place_at toks s.at) a u rest in
@@ -153,7 +163,8 @@ module _ {K N G : Type 0} (law : Law K N G) where
             a,
             u,
             n,
-            guide law toks says goes lead inner x (λ t. first law.grammar more t || these t) (λ t. (chain_tells law test x more (these t) t (h t)).0) s a u one
+            guide law toks says goes lead inner x (λ t. first law.grammar more t || these t) (λ t. (chain_tells law test x more (these t) t
+                (h t)).0) s a u one
                 turns.1,
             turns.0,
           )
@@ -180,7 +191,8 @@ module _ {K N G : Type 0} (law : Law K N G) where
     came goes says h gone opens k (One test) s (here, none) = absurd here
     came goes says h gone opens k (Unless test) s (here, so) = absurd here
     came goes says h gone opens k (Both f x) s (inl is) = inl (came goes says h gone opens k f s is)
-    came goes says h gone opens k (Both f x) s (inr (g, u, one, is)) = inr (g, u, plain law toks goes says h f s g u one, came goes says h gone opens k x u is)
+    came goes says h gone opens k (Both f x) s (inr (g, u, one, is)) = inr
+        (g, u, plain law toks goes says h f s g u one, came goes says h gone opens k x u is)
     came goes says h gone opens k (Either test x y) s (inl (so, is)) = inl (came goes says h gone opens k x s is)
     came goes says h gone opens k (Either test x y) s (inr (unless, is)) = inr (came goes says h gone opens k y s is)
     came goes says h gone opens k (Chain test x more) s (inl is) = inl (came goes says h gone opens k x s is)
@@ -201,7 +213,8 @@ module _ {K N G : Type 0} (law : Law K N G) where
       inner_begun : (room : ℕ) → Begun (opens_inner law.grammar toks i room)
       inner_begun zero n s (here, so) = passes_some (law.grammar.begins n) (slice_get toks s.at) so
       inner_begun (suc room) n s is =
-          let next = comes_first (spelled_inner law.grammar toks room) (inner_leads law toks room) (opens_inner law.grammar toks i room) (inner_begun room) (law.grammar.form n) s is in
+          let next = comes_first (spelled_inner law.grammar toks room) (inner_leads law toks room) (opens_inner law.grammar toks i room)
+          (inner_begun room) (law.grammar.form n) s is in
           (next.0, next.1, implied (first law.grammar (law.grammar.form n) next.0) (law.grammar.begins n next.0) (law.form_begins n next.0) next.2)
 
       inner_opens : (room : ℕ) (n : N) (s : State G) → opens_inner law.grammar toks i room n s → opens_guided law.grammar toks i room n s
@@ -209,20 +222,25 @@ module _ {K N G : Type 0} (law : Law K N G) where
       inner_opens (suc room) n s is =
           let next = inner_begun (suc room) n s is in (
             some_passes law (law.grammar.begins n) (slice_get toks s.at) next.0 next.1 next.2,
-            come (spelled_inner law.grammar toks room) (guided_inner law.grammar toks room) (inner_leads law toks room) (inner_guided law toks room) (opens_inner law.grammar toks i room)
-                (opens_guided law.grammar toks i room) (inner_begun room) (inner_opens room) (law.grammar.form n) (law.hints.follows n) (law.form_tells n) s is,
+            come (spelled_inner law.grammar toks room) (guided_inner law.grammar toks room) (inner_leads law toks room) (inner_guided law toks room)
+                (opens_inner law.grammar toks i room)
+                (opens_guided law.grammar toks i room) (inner_begun room) (inner_opens room) (law.grammar.form n) (law.hints.follows n)
+                (law.form_tells n) s is,
           )
 
       pub opens_so : (room : ℕ) → Opens law.grammar room toks i → OpensGuided law.grammar room toks i
       opens_so room is =
-          come (spelled_inner law.grammar toks room) (guided_inner law.grammar toks room) (inner_leads law toks room) (inner_guided law toks room) (opens_inner law.grammar toks i room)
+          come (spelled_inner law.grammar toks room) (guided_inner law.grammar toks room) (inner_leads law toks room) (inner_guided law toks room)
+          (opens_inner law.grammar toks i room)
           (opens_guided law.grammar toks i room) (inner_begun room) (inner_opens room) law.grammar.unit (λ t. false) law.unit_tells (start law.grammar) is
 
       inner_opened : (room : ℕ) (n : N) (s : State G) → opens_guided law.grammar toks i room n s → opens_inner law.grammar toks i room n s
       inner_opened zero n s is = is
-      inner_opened (suc room) n s (so, is) = came (guided_inner law.grammar toks room) (spelled_inner law.grammar toks room) (inner_plain law toks room) (opens_guided law.grammar toks i room)
+      inner_opened (suc room) n s (so, is) = came (guided_inner law.grammar toks room) (spelled_inner law.grammar toks room)
+          (inner_plain law toks room) (opens_guided law.grammar toks i room)
           (opens_inner law.grammar toks i room) (inner_opened room) (law.grammar.form n) s is
 
       pub opened_so : (room : ℕ) → OpensGuided law.grammar room toks i → Opens law.grammar room toks i
-      opened_so room is = came (guided_inner law.grammar toks room) (spelled_inner law.grammar toks room) (inner_plain law toks room) (opens_guided law.grammar toks i room)
+      opened_so room is = came (guided_inner law.grammar toks room) (spelled_inner law.grammar toks room) (inner_plain law toks room)
+          (opens_guided law.grammar toks i room)
           (opens_inner law.grammar toks i room) (inner_opened room) law.grammar.unit (start law.grammar) is

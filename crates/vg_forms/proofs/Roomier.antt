@@ -29,7 +29,8 @@ module _ {K N G : Type 0} (law : Law K N G) where
   keeps_either false x y z w h i = i
 
   module _ (toks : List (Token K)) where
-    keeps_turns : {A : Type 0} (n : ℕ) (test : Token K → Bool) (one two : Reads G (ℕ → A → Growth G A)) → ((s : State G) → Keeps (one s) (two s))
+    keeps_turns : {A : Type 0} (n : ℕ) (test : Token K → Bool) (one two : Reads G (ℕ → A → Growth G A)) → ((s : State G) → Keeps (one s)
+        (two s))
         → (at : ℕ) (a : A) (s : State G) → Keeps (turns toks n test one at a s) (turns toks n test two at a s)
     keeps_turns zero test one two h at a s = inr refl
     keeps_turns (suc n) test one two h at a s =
@@ -55,7 +56,8 @@ module _ {K N G : Type 0} (law : Law K N G) where
         keeps_bind (read_with toks one x s) (read_with toks two x s) (λ p. turns toks (length toks - p.1.at) test (read_with toks one more)
         (place_at toks s.at) p.0 p.1)
         (λ p. turns toks (length toks - p.1.at) test (read_with toks two more) (place_at toks s.at) p.0 p.1) (keeps one two h x s)
-        (λ a t. keeps_turns (length toks - t.at) test (read_with toks one more) (read_with toks two more) (λ u. keeps one two h more u) (place_at toks s.at) a t)
+        (λ a t. keeps_turns (length toks - t.at) test (read_with toks one more) (read_with toks two more) (λ u. keeps one two h more u)
+        (place_at toks s.at) a t)
     keeps one two h (Inner n) s = h n s
     keeps one two h (Made f) s = keeps_bind (read_with toks one f s) (read_with toks two f s) (λ p. Ok (grown (p.0 p.1.tree) p.1))
         (λ p. Ok (grown (p.0 p.1.tree) p.1)) (keeps one two h f s) (λ g t. inr refl)
@@ -70,7 +72,8 @@ module _ {K N G : Type 0} (law : Law K N G) where
         (keeps (read_inner law.grammar toks room) (read_inner law.grammar toks (suc room)) (λ m u. inner_more room m u) (law.grammar.form n) s) (inr refl)
 
     -- a wrong token is wrong with any more room
-    pub still_wrong : {A : Type 0} (more room e : ℕ) (f : Form K N G A) (s : State G) → read law.grammar toks room f s ≡ Err (Wrong e) → read law.grammar toks (room + more) f s ≡ Err (Wrong e)
+    pub still_wrong : {A : Type 0} (more room e : ℕ) (f : Form K N G A) (s : State G) → read law.grammar toks room f s ≡ Err (Wrong e)
+        → read law.grammar toks (room + more) f s ≡ Err (Wrong e)
     still_wrong zero room e f s is = let same : room ≡ room + 0 = omega arith in subst (λ (r : ℕ). read law.grammar toks r f s ≡ Err (Wrong e)) same is
     still_wrong (suc more) room e f s is =
         let before = still_wrong more room e f s is in

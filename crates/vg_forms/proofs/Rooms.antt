@@ -9,11 +9,13 @@ use Rattle.vg_forms.proofs.Checks.{Law}
 
 module _ {K N G : Type 0} (law : Law K N G) where
   module _ (toks : List (Token K)) where
-    pub inner_wrong : (room : ℕ) (n : N) (s : State G) → passes (law.grammar.begins n) (slice_get toks s.at) ≡ false → read_inner law.grammar toks room n s ≡ Err (Wrong s.at)
+    pub inner_wrong : (room : ℕ) (n : N) (s : State G) → passes (law.grammar.begins n) (slice_get toks s.at) ≡ false
+        → read_inner law.grammar toks room n s ≡ Err (Wrong s.at)
     inner_wrong zero n s unless = rw unless refl
     inner_wrong (suc room) n s unless = rw unless refl
 
-    pub inner_deep : (room : ℕ) (n : N) (s : State G) → passes (law.grammar.begins n) (slice_get toks s.at) ≡ true → room ≡ 0 → read_inner law.grammar toks room n s ≡ Err (Deep s.at)
+    pub inner_deep : (room : ℕ) (n : N) (s : State G) → passes (law.grammar.begins n) (slice_get toks s.at) ≡ true → room ≡ 0
+        → read_inner law.grammar toks room n s ≡ Err (Deep s.at)
     inner_deep zero n s so none = rw so refl
     inner_deep (suc room) n s so none = absurd (omega (arith, none))
 
@@ -26,5 +28,6 @@ module _ {K N G : Type 0} (law : Law K N G) where
   inner_gains toks zero n s a t e = either_side (passes (law.grammar.begins n) (slice_get toks s.at)) (λ so is. absurd (cc)) (λ unless is. absurd (cc)) e
   inner_gains toks (suc room) n s a t e =
       either_side (passes (law.grammar.begins n) (slice_get toks s.at))
-      (λ so is. subst (λ b. further b s.at ≤ t.at) (law.form_eats n) (gains law toks (read_inner law.grammar toks room) (inner_gains toks room) (law.grammar.form n) s a t is))
+      (λ so is. subst (λ b. further b s.at ≤ t.at) (law.form_eats n) (gains law toks (read_inner law.grammar toks room) (inner_gains toks room)
+      (law.grammar.form n) s a t is))
       (λ unless is. absurd (cc)) e

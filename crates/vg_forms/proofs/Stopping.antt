@@ -53,7 +53,8 @@ module _ {K N G : Type 0} (law : Law K N G) where
   module _ (toks : List (Token K)) where
     turns_stop : {A : Type 0} (left : ℕ) (test : Token K → Bool) (more : Reads G (ℕ → A → Growth G A)) (says : Spelled G (ℕ → A → Growth G A))
         (stops : State G → Type 0) (e : Refusal)
-        → ((s : State G) (g : ℕ → A → Growth G A) (t : State G) → more s ≡ Ok (g, t) → says s g t) → ((s : State G) → more s ≡ Err e → stops s)
+        → ((s : State G) (g : ℕ → A → Growth G A) (t : State G) → more s ≡ Ok (g, t) → says s g t) → ((s : State G) → more s
+        ≡ Err e → stops s)
         → (at : ℕ) (a : A) (s : State G) → turns toks left test more at a s ≡ Err e → (n : ℕ) × GuidedTurnsTo toks n test says stops at a s
     turns_stop zero test more says stops e h k at a s is = absurd (cc)
     turns_stop (suc left) test more says stops e h k at a s is =
@@ -70,7 +71,8 @@ module _ {K N G : Type 0} (law : Law K N G) where
               let value : (g at a u.tree).0 ≡ later.0.0 = same_value law one.2 in
               let state : record u { tree = (g at a u.tree).1 } ≡ later.0.1 = same_state law one.2 in
               let rest : turns toks left test more at (g at a u.tree).0 (record u { tree = (g at a u.tree).1 }) ≡ Err e =
-              ap (λ (v : State G). turns toks left test more at (g at a u.tree).0 v) state ∙ ap (λ c. turns toks left test more at c later.0.1) value ∙ later.2 in
+              ap (λ (v : State G). turns toks left test more at (g at a u.tree).0 v) state ∙ ap
+              (λ c. turns toks left test more at c later.0.1) value ∙ later.2 in
               let more_turns = turns_stop left test more says stops e h k at (g at a u.tree).0 (record u { tree = (g at a u.tree).1 }) rest in
               (suc more_turns.0, (so, g, u, h s g u one.1, more_turns.1))
         ])
@@ -80,7 +82,8 @@ module _ {K N G : Type 0} (law : Law K N G) where
         → Gains law toks inner
         → ((n : N) (s : State G) (a : ℕ) (t : State G) → inner n s ≡ Ok (a, t) → says n s a t)
         → ((s : State G) → e ≡ Wrong s.at → lacks s) → ((n : N) (s : State G) → inner n s ≡ Err e → deeper n s)
-        → {A : Type 0} (f : Form K N G A) → tidy f ≡ true → (s : State G) → read_with toks inner f s ≡ Err e → comes_guided toks says lacks deeper f s
+        → {A : Type 0} (f : Form K N G A) → tidy f ≡ true → (s : State G) → read_with toks inner f s ≡ Err e
+        → comes_guided toks says lacks deeper f s
     stops_with inner says lacks deeper e gain ok one more (Plain a) neat s is = absurd (cc)
     stops_with inner says lacks deeper e gain ok one more Place neat s is = absurd (cc)
     stops_with inner says lacks deeper e gain ok one more (One test) neat s is = let stop = taken_stops (tested test (slice_get toks s.at)) s e is in
@@ -133,12 +136,14 @@ module _ {K N G : Type 0} (law : Law K N G) where
     never_wrong i s e = cc
 
     inner_lacks : (room i : ℕ) (n : N) (s : State G) → read_inner law.grammar toks room n s ≡ Err (Wrong i) → lacks_guided law.grammar toks i room n s
-    inner_lacks zero i n s is = either_side (passes (law.grammar.begins n) (slice_get toks s.at)) (λ so is. absurd (cc is)) (λ unless is. (cc is, unless)) is
+    inner_lacks zero i n s is = either_side (passes (law.grammar.begins n) (slice_get toks s.at)) (λ so is. absurd (cc is)) (λ unless is.
+        (cc is, unless)) is
     inner_lacks (suc room) i n s is =
         either_side (passes (law.grammar.begins n) (slice_get toks s.at))
         (λ so is. inr (
           so,
-          stops_with (read_inner law.grammar toks room) (guided_inner law.grammar toks room) (λ u. u.at ≡ i) (lacks_guided law.grammar toks i room) (Wrong i) (inner_gains law toks room)
+          stops_with (read_inner law.grammar toks room) (guided_inner law.grammar toks room) (λ u. u.at ≡ i) (lacks_guided law.grammar toks i room)
+              (Wrong i) (inner_gains law toks room)
               (inner_sound law toks room) (lacks_at i)
               (λ m u h. inner_lacks room i m u h) (law.grammar.form n) (law.form_tidy n) s is,
         ))
@@ -150,31 +155,40 @@ module _ {K N G : Type 0} (law : Law K N G) where
         either_side (passes (law.grammar.begins n) (slice_get toks s.at))
         (λ so is. (
           so,
-          stops_with (read_inner law.grammar toks room) (guided_inner law.grammar toks room) (λ u. ⊥) (opens_guided law.grammar toks i room) (Deep i) (inner_gains law toks room)
+          stops_with (read_inner law.grammar toks room) (guided_inner law.grammar toks room) (λ u. ⊥) (opens_guided law.grammar toks i room)
+              (Deep i) (inner_gains law toks room)
               (inner_sound law toks room) (never_wrong i)
               (λ m u h. inner_opens room i m u h) (law.grammar.form n) (law.form_tidy n) s is,
         ))
         (λ unless is. absurd (cc is)) is
 
-    pub unit_lacks : (room i : ℕ) → read law.grammar toks room law.grammar.unit (start law.grammar) ≡ Err (Wrong i) → LacksGuided law.grammar room toks i
+    pub unit_lacks : (room i : ℕ) → read law.grammar toks room law.grammar.unit (start law.grammar) ≡ Err (Wrong i)
+        → LacksGuided law.grammar room toks i
     unit_lacks room i is =
-        stops_with (read_inner law.grammar toks room) (guided_inner law.grammar toks room) (λ u. u.at ≡ i) (lacks_guided law.grammar toks i room) (Wrong i) (inner_gains law toks room)
+        stops_with (read_inner law.grammar toks room) (guided_inner law.grammar toks room) (λ u. u.at ≡ i) (lacks_guided law.grammar toks i room)
+        (Wrong i) (inner_gains law toks room)
         (inner_sound law toks room) (lacks_at i) (inner_lacks room i) law.grammar.unit law.unit_tidy (start law.grammar) is
 
-    pub unit_opens : (room i : ℕ) → read law.grammar toks room law.grammar.unit (start law.grammar) ≡ Err (Deep i) → OpensGuided law.grammar room toks i
+    pub unit_opens : (room i : ℕ) → read law.grammar toks room law.grammar.unit (start law.grammar) ≡ Err (Deep i)
+        → OpensGuided law.grammar room toks i
     unit_opens room i is =
-        stops_with (read_inner law.grammar toks room) (guided_inner law.grammar toks room) (λ u. ⊥) (opens_guided law.grammar toks i room) (Deep i) (inner_gains law toks room)
+        stops_with (read_inner law.grammar toks room) (guided_inner law.grammar toks room) (λ u. ⊥) (opens_guided law.grammar toks i room) (Deep i)
+        (inner_gains law toks room)
         (inner_sound law toks room) (never_wrong i) (inner_opens room i) law.grammar.unit law.unit_tidy (start law.grammar) is
 
     -- and where the grammar comes to such a place, reading stops there
-    turns_back : {A : Type 0} (n left : ℕ) (test : Token K → Bool) (more : Reads G (ℕ → A → Growth G A)) (says : Spelled G (ℕ → A → Growth G A))
+    turns_back : {A : Type 0} (n left : ℕ) (test : Token K → Bool) (more : Reads G (ℕ → A → Growth G A)) (says : Spelled G (ℕ → A
+        → Growth G A))
         (stops : State G → Type 0) (e : Refusal)
-        → ((s : State G) (g : ℕ → A → Growth G A) (t : State G) → says s g t → more s ≡ Ok (g, t)) → ((s : State G) → stops s → more s ≡ Err e)
+        → ((s : State G) (g : ℕ → A → Growth G A) (t : State G) → says s g t → more s ≡ Ok (g, t)) → ((s : State G) → stops s
+        → more s ≡ Err e)
         → ((s : State G) (g : ℕ → A → Growth G A) (t : State G) → more s ≡ Ok (g, t) → s.at + 1 ≤ t.at)
-        → (at : ℕ) (a : A) (s : State G) → length toks ≤ left + s.at → GuidedTurnsTo toks n test says stops at a s → turns toks left test more at a s ≡ Err e
+        → (at : ℕ) (a : A) (s : State G) → length toks ≤ left + s.at → GuidedTurnsTo toks n test says stops at a s
+        → turns toks left test more at a s ≡ Err e
     turns_back zero zero test more says stops e h k on at a s enough (so, stop) = absurd (omega (arith, enough, some_next law toks test s.at so))
     turns_back zero (suc left) test more says stops e h k on at a s enough (so, stop) = rw (so, k s stop) refl
-    turns_back (suc n) zero test more says stops e h k on at a s enough (so, g, u, first, rest) = absurd (omega (arith, enough, some_next law toks test s.at so))
+    turns_back (suc n) zero test more says stops e h k on at a s enough (so, g, u, first, rest) = absurd (omega
+        (arith, enough, some_next law toks test s.at so))
     turns_back (suc n) (suc left) test more says stops e h k on at a s enough (so, g, u, first, rest) =
         let one = h s g u first in
         let onward = on s g u one in
@@ -198,7 +212,8 @@ module _ {K N G : Type 0} (law : Law K N G) where
         → Gains law toks inner
         → ((n : N) (s : State G) (a : ℕ) (t : State G) → says n s a t → inner n s ≡ Ok (a, t))
         → ((s : State G) → lacks s → e ≡ Wrong s.at) → ((n : N) (s : State G) → deeper n s → inner n s ≡ Err e)
-        → {A : Type 0} (f : Form K N G A) → tidy f ≡ true → (s : State G) → comes_guided toks says lacks deeper f s → read_with toks inner f s ≡ Err e
+        → {A : Type 0} (f : Form K N G A) → tidy f ≡ true → (s : State G) → comes_guided toks says lacks deeper f s
+        → read_with toks inner f s ≡ Err e
     comes_back inner says lacks deeper e gain ok one more (Plain a) neat s is = absurd is
     comes_back inner says lacks deeper e gain ok one more Place neat s is = absurd is
     comes_back inner says lacks deeper e gain ok one more (One test) neat s (here, none) = one_back test s e (one s here) none
@@ -221,9 +236,11 @@ module _ {K N G : Type 0} (law : Law K N G) where
     comes_back inner says lacks deeper e gain ok one more (Chain test x rest) neat s (inr (a, u, n, first, later)) =
         let all = and_parts (tidy x && eats rest) (tidy rest) neat in
         let front = and_parts (tidy x) (eats rest) all.0 in
-        let back = turns_back n (length toks - u.at) test (read_with toks inner rest) (guided_with toks says rest) (comes_guided toks says lacks deeper rest) e
+        let back = turns_back n (length toks - u.at) test (read_with toks inner rest) (guided_with toks says rest)
+        (comes_guided toks says lacks deeper rest) e
         (λ v g w h. complete law toks inner says gain ok rest all.1 v g w h) (λ v h. comes_back inner says lacks deeper e gain ok one more rest all.1 v h)
-        (λ v g w is. subst (λ (c : Bool). further c v.at ≤ w.at) front.1 (gains law toks inner gain rest v g w is)) (place_at toks s.at) a u (omega arith) later in
+        (λ v g w is. subst (λ (c : Bool). further c v.at ≤ w.at) front.1 (gains law toks inner gain rest v g w is)) (place_at toks s.at) a u
+        (omega arith) later in
         rw (complete law toks inner says gain ok x front.0 s a u first) back
     comes_back inner says lacks deeper e gain ok one more (Inner n) neat s is = more n s is
     comes_back inner says lacks deeper e gain ok one more (Made f) neat s is = rw (comes_back inner says lacks deeper e gain ok one more f neat s is) refl
@@ -235,20 +252,26 @@ module _ {K N G : Type 0} (law : Law K N G) where
     lacks_back zero i n s (here, unless) = rw unless (ap (λ j. Err (Wrong j)) here)
     lacks_back (suc room) i n s (inl (here, unless)) = rw unless (ap (λ j. Err (Wrong j)) here)
     lacks_back (suc room) i n s (inr (so, is)) =
-        rw so (comes_back (read_inner law.grammar toks room) (guided_inner law.grammar toks room) (λ u. u.at ≡ i) (lacks_guided law.grammar toks i room) (Wrong i) (inner_gains law toks room)
+        rw so (comes_back (read_inner law.grammar toks room) (guided_inner law.grammar toks room) (λ u. u.at ≡ i)
+        (lacks_guided law.grammar toks i room) (Wrong i) (inner_gains law toks room)
         (inner_complete law toks room) (back_at i) (λ m u h. lacks_back room i m u h) (law.grammar.form n) (law.form_tidy n) s is)
 
     opens_back : (room i : ℕ) (n : N) (s : State G) → opens_guided law.grammar toks i room n s → read_inner law.grammar toks room n s ≡ Err (Deep i)
     opens_back zero i n s (here, so) = rw so (ap (λ j. Err (Deep j)) here)
     opens_back (suc room) i n s (so, is) =
-        rw so (comes_back (read_inner law.grammar toks room) (guided_inner law.grammar toks room) (λ u. ⊥) (opens_guided law.grammar toks i room) (Deep i) (inner_gains law toks room)
+        rw so (comes_back (read_inner law.grammar toks room) (guided_inner law.grammar toks room) (λ u. ⊥) (opens_guided law.grammar toks i room)
+        (Deep i) (inner_gains law toks room)
         (inner_complete law toks room) (λ u none. absurd none) (λ m u h. opens_back room i m u h) (law.grammar.form n) (law.form_tidy n) s is)
 
-    pub unit_lacked : (room i : ℕ) → LacksGuided law.grammar room toks i → read law.grammar toks room law.grammar.unit (start law.grammar) ≡ Err (Wrong i)
-    unit_lacked room i is = comes_back (read_inner law.grammar toks room) (guided_inner law.grammar toks room) (λ u. u.at ≡ i) (lacks_guided law.grammar toks i room) (Wrong i)
+    pub unit_lacked : (room i : ℕ) → LacksGuided law.grammar room toks i → read law.grammar toks room law.grammar.unit (start law.grammar)
+        ≡ Err (Wrong i)
+    unit_lacked room i is = comes_back (read_inner law.grammar toks room) (guided_inner law.grammar toks room) (λ u. u.at ≡ i)
+        (lacks_guided law.grammar toks i room) (Wrong i)
         (inner_gains law toks room) (inner_complete law toks room) (back_at i) (lacks_back room i) law.grammar.unit law.unit_tidy (start law.grammar) is
 
-    pub unit_opened : (room i : ℕ) → OpensGuided law.grammar room toks i → read law.grammar toks room law.grammar.unit (start law.grammar) ≡ Err (Deep i)
+    pub unit_opened : (room i : ℕ) → OpensGuided law.grammar room toks i → read law.grammar toks room law.grammar.unit (start law.grammar)
+        ≡ Err (Deep i)
     unit_opened room i is =
-        comes_back (read_inner law.grammar toks room) (guided_inner law.grammar toks room) (λ u. ⊥) (opens_guided law.grammar toks i room) (Deep i) (inner_gains law toks room)
+        comes_back (read_inner law.grammar toks room) (guided_inner law.grammar toks room) (λ u. ⊥) (opens_guided law.grammar toks i room) (Deep i)
+        (inner_gains law toks room)
         (inner_complete law toks room) (λ u none. absurd none) (opens_back room i) law.grammar.unit law.unit_tidy (start law.grammar) is

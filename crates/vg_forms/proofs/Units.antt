@@ -16,31 +16,39 @@ use Rattle.vg_forms.proofs.Checks.{Law}
 
 module _ {K N G : Type 0} (law : Law K N G) where
   module _ (toks : List (Token K)) where
-    pub inner_complete : (room : ℕ) (n : N) (s : State G) (a : ℕ) (t : State G) → guided_inner law.grammar toks room n s a t → read_inner law.grammar toks room n s ≡ Ok (a, t)
+    pub inner_complete : (room : ℕ) (n : N) (s : State G) (a : ℕ) (t : State G) → guided_inner law.grammar toks room n s a t
+        → read_inner law.grammar toks room n s ≡ Ok (a, t)
     inner_complete zero n s a t is = absurd is
     inner_complete (suc room) n s a t (so, is) =
-        rw so (complete law toks (read_inner law.grammar toks room) (guided_inner law.grammar toks room) (inner_gains law toks room) (λ m u b v h. inner_complete room m u b v h)
+        rw so (complete law toks (read_inner law.grammar toks room) (guided_inner law.grammar toks room) (inner_gains law toks room)
+        (λ m u b v h. inner_complete room m u b v h)
         (law.grammar.form n) (law.form_tidy n) s a t is)
 
-    pub inner_sound : (room : ℕ) (n : N) (s : State G) (a : ℕ) (t : State G) → read_inner law.grammar toks room n s ≡ Ok (a, t) → guided_inner law.grammar toks room n s a t
+    pub inner_sound : (room : ℕ) (n : N) (s : State G) (a : ℕ) (t : State G) → read_inner law.grammar toks room n s ≡ Ok (a, t)
+        → guided_inner law.grammar toks room n s a t
     inner_sound zero n s a t e = either_side (passes (law.grammar.begins n) (slice_get toks s.at)) (λ so is. absurd (cc)) (λ unless is. absurd (cc)) e
     inner_sound (suc room) n s a t e =
         either_side (passes (law.grammar.begins n) (slice_get toks s.at))
         (λ so is. (
           so,
-          sound law toks (read_inner law.grammar toks room) (guided_inner law.grammar toks room) (inner_gains law toks room) (λ m u b v h. inner_sound room m u b v h)
+          sound law toks (read_inner law.grammar toks room) (guided_inner law.grammar toks room) (inner_gains law toks room)
+              (λ m u b v h. inner_sound room m u b v h)
               (law.grammar.form n) (law.form_tidy n) s a t is,
         ))
         (λ unless is. absurd (cc)) e
 
-    pub all_complete : {A : Type 0} (room : ℕ) (f : Form K N G A) → tidy f ≡ true → (s : State G) (a : A) (t : State G) → guided law.grammar toks room f s a t
+    pub all_complete : {A : Type 0} (room : ℕ) (f : Form K N G A) → tidy f ≡ true → (s : State G) (a : A) (t : State G)
+        → guided law.grammar toks room f s a t
         → read law.grammar toks room f s ≡ Ok (a, t)
-    all_complete room f neat s a t is = complete law toks (read_inner law.grammar toks room) (guided_inner law.grammar toks room) (inner_gains law toks room) (inner_complete room) f
+    all_complete room f neat s a t is = complete law toks (read_inner law.grammar toks room) (guided_inner law.grammar toks room)
+        (inner_gains law toks room) (inner_complete room) f
         neat s a t is
 
-    pub all_sound : {A : Type 0} (room : ℕ) (f : Form K N G A) → tidy f ≡ true → (s : State G) (a : A) (t : State G) → read law.grammar toks room f s ≡ Ok (a, t)
+    pub all_sound : {A : Type 0} (room : ℕ) (f : Form K N G A) → tidy f ≡ true → (s : State G) (a : A) (t : State G)
+        → read law.grammar toks room f s ≡ Ok (a, t)
         → guided law.grammar toks room f s a t
-    all_sound room f neat s a t e = sound law toks (read_inner law.grammar toks room) (guided_inner law.grammar toks room) (inner_gains law toks room) (inner_sound room) f neat s a t e
+    all_sound room f neat s a t e = sound law toks (read_inner law.grammar toks room) (guided_inner law.grammar toks room) (inner_gains law toks room)
+        (inner_sound room) f neat s a t e
 
     -- nothing goes past the last token
     Stays : {A : Type 0} → Spelled G A → Type 0
@@ -48,13 +56,16 @@ module _ {K N G : Type 0} (law : Law K N G) where
 
     turns_stay : {A : Type 0} (n : ℕ) (test : Token K → Bool) (more : Spelled G (ℕ → A → Growth G A))
         → ((s : State G) (g : ℕ → A → Growth G A) (t : State G) → more s g t → s.at ≤ length toks → t.at ≤ length toks)
-        → (at : ℕ) (a : A) (s : State G) (b : A) (t : State G) → GuidedTurns toks n test more at a s b t → s.at ≤ length toks → t.at ≤ length toks
+        → (at : ℕ) (a : A) (s : State G) (b : A) (t : State G) → GuidedTurns toks n test more at a s b t → s.at ≤ length toks
+        → t.at ≤ length toks
     turns_stay zero test more h at a s b t (unless, same, to) within = subst (λ (u : State G). u.at ≤ length toks) (sym to) within
     turns_stay (suc n) test more h at a s b t (so, g, u, one, rest) within =
         turns_stay n test more h at (g at a u.tree).0 (record u { tree = (g at a u.tree).1 }) b t rest (h s g u one within)
 
-    stays_with : (says : N → Spelled G ℕ) → ((n : N) (s : State G) (a : ℕ) (t : State G) → says n s a t → s.at ≤ length toks → t.at ≤ length toks)
-        → {A : Type 0} (f : Form K N G A) (s : State G) (a : A) (t : State G) → guided_with toks says f s a t → s.at ≤ length toks → t.at ≤ length toks
+    stays_with : (says : N → Spelled G ℕ) → ((n : N) (s : State G) (a : ℕ) (t : State G) → says n s a t → s.at ≤ length toks
+        → t.at ≤ length toks)
+        → {A : Type 0} (f : Form K N G A) (s : State G) (a : A) (t : State G) → guided_with toks says f s a t → s.at ≤ length toks
+        → t.at ≤ length toks
     stays_with says h (Plain b) s a t (same, to) within = subst (λ (u : State G). u.at ≤ length toks) (sym to) within
     stays_with says h Place s a t (same, to) within = subst (λ (u : State G). u.at ≤ length toks) (sym to) within
     stays_with says h (One test) s a t (x, found, is, to) within = subst (λ (u : State G). u.at ≤ length toks) (sym to)
@@ -67,18 +78,22 @@ module _ {K N G : Type 0} (law : Law K N G) where
         turns_stay n test (guided_with toks says more) (λ v g w is. stays_with says h more v g w is) (place_at toks s.at) a u b t rest
         (stays_with says h x s a u one within)
     stays_with says h (Inner n) s a t is within = h n s a t is within
-    stays_with says h (Made f) s a t (g, u, one, same, to) within = subst (λ (v : State G). v.at ≤ length toks) (sym to) (stays_with says h f s g u one within)
+    stays_with says h (Made f) s a t (g, u, one, same, to) within = subst (λ (v : State G). v.at ≤ length toks) (sym to)
+        (stays_with says h f s g u one within)
 
-    inner_stays : (room : ℕ) (n : N) (s : State G) (a : ℕ) (t : State G) → guided_inner law.grammar toks room n s a t → s.at ≤ length toks → t.at ≤ length toks
+    inner_stays : (room : ℕ) (n : N) (s : State G) (a : ℕ) (t : State G) → guided_inner law.grammar toks room n s a t → s.at ≤ length toks
+        → t.at ≤ length toks
     inner_stays zero n s a t is within = absurd is
-    inner_stays (suc room) n s a t (so, is) within = stays_with (guided_inner law.grammar toks room) (λ m u b v h. inner_stays room m u b v h) (law.grammar.form n) s a t is within
+    inner_stays (suc room) n s a t (so, is) within = stays_with (guided_inner law.grammar toks room) (λ m u b v h. inner_stays room m u b v h)
+        (law.grammar.form n) s a t is within
 
-    unit_ends : (room root : ℕ) (t : State G) → guided law.grammar toks room law.grammar.unit (start law.grammar) root t → t.at ≡ length toks
+    pub unit_ends : (room root : ℕ) (t : State G) → guided law.grammar toks room law.grammar.unit (start law.grammar) root t → t.at ≡ length toks
     unit_ends room root t is = law.unit_ends toks room root t is (stays_with (guided_inner law.grammar toks room) (inner_stays room) law.grammar.unit
         (start law.grammar) root t is (omega arith))
 
     -- a text that is read is spelled, and one that is gone along is read
-    pub unit_spelled : (room root : ℕ) (t : State G) → read law.grammar toks room law.grammar.unit (start law.grammar) ≡ Ok (root, t) → Guides law.grammar room toks t.tree
+    pub unit_spelled : (room root : ℕ) (t : State G) → read law.grammar toks room law.grammar.unit (start law.grammar) ≡ Ok (root, t)
+        → Guides law.grammar room toks t.tree
     unit_spelled room root t e =
         let is = all_sound room law.grammar.unit law.unit_tidy (start law.grammar) root t e in
         let to : t ≡ record { at = length toks; tree = t.tree } = ap (λ (i : ℕ). record t { at = i }) (unit_ends room root t is) in
@@ -121,10 +136,14 @@ module _ {K N G : Type 0} (law : Law K N G) where
     wider one two h (Inner n) s a t is = h n s a t is
     wider one two h (Made f) s a t (g, u, first, same, to) = (g, u, wider one two h f s g u first, same, to)
 
-    inner_wider : (room : ℕ) (n : N) (s : State G) (a : ℕ) (t : State G) → guided_inner law.grammar toks room n s a t → guided_inner law.grammar toks (suc room) n s a t
+    inner_wider : (room : ℕ) (n : N) (s : State G) (a : ℕ) (t : State G) → guided_inner law.grammar toks room n s a t
+        → guided_inner law.grammar toks (suc room) n s a t
     inner_wider zero n s a t is = absurd is
-    inner_wider (suc room) n s a t (so, is) =
-        (so, wider (guided_inner law.grammar toks room) (guided_inner law.grammar toks (suc room)) (λ m u b v h. inner_wider room m u b v h) (law.grammar.form n) s a t is)
+    inner_wider (suc room) n s a t (so, is) = (
+      so,
+      wider (guided_inner law.grammar toks room) (guided_inner law.grammar toks (suc room)) (λ m u b v h. inner_wider room m u b v h)
+          (law.grammar.form n) s a t is,
+    )
 
     pub spells_wider : (room : ℕ) (tree : G) → Guides law.grammar room toks tree → Guides law.grammar (suc room) toks tree
     spells_wider room tree is = (

@@ -16,50 +16,50 @@ use Rattle.vg_stree.specs.declared.code.Operation.{Operation}
 use Rattle.vg_sgrammar.specs.Written.{Written}
 use Rattle.vg_sgrammar.specs.Kinds.{SToken, is_sign, is_word, is_binary, binary_of, any_token}
 use Rattle.vg_sgrammar.specs.Rules.{Nested, Expression, Operand, Statement, Block, SForm, sgrammar, begins, form, sign, word, name, number, number_alone}
-use Rattle.vg_sgrammar.specs.Rules.{some_expressions, arguments, behind_name, frame_word, pair, framed, parens, has, frame_primary, cell_primary}
+use Rattle.vg_sgrammar.specs.Rules.{some_expressions, next_expression, ranked, arguments, behind_name, frame_word, pair, framed, parens, has, frame_primary, cell_primary}
 use Rattle.vg_sgrammar.specs.Rules.{known, named_primary, primary, unary, operator, operation_of, operation}
 use Rattle.vg_sgrammar.specs.Rules.{operations, binary, expression, otherwise, assigned, let_statement, alone, send_statement, if_statement}
-use Rattle.vg_sgrammar.specs.Rules.{frame_statement, cell_statement, expire_statement, key, keyed, indexed, lookup_statement, statement, statements}
-use Rattle.vg_sgrammar.specs.Rules.{block, ports, width, config, premise, field_type, field, fields, struct, size, link, vector, prefix, rule}
-use Rattle.vg_sgrammar.specs.Rules.{some_names, parameters, define, declaration, declarations, specification}
+use Rattle.vg_sgrammar.specs.Rules.{frame_statement, cell_statement, expire_statement, key, keyed, indexed, lookup_statement, link_statement, statement, statements}
+use Rattle.vg_sgrammar.specs.Rules.{block, ports, width, config, premise, field_type, field, fields, struct_declaration, size, link, vector, prefix, rule}
+use Rattle.vg_sgrammar.specs.Rules.{some_names, next_name, parameters, define, declaration, declarations, ended, specification}
 
 and_both : (a b : Bool) → a ≡ true → b ≡ true → (a && b) ≡ true
 and_both a b one two = rw (one, two) refl
 
 -- each counted construct has a token
 pub binary_eats : (rank : ℕ) → eats (binary rank) ≡ true
-unfolding binary operations operation operator unary primary parens has frame_primary cell_primary known named_primary framed frame_word
-    number_alone behind_name arguments some_expressions sign word name number
+unfolding binary ranked operations operation operator unary primary parens has frame_primary cell_primary known named_primary framed
+    frame_word number_alone behind_name arguments some_expressions next_expression sign word name number
 binary_eats zero = refl
 binary_eats (suc rank) = rw (binary_eats rank) refl
 
 pub form_eats : (n : Nested) → eats (form n) ≡ true
 unfolding expression unary primary statement block statements parens has frame_primary cell_primary known named_primary framed frame_word
-    number_alone behind_name arguments some_expressions sign word name number assigned otherwise let_statement alone send_statement
-    if_statement frame_statement cell_statement expire_statement key keyed indexed lookup_statement
+    number_alone behind_name arguments some_expressions next_expression sign word name number link_statement assigned otherwise let_statement
+    alone send_statement if_statement frame_statement cell_statement expire_statement key keyed indexed lookup_statement
 form_eats Expression = rw (binary_eats 10) refl
 form_eats Operand = refl
 form_eats Statement = refl
 form_eats Block = refl
 
 binary_tidy : (rank : ℕ) → tidy (binary rank) ≡ true
-unfolding binary operations operation operator unary primary parens has frame_primary cell_primary known named_primary framed frame_word
-    number_alone behind_name arguments some_expressions sign word name number
+unfolding binary ranked operations operation operator unary primary parens has frame_primary cell_primary known named_primary framed
+    frame_word number_alone behind_name arguments some_expressions next_expression sign word name number
 binary_tidy zero = refl
 binary_tidy (suc rank) = rw (binary_tidy rank) refl
 
 pub form_tidy : (n : Nested) → tidy (form n) ≡ true
 unfolding expression unary primary statement block statements parens has frame_primary cell_primary known named_primary framed frame_word
-    number_alone behind_name arguments some_expressions sign word name number assigned otherwise let_statement alone send_statement
-    if_statement frame_statement cell_statement expire_statement key keyed indexed lookup_statement
+    number_alone behind_name arguments some_expressions next_expression sign word name number link_statement assigned otherwise let_statement
+    alone send_statement if_statement frame_statement cell_statement expire_statement key keyed indexed lookup_statement
 form_tidy Expression = rw (binary_tidy 10) refl
 form_tidy Operand = refl
 form_tidy Statement = refl
 form_tidy Block = refl
 
 pub unit_tidy : tidy specification ≡ true
-unfolding specification declarations declaration ports config width premise struct fields field field_type link size vector prefix rule
-    define parameters some_names assigned sign word name number
+unfolding specification declarations declaration ended ports config width premise struct_declaration fields field field_type link size vector
+    prefix rule define parameters some_names next_name assigned sign word name number
 unit_tidy = refl
 
 -- hints
@@ -128,42 +128,42 @@ hints = record {
 -- the tests tell the sides
 operand_tells : (kind : TokenKind) (from to : ℕ) → tells sgrammar hints (form Operand) (follows Operand (record { kind = kind; from = from; to = to })) (record { kind = kind; from = from; to = to }) ≡ true
 unfolding unary primary parens has frame_primary cell_primary known named_primary framed frame_word number_alone behind_name arguments
-    some_expressions sign word name number
+    some_expressions next_expression sign word name number
 operand_tells (kinds.Sign signs.Plus) from to = refl
 operand_tells (kinds.Word words.If) from to = refl
 operand_tells _ from to = refl
 
 operand_begins : (kind : TokenKind) (from to : ℕ) → implies (first sgrammar (form Operand) (record { kind = kind; from = from; to = to })) (begins Operand (record { kind = kind; from = from; to = to })) ≡ true
 unfolding unary primary parens has frame_primary cell_primary known named_primary framed frame_word number_alone behind_name arguments
-    some_expressions sign word name number
+    some_expressions next_expression sign word name number
 operand_begins (kinds.Sign signs.Plus) from to = refl
 operand_begins (kinds.Word words.If) from to = refl
 operand_begins _ from to = refl
 
 expression_begins : (kind : TokenKind) (from to : ℕ) → implies (first sgrammar (form Expression) (record { kind = kind; from = from; to = to })) (begins Expression (record { kind = kind; from = from; to = to })) ≡ true
-unfolding expression binary operations operation operator unary primary parens has frame_primary cell_primary known named_primary framed
-    frame_word number_alone behind_name arguments some_expressions sign word name number
+unfolding expression binary ranked operations operation operator unary primary parens has frame_primary cell_primary known named_primary
+    framed frame_word number_alone behind_name arguments some_expressions next_expression sign word name number
 expression_begins (kinds.Sign signs.Plus) from to = refl
 expression_begins (kinds.Word words.If) from to = refl
 expression_begins _ from to = refl
 
 unary_tells : (kind : TokenKind) (from to : ℕ) → tells sgrammar hints unary false (record { kind = kind; from = from; to = to }) ≡ true
 unfolding unary primary parens has frame_primary cell_primary known named_primary framed frame_word number_alone behind_name arguments
-    some_expressions sign word name number
+    some_expressions next_expression sign word name number
 unary_tells (kinds.Sign signs.Plus) from to = refl
 unary_tells (kinds.Word words.If) from to = refl
 unary_tells _ from to = refl
 
 statement_tells : (kind : TokenKind) (from to : ℕ) → tells sgrammar hints (form Statement) (follows Statement (record { kind = kind; from = from; to = to })) (record { kind = kind; from = from; to = to }) ≡ true
-unfolding statement assigned otherwise let_statement alone send_statement if_statement frame_statement cell_statement expire_statement key
-    keyed indexed lookup_statement framed frame_word number_alone some_expressions sign word name number
+unfolding statement link_statement assigned otherwise let_statement alone send_statement if_statement frame_statement cell_statement
+    expire_statement key keyed indexed lookup_statement framed frame_word number_alone some_expressions next_expression sign word name number
 statement_tells (kinds.Sign signs.Plus) from to = refl
 statement_tells (kinds.Word words.If) from to = refl
 statement_tells _ from to = refl
 
 statement_begins : (kind : TokenKind) (from to : ℕ) → implies (first sgrammar (form Statement) (record { kind = kind; from = from; to = to })) (begins Statement (record { kind = kind; from = from; to = to })) ≡ true
-unfolding statement assigned otherwise let_statement alone send_statement if_statement frame_statement cell_statement expire_statement key
-    keyed indexed lookup_statement framed frame_word number_alone some_expressions sign word name number
+unfolding statement link_statement assigned otherwise let_statement alone send_statement if_statement frame_statement cell_statement
+    expire_statement key keyed indexed lookup_statement framed frame_word number_alone some_expressions next_expression sign word name number
 statement_begins (kinds.Sign signs.Plus) from to = refl
 statement_begins (kinds.Word words.If) from to = refl
 statement_begins _ from to = refl
@@ -181,8 +181,8 @@ block_begins (kinds.Word words.If) from to = refl
 block_begins _ from to = refl
 
 unit_kinds : (kind : TokenKind) (from to : ℕ) → tells sgrammar hints specification false (record { kind = kind; from = from; to = to }) ≡ true
-unfolding specification declarations declaration ports config width premise struct fields field field_type link size vector prefix rule
-    define parameters some_names assigned sign word name number
+unfolding specification declarations declaration ended ports config width premise struct_declaration fields field field_type link size vector
+    prefix rule define parameters some_names next_name assigned sign word name number
 unit_kinds (kinds.Sign signs.Plus) from to = refl
 unit_kinds (kinds.Word words.If) from to = refl
 unit_kinds _ from to = refl
@@ -205,7 +205,7 @@ and_true true = refl
 and_true false = refl
 
 binary_tells : (rank : ℕ) (behind : Bool) (t : SToken) → loose rank behind t ≡ true → tells sgrammar hints (binary rank) behind t ≡ true
-unfolding binary operations operation operator
+unfolding binary ranked operations operation operator
 binary_tells zero behind t is = any_tells behind t is
 binary_tells (suc rank) behind t is =
     let now = is_binary (suc rank) t in
@@ -278,7 +278,7 @@ closing P a b c d e f g t is = by t.kind t.from t.to is
 
 unary_stops : (t : SToken) → closes t ≡ true → stops hints unary t ≡ true
 unfolding unary primary parens has frame_primary cell_primary known named_primary framed frame_word number_alone behind_name arguments
-    some_expressions sign word name number
+    some_expressions next_expression sign word name number
 unary_stops t is = closing (λ t. stops hints unary t ≡ true) (λ from to. refl) (λ from to. refl) (λ from to. refl) (λ from to. refl) (λ from to. refl) (λ from to. refl) (λ from to. refl) t is
 
 choice_stops : (t : SToken) → closes t ≡ true → stops hints choice t ≡ true
@@ -286,8 +286,8 @@ unfolding sign
 choice_stops t is = closing (λ t. stops hints choice t ≡ true) (λ from to. refl) (λ from to. refl) (λ from to. refl) (λ from to. refl) (λ from to. refl) (λ from to. refl) (λ from to. refl) t is
 
 statement_stops : (t : SToken) → closes t ≡ true → stops hints statement t ≡ true
-unfolding statement assigned otherwise let_statement alone send_statement if_statement frame_statement cell_statement expire_statement key
-    keyed indexed lookup_statement framed frame_word number_alone some_expressions sign word name number
+unfolding statement link_statement assigned otherwise let_statement alone send_statement if_statement frame_statement cell_statement
+    expire_statement key keyed indexed lookup_statement framed frame_word number_alone some_expressions next_expression sign word name number
 statement_stops t is = closing (λ t. stops hints statement t ≡ true) (λ from to. refl) (λ from to. refl) (λ from to. refl) (λ from to. refl) (λ from to. refl) (λ from to. refl) (λ from to. refl) t is
 
 block_stops : (t : SToken) → closes t ≡ true → stops hints block t ≡ true
@@ -298,7 +298,7 @@ not_binary : (rank : ℕ) (t : SToken) → closes t ≡ true → not (is_binary 
 not_binary rank t is = closing (λ t. not (is_binary rank t) ≡ true) (λ from to. refl) (λ from to. refl) (λ from to. refl) (λ from to. refl) (λ from to. refl) (λ from to. refl) (λ from to. refl) t is
 
 binary_stops : (rank : ℕ) (t : SToken) → closes t ≡ true → stops hints (binary rank) t ≡ true
-unfolding binary operations operation operator
+unfolding binary ranked operations operation operator
 binary_stops zero t is = unary_stops t is
 binary_stops (suc rank) t is = rw (binary_stops rank t is, binary_eats rank, not_binary (suc rank) t is) refl
 
@@ -315,12 +315,12 @@ form_stops Block = block_stops
 -- shortest spellings
 unary_fits : fits hints unary ≡ true
 unfolding unary primary parens has frame_primary cell_primary known named_primary framed frame_word number_alone behind_name arguments
-    some_expressions sign word name number
+    some_expressions next_expression sign word name number
 unary_fits = refl
 
 binary_whole : (rank : ℕ) → whole hints (binary rank) ≡ token kinds.Name ∷ []
-unfolding binary operations operation operator unary primary parens has frame_primary cell_primary known named_primary framed frame_word
-    number_alone behind_name arguments some_expressions sign word name number
+unfolding binary ranked operations operation operator unary primary parens has frame_primary cell_primary known named_primary framed
+    frame_word number_alone behind_name arguments some_expressions next_expression sign word name number
 binary_whole zero = refl
 binary_whole (suc rank) = rw (binary_whole rank) refl
 
@@ -360,7 +360,7 @@ unfolding operations
 operations_whole rank = refl
 
 rank_fits : (rank : ℕ) → fits hints (binary rank) ≡ true → fits hints (operator (suc rank)) ≡ true → fits hints (binary (suc rank)) ≡ true
-unfolding binary
+unfolding binary ranked
 rank_fits rank is one = rw (
   is,
   operations_fit rank (operation_fits rank one is),
@@ -371,7 +371,7 @@ rank_fits rank is one = rw (
 ) refl
 
 binary_fits : fits hints (binary 10) ≡ true
-unfolding operator binary
+unfolding operator binary ranked
 binary_fits = rank_fits 9 (rank_fits 8 (rank_fits 7 (rank_fits 6 (rank_fits 5 (rank_fits 4 (rank_fits 3 (rank_fits 2 (rank_fits 1
     (rank_fits 0 unary_fits refl) refl) refl) refl) refl) refl) refl) refl) refl) refl
 
@@ -380,37 +380,38 @@ unfolding expression sign
 expression_fits = rw (binary_fits, binary_eats 10, binary_whole 10) refl
 
 pub form_fits : (n : Nested) → fits hints (form n) ≡ true
-unfolding statement block statements assigned otherwise let_statement alone send_statement if_statement frame_statement cell_statement
-    expire_statement key keyed indexed lookup_statement framed frame_word number_alone some_expressions sign word name number
+unfolding statement block statements link_statement assigned otherwise let_statement alone send_statement if_statement frame_statement
+    cell_statement expire_statement key keyed indexed lookup_statement framed frame_word number_alone some_expressions next_expression sign
+    word name number
 form_fits Expression = expression_fits
 form_fits Operand = unary_fits
 form_fits Statement = refl
 form_fits Block = refl
 
 pub unit_fits : fits hints specification ≡ true
-unfolding specification declarations declaration ports config width premise struct fields field field_type link size vector prefix rule
-    define parameters some_names assigned sign word name number
+unfolding specification declarations declaration ended ports config width premise struct_declaration fields field field_type link size vector
+    prefix rule define parameters some_names next_name assigned sign word name number
 unit_fits = refl
 
 pub form_whole : (n : Nested) → whole hints (form n) ≡ whole_inner n
 unfolding expression unary primary statement block statements parens has frame_primary cell_primary known named_primary framed frame_word
-    number_alone behind_name arguments some_expressions sign word name number assigned otherwise let_statement alone send_statement
-    if_statement frame_statement cell_statement expire_statement key keyed indexed lookup_statement
+    number_alone behind_name arguments some_expressions next_expression sign word name number link_statement assigned otherwise let_statement
+    alone send_statement if_statement frame_statement cell_statement expire_statement key keyed indexed lookup_statement
 form_whole Expression = rw (binary_whole 10) refl
 form_whole Operand = refl
 form_whole Statement = refl
 form_whole Block = refl
 
 binary_calls : (rank : ℕ) (ready : Nested → Bool) → calls ready (binary rank) ≡ true
-unfolding binary operations operation operator unary primary parens has frame_primary cell_primary known named_primary framed frame_word
-    number_alone behind_name arguments some_expressions sign word name number
+unfolding binary ranked operations operation operator unary primary parens has frame_primary cell_primary known named_primary framed
+    frame_word number_alone behind_name arguments some_expressions next_expression sign word name number
 binary_calls zero ready = refl
 binary_calls (suc rank) ready = rw (binary_calls rank ready) refl
 
 pub all_calls : (n : Nested) (ready : Nested → Bool) → calls ready (form n) ≡ true
 unfolding expression unary primary statement block statements parens has frame_primary cell_primary known named_primary framed frame_word
-    number_alone behind_name arguments some_expressions sign word name number assigned otherwise let_statement alone send_statement
-    if_statement frame_statement cell_statement expire_statement key keyed indexed lookup_statement
+    number_alone behind_name arguments some_expressions next_expression sign word name number link_statement assigned otherwise let_statement
+    alone send_statement if_statement frame_statement cell_statement expire_statement key keyed indexed lookup_statement
 all_calls Expression ready = rw (binary_calls 10 ready) refl
 all_calls Operand ready = refl
 all_calls Statement ready = refl
@@ -429,7 +430,7 @@ no_token toks i (Some t) is unless within = absurd (cc unless)
 
 pub unit_ends : (toks : List SToken) (room root : ℕ) (t : State Written) → guided sgrammar toks room specification (start sgrammar) root t
     → t.at ≤ length toks → t.at ≡ length toks
-unfolding specification
+unfolding specification ended
 unit_ends toks room root t (g, u, a, front, (unless, to), same) within =
     no_token toks t.at (slice_get toks t.at) refl (subst (λ (v : State Written). passes any_token (slice_get toks v.at) ≡ false) (sym to) unless) within
 

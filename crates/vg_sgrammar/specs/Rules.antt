@@ -61,8 +61,11 @@ unfoldable pub number_alone : SForm ℕ
 number_alone = Made (Plain (λ at n. grow.expression at (exprs.Number n)) ⊛ Place ⊛ number)
 
 -- some expressions: expression { , expression }
+unfoldable pub next_expression : SForm ℕ
+next_expression = sign signs.Comma ⊳ Inner Expression
+
 unfoldable pub some_expressions : SForm (List ℕ)
-some_expressions = Chain (is_sign signs.Comma) (Plain (λ n. n ∷ []) ⊛ Inner Expression) (Plain one_more ⊛ (sign signs.Comma ⊳ Inner Expression))
+some_expressions = Chain (is_sign signs.Comma) (Plain (λ n. n ∷ []) ⊛ Inner Expression) (Plain one_more ⊛ next_expression)
 
 -- arguments: [ some-expressions ]
 unfoldable pub arguments : SForm (List ℕ)
@@ -143,9 +146,12 @@ unfoldable pub operations : ℕ → SForm ℕ → SForm (List Operation)
 operations rank right = listed (is_binary rank) (operation rank right)
 
 -- binary of a rank: binary of the rank below, operations of the rank; of rank 0: unary
+unfoldable pub ranked : ℕ → SForm ℕ → SForm ℕ
+ranked rank below = Made (Plain chained ⊛ Place ⊛ below ⊛ operations rank below)
+
 unfoldable pub binary : ℕ → SForm ℕ
 binary zero = unary
-binary (suc rank) = Made (Plain chained ⊛ Place ⊛ binary rank ⊛ operations (suc rank) (binary rank))
+binary (suc rank) = ranked (suc rank) (binary rank)
 
 -- expression: binary of rank 10 [ ? expression : expression ]
 unfoldable pub expression : SForm ℕ
@@ -212,6 +218,17 @@ unfoldable pub lookup_statement : SForm ℕ
 lookup_statement = Made (Plain (λ at table address value a b. grow.statement at (stmts.Lookup table address value a b)) ⊛ Place ⊲ word words.Lookup ⊛ name
     ⊛ Inner Expression ⊲ word words.As ⊛ name ⊛ Inner Block ⊛ otherwise)
 
+-- a statement on a link or a table, or a drop
+unfoldable pub link_statement : SForm ℕ
+link_statement =
+    Either (is_word words.Expire) expire_statement
+    (Either (is_word words.Find) (keyed words.Find stmts.Find)
+    (Either (is_word words.Add) (keyed words.Add stmts.Add)
+    (Either (is_word words.Touch) (indexed words.Touch stmts.Touch)
+    (Either (is_word words.Remove) (indexed words.Remove stmts.Remove)
+    (Either (is_word words.Lookup) lookup_statement
+    (alone words.Drop stmts.Drop))))))
+
 -- statement: one of these
 unfoldable pub statement : SForm ℕ
 statement =
@@ -221,13 +238,7 @@ statement =
     (Either (is_word words.If) if_statement
     (Either (is_word words.Frame) frame_statement
     (Either is_name cell_statement
-    (Either (is_word words.Expire) expire_statement
-    (Either (is_word words.Find) (keyed words.Find stmts.Find)
-    (Either (is_word words.Add) (keyed words.Add stmts.Add)
-    (Either (is_word words.Touch) (indexed words.Touch stmts.Touch)
-    (Either (is_word words.Remove) (indexed words.Remove stmts.Remove)
-    (Either (is_word words.Lookup) lookup_statement
-    (alone words.Drop stmts.Drop))))))))))))
+    link_statement)))))
 
 -- block: { { statement } }
 unfoldable pub statements : SForm (List ℕ)
@@ -242,7 +253,7 @@ block = Made (Plain (λ at parts end. grow.block at parts end) ⊛ Place ⊲ sig
 unfoldable pub ports : SForm ℕ
 ports = Made (Plain (λ at n. grow.declaration at (decls.Ports n)) ⊛ Place ⊲ word words.Ports ⊛ number ⊲ sign signs.Semicolon)
 
--- range: : number .. number
+-- the width of a number
 unfoldable pub width : SForm Width
 width = One width_of
 
@@ -270,8 +281,8 @@ unfoldable pub fields : SForm (List Field)
 fields = Chain is_name (Plain (λ f. f ∷ []) ⊛ field) (Plain one_more ⊛ field)
 
 -- struct name { fields }
-unfoldable pub struct : SForm ℕ
-struct = Made (Plain struct_with ⊛ Place ⊲ word words.Struct ⊛ name ⊲ sign signs.LeftBrace ⊛ fields ⊲ sign signs.RightBrace)
+unfoldable pub struct_declaration : SForm ℕ
+struct_declaration = Made (Plain struct_with ⊛ Place ⊲ word words.Struct ⊛ name ⊲ sign signs.LeftBrace ⊛ fields ⊲ sign signs.RightBrace)
 
 -- size: number | name
 unfoldable pub size : SForm Size
@@ -298,8 +309,11 @@ rule = Made (Plain (λ at n value. grow.declaration at (decls.Rule n value)) ⊛
     ⊲ sign signs.Semicolon)
 
 -- parameters: [ name { , name } ]
+unfoldable pub next_name : SForm Name
+next_name = sign signs.Comma ⊳ name
+
 unfoldable pub some_names : SForm (List Name)
-some_names = Chain (is_sign signs.Comma) (Plain (λ n. n ∷ []) ⊛ name) (Plain one_more ⊛ (sign signs.Comma ⊳ name))
+some_names = Chain (is_sign signs.Comma) (Plain (λ n. n ∷ []) ⊛ name) (Plain one_more ⊛ next_name)
 
 unfoldable pub parameters : SForm (List Name)
 parameters = Either is_name some_names (Plain [])
@@ -314,7 +328,7 @@ declaration =
     Either (is_word words.Ports) ports
     (Either (is_word words.Config) config
     (Either (is_word words.Premise) premise
-    (Either (is_word words.Struct) struct
+    (Either (is_word words.Struct) struct_declaration
     (Either (is_word words.Link) link
     (Either (is_word words.Vector) vector
     (Either (is_word words.Prefix) prefix
@@ -327,9 +341,13 @@ done n at u = same tt
 unfoldable pub declarations : SForm (Unit {0})
 declarations = Chain begins_declaration (Plain tt) (Plain done ⊛ declaration)
 
+-- no token is left
+unfoldable pub ended : SForm (Unit {0})
+ended = Unless any_token
+
 -- a whole text: declarations step block, and nothing behind it
 unfoldable pub specification : SForm ℕ
-specification = Plain (λ u block. block) ⊛ declarations ⊲ word words.Step ⊛ Inner Block ⊲ Unless any_token
+specification = Plain (λ u block. block) ⊛ declarations ⊲ word words.Step ⊛ Inner Block ⊲ ended
 
 -- what the counted constructs begin with, for the reader, and their forms
 abbrev pub begins : Nested → SToken → Bool

@@ -7,7 +7,7 @@ ghost use Rattle.vg_forms.specs.declared.stops.Stop.TheVariants as stops;
 ghost use Rattle.vg_sgrammar.specs.Growing as grow;
 ghost use Rattle.vg_sgrammar.specs.Written.{with_items};
 ghost use Rattle.vg_sgrammar.specs.declared.tree.Expression.TheVariants as exprs;
-ghost use Rattle.vg_sgrammar.specs.Kinds.{is_sign, is_word, name_of, number_of, begins_expression};
+ghost use Rattle.vg_sgrammar.specs.Kinds.{is_sign, is_word, name_of, is_name, number_of, begins_expression};
 ghost use Rattle.vg_sgrammar.specs.Rules.{sgrammar, sign, word, name, number};
 ghost use Rattle.vg_sgrammar.specs.Reader.{reads, next};
 
@@ -127,6 +127,16 @@ impl Reader {
         ensures { result ≡ tested name_of (next src.entry self.now) }
     {
         name_of(self.next(src)?)
+    }
+
+    /// Whether the next token is a name.
+    pub fn next_is_name(&self, src: Source<'_>) -> bool
+        ensures { result ≡ passes is_name (next src.entry self.now) }
+    {
+        match self.next(src) {
+            Some(t) => name_of(t).is_some(),
+            None => false,
+        }
     }
 
     /// The next token as a number.
