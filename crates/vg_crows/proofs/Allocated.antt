@@ -1,5 +1,5 @@
 -- An index that is handed out, and its store.
-use Rattle.std.proofs.Common.{◌≡◌, ◌∙◌, sym, ap, subst, refl, ℕ, ◌-◌, ◌<◌, ◌≤◌, Bool, true, false, if◌then◌else◌, List, [], length, All, Option, Some, None, Result, Ok, Err}
+use Rattle.std.proofs.Common.{◌≡◌, ◌∙◌, sym, ap, subst, refl, ℕ, ◌-◌, ◌<◌, ◌≤◌, Bool, true, false, if◌then◌else◌, List, [], length, All, Option, Some, None, Result, Ok, Err, OnErr}
 use Rattle.std.specs.Prelude.{slice_get}
 use Rattle.std.specs.FinMap.{get}
 use Rattle.vg_core.specs.declared.reason.Reason.{Reason}
@@ -20,12 +20,13 @@ use Rattle.vg_abs.specs.Effects.{with_link, with_index}
 use Rattle.vg_abs.specs.Library.{Library, IsMapIn, IsVector, IsChain}
 use Rattle.vg_abs.specs.Rows.{ChainAllocate, is_used_up, effect, allocation}
 use Rattle.vg_crows.specs.declared.answer.Answer.TheVariants as answers
+use Rattle.vg_crows.specs.declared.answer.Answer.{Answer}
 use Rattle.vg_crows.specs.declared.answer.Stop.{Stop}
 use Rattle.vg_crows.specs.declared.book.Cell.{Cell}
 use Rattle.vg_crows.specs.Record.{Record, with_handed, marked, is_lent_as}
 use Rattle.vg_crows.specs.State.{State, and_then, or_wrong}
 use Rattle.vg_crows.specs.Access.{octets_of, write_tests, stored, store}
-use Rattle.vg_crows.specs.Rows.{Outcome, answered, after_place, choice_of, concluded, done, noted, target, may_write, with_answer, word_of}
+use Rattle.vg_crows.specs.Rows.{Outcome, Target, granted, told, may_store, answered, after_place, choice_of, concluded, done, noted, target, may_write, with_answer, word_of}
 use Rattle.vg_crows.specs.Views.{CellsAreThere, beside, gives, yes_of, is_untold}
 use Rattle.vg_crows.proofs.Kept.{Recut, vectors_kept, still_vector}
 use Rattle.vg_crows.proofs.Answered.{stored_answer}
@@ -121,3 +122,35 @@ noted_same own l book chain now choice t new e =
 pub yes_told : (r : Result (Unit {0}) Reason) → is_untold (yes_of r) ≡ false
 yes_told (Ok done) = refl
 yes_told (Err reason) = refl
+
+gives_ok : (P : Type 0) (r : Result Answer Stop) (t : State) (x : Answer × State) → gives r t ≡ Ok x → OnErr r P
+gives_ok P (Ok answer) t x e = tt
+gives_ok P (Err stop) t x e = cc
+
+pub is_no_stop : (P : Type 0) (r : Result Answer Stop) (t : State) (x : Answer × State) → gives r t ≡ Ok x → OnErr r P
+is_no_stop P r t x e = gives_ok P r t x e
+
+-- ---- the row, case by case
+
+abbrev granted_by : (choices : List ℕ) → State → (chain now : ℕ) → Target → Bool → Outcome
+granted_by choices s chain now t b =
+    and_then (told (Some (if b then 0 else 1))) (λ _.
+    and_then (may_store s (Some t) (allocation b 0).stored) (λ _. after_place choices s (ChainAllocate chain now) (Some t)))
+
+pub granted_used : (choices : List ℕ) (s : State) (chain now : ℕ) (t : Target) → is_used_up s.library chain ≡ true →
+    granted choices s (ChainAllocate chain now) (Some t) ≡ Ok (answers.Word 0, s)
+granted_used choices s chain now t used = rw used refl
+
+pub granted_free : (choices : List ℕ) (s : State) (chain now : ℕ) (t : Target) → is_used_up s.library chain ≡ false →
+    granted choices s (ChainAllocate chain now) (Some t) ≡ and_then (may_write s t.pointer t.size) (λ _. after_place choices s (ChainAllocate chain now) (Some t))
+granted_free choices s chain now t used = ap (granted_by choices s chain now t) used
+
+pub granted_stop : (choices : List ℕ) (s : State) (chain now : ℕ) (t : Target) (stop : Stop) → is_used_up s.library chain ≡ false →
+    may_write s t.pointer t.size ≡ Err stop → granted choices s (ChainAllocate chain now) (Some t) ≡ Err stop
+granted_stop choices s chain now t stop used e =
+    granted_free choices s chain now t used ∙ ap (λ r. and_then r (λ _. after_place choices s (ChainAllocate chain now) (Some t))) e
+
+pub granted_go : (choices : List ℕ) (s : State) (chain now : ℕ) (t : Target) → is_used_up s.library chain ≡ false →
+    may_write s t.pointer t.size ≡ Ok (tt {0}) → granted choices s (ChainAllocate chain now) (Some t) ≡ after_place choices s (ChainAllocate chain now) (Some t)
+granted_go choices s chain now t used e =
+    granted_free choices s chain now t used ∙ ap (λ r. and_then r (λ _. after_place choices s (ChainAllocate chain now) (Some t))) e

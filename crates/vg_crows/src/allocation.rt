@@ -23,6 +23,8 @@ fn allocate_needs<L: Lib>(book: &Book, lib: &L, chain: Handle, time: u64) -> Res
     requires told { (L.library lib.now).missed ≡ false }
     requires chain { NamesChain (L.library lib.now) chain }
     ensures value { (own : memory.State) → result ≡ meets_numbers (beside own (L.library lib.now) book.now) (library.ChainAllocate chain.number time) }
+    ensures told { is_untold result ≡ false }
+    ensures few { IfOk result (λ _. length book.now.handed < 64) }
 {
     needs_no_earlier(8, lib.chain_highest(chain.number), time)?;
     needs_fewer(8, book.handed_count(), MOST_HANDED)
