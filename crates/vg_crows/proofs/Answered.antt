@@ -15,7 +15,7 @@ use Rattle.vg_crows.specs.declared.answer.Stop.TheVariants as stops
 use Rattle.vg_crows.specs.State.{State, and_then, or_wrong}
 use Rattle.vg_crows.specs.Access.{write_tests, stored, store, bytes_behind}
 use Rattle.vg_crows.specs.Rows.{Outcome, Target, answered, granted, told, may_store, with_answer, word_of, by_key, meets_key, meets_numbers, target}
-use Rattle.vg_crows.specs.Views.{gives, yes_of}
+use Rattle.vg_crows.specs.Views.{bit, gives, yes_of}
 
 abbrev said : Result State Reason → Outcome
 said (Ok t) = Ok (answers.Word 1, t)
@@ -76,9 +76,6 @@ key_read choices s map key call t bytes e f =
 
 -- ---- a question without a place
 
-abbrev pub bit : Bool → ℕ
-bit true = 1
-bit false = 0
 
 abbrev asked_by : State → Option (Option ℕ) → Outcome
 asked_by s q = and_then (told (case_by q)) (λ _. Ok (word_of (with_stored q).answer, s))

@@ -5,7 +5,7 @@ ghost use Rattle.vg_crows.specs.Rows.{perform, meets_numbers};
 ghost use Rattle.vg_abs.specs.Rows as library;
 ghost use Rattle.vg_crows.specs.Record.{Record};
 ghost use Rattle.vg_crows.specs.declared.request.Request.TheVariants as requests;
-ghost use Rattle.vg_crows.specs.Views.{IsUntouched, NamesChain, StopsWith, SameLent, beside, gives, is_untold};
+ghost use Rattle.vg_crows.specs.Views.{bit, IsUntouched, NamesChain, StopsWith, SameLent, beside, gives, is_untold};
 
 use crate::answer::{Answer, Stop};
 use crate::book::Book;
@@ -93,6 +93,12 @@ pub fn chain_rejuvenate<L: Lib>(
     Ok(Answer::Nothing)
 }
 
+fn bit(holds: bool) -> u64
+    ensures { result ≡ bit holds }
+{
+    if holds { 1 } else { 0 }
+}
+
 /// `chain_is_allocated`
 pub fn chain_is_allocated<L: Lib>(
     book: &Book,
@@ -115,5 +121,5 @@ pub fn chain_is_allocated<L: Lib>(
     if lib.missed() {
         return Err(Stop::Untold);
     }
-    Ok(Answer::Word(if is_allocated { 1 } else { 0 }))
+    Ok(Answer::Word(bit(is_allocated)))
 }
