@@ -6,15 +6,16 @@ use Rattle.vg_cmemory.specs.Access.{leaves}
 use Rattle.vg_cmemory.specs.declared.object.Pointer.{Pointer}
 use Rattle.vg_abs.specs.Rows as library
 use Rattle.vg_abs.specs.Rows.{case_by, with_stored}
-use Rattle.vg_abs.specs.Answers.{index_of}
-use Rattle.vg_abs.specs.State.{link_of_map}
+use Rattle.std.specs.Prelude.{Bool, true, false, is_some, option_map}
+use Rattle.vg_abs.specs.Answers.{index_of, time_of, match_in}
+use Rattle.vg_abs.specs.State.{link_of_map, link_of_chain, prefixes_of}
 use Rattle.vg_crows.specs.declared.answer.Answer.TheVariants as answers
 use Rattle.vg_crows.specs.declared.answer.Stop.{Stop}
 use Rattle.vg_crows.specs.declared.answer.Stop.TheVariants as stops
 use Rattle.vg_crows.specs.State.{State, and_then, or_wrong}
 use Rattle.vg_crows.specs.Access.{write_tests, stored, store, bytes_behind}
 use Rattle.vg_crows.specs.Rows.{Outcome, Target, answered, granted, told, may_store, with_answer, word_of, by_key, meets_key, meets_numbers, target}
-use Rattle.vg_crows.specs.Views.{gives, yes_of}
+use Rattle.vg_crows.specs.Views.{bit, gives, yes_of}
 
 abbrev said : Result State Reason → Outcome
 said (Ok t) = Ok (answers.Word 1, t)
@@ -72,3 +73,32 @@ key_read choices s map key call t bytes e f =
     ap (λ r. and_then r (λ _. and_then (or_wrong (bytes_behind s key (link_of_map s.library map).key_length))
     (λ bytes. and_then (meets_key s (call bytes)) (λ _. granted choices s (call bytes) t)))) e
     ∙ ap (λ r. and_then r (λ bytes. and_then (meets_key s (call bytes)) (λ _. granted choices s (call bytes) t))) f
+
+-- ---- a question without a place
+
+
+abbrev asked_by : State → Option (Option ℕ) → Outcome
+asked_by s q = and_then (told (case_by q)) (λ _. Ok (word_of (with_stored q).answer, s))
+
+pub allocated_untold : (choices : List ℕ) (s : State) (chain index : ℕ) → time_of s.library.full (link_of_chain s.library chain) index ≡ None →
+    granted choices s (library.ChainIsAllocated chain index) None ≡ Err stops.Untold
+allocated_untold choices s chain index e = ap (asked_by s) e
+
+word_of_some : (s : State) (answer : Option ℕ) → asked_by s (Some answer) ≡ Ok (answers.Word (bit (is_some answer)), s)
+word_of_some s None = refl
+word_of_some s (Some time) = refl
+
+told_by : (s : State) (q : Option (Option ℕ)) (r : Bool) → option_map (λ answer. is_some answer) q ≡ Some r → asked_by s q ≡ Ok (answers.Word (bit r), s)
+told_by s None r e = cc
+told_by s (Some answer) r e =
+    let same : is_some answer ≡ r = cc in word_of_some s answer ∙ ap (λ (b : Bool). Ok (answers.Word (bit b), s)) same
+
+pub allocated_told : (choices : List ℕ) (s : State) (chain index : ℕ) (r : Bool) →
+    option_map (λ answer. is_some answer) (time_of s.library.full (link_of_chain s.library chain) index) ≡ Some r →
+    granted choices s (library.ChainIsAllocated chain index) None ≡ Ok (answers.Word (bit r), s)
+allocated_told choices s chain index r e = told_by s (time_of s.library.full (link_of_chain s.library chain) index) r e
+
+pub lookup_told : (choices : List ℕ) (s : State) (table address : ℕ) (t : Target) (found : Option ℕ)
+    → match_in s.library.full (prefixes_of s.library table) address ≡ Some found →
+    granted choices s (library.PrefixLookup table address) (Some t) ≡ answered s (Some t) found
+lookup_told choices s table address t found e = ap (questioned s (Some t)) e ∙ questioned_told s t found

@@ -142,3 +142,10 @@ guided_next t book new chain i choices e g =
 
 pub guided_same : (s t : Library) (book : Record) (choices : List ℕ) → t.choices ≡ s.choices → Guides t book choices → Guides s book choices
 guided_same s t book choices e g = record { begins = g.begins; rest = λ left f. g.rest left (e ∙ f) }
+
+pub guided_on : (s t : Library) (book new : Record) (choices : List ℕ) → t.choices ≡ s.choices → new.handed ≡ book.handed → Guides t new choices → Guides s book choices
+guided_on s t book new choices e f g =
+    record {
+      begins = subst (λ (hs : List (ℕ × ℕ)). take (length hs) choices ≡ map last_first hs) f g.begins;
+      rest = λ left told. subst (λ (hs : List (ℕ × ℕ)). drop (length hs) choices ≡ left) f (g.rest left (e ∙ told));
+    }

@@ -8,3 +8,4 @@ mod Elsewhere
 mod Answered
 mod Kept
 mod Choices
+mod Allocated

@@ -52,6 +52,11 @@ each_met s row (need ∷ needs) e zero d h = first_met row (is_met s.library (so
 each_met s row (need ∷ needs) e (suc k) d h =
     each_met s row needs (rest_met row (is_met s.library (so_far s.book) need) (all_met s row needs) e) k d (omega arith)
 
+pub two_met : (P : Need → Type 0) (one other : Need) → P one → P other → All P (one ∷ other ∷ [])
+two_met P one other h i zero d less = h
+two_met P one other h i (suc zero) d less = i
+two_met P one other h i (suc (suc k)) d less = absurd (omega arith)
+
 -- the same, of a library that is as it was
 pub still_met : (state now : library.State) (needs : List Need) → now ≡ state → All (λ (need : Need). is_met state fresh need ≡ Some true) needs →
     All (λ (need : Need). is_met now fresh need ≡ Some true) needs

@@ -59,11 +59,15 @@ pub record Target : Type 0 where
   pub pointer : Pointer
   pub size : ℕ
 
+-- whether so many bytes may be written, at the alignment of a type of that size
+abbrev pub may_write : State → Pointer → (size : ℕ) → Result (Unit {0}) Stop
+may_write s p size = or_wrong (tested (write_tests s p None size size) (tt {0}))
+
 -- a write of an answer has the alignment of its type. Where nothing is stored, nothing is asked of the place
 abbrev pub may_store : State → Option Target → Option ℕ → Result (Unit {0}) Stop
 may_store s None value = Ok tt
 may_store s (Some target) None = Ok tt
-may_store s (Some target) (Some value) = or_wrong (tested (write_tests s target.pointer None target.size target.size) tt)
+may_store s (Some target) (Some value) = may_write s target.pointer target.size
 
 abbrev pub with_answer : State → Option Target → Option ℕ → State
 with_answer s None value = s

@@ -36,6 +36,10 @@ abbrev pub with_value : {A B : Type 0} → Result A Stop → B → Result B Stop
 with_value (Ok done) b = Ok b
 with_value (Err stop) b = Err stop
 
+abbrev pub bit : Bool → ℕ
+bit true = 1
+bit false = 0
+
 -- what the store of an answer comes to
 abbrev pub yes_of : Result (Unit {0}) Reason → Result Answer Stop
 yes_of (Ok done) = Ok (answers.Word 1)

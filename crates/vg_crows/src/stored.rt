@@ -1,8 +1,9 @@
 //! Answers that are stored through a pointer.
-ghost use Rattle.std.specs.Prelude.{◌≡◌, ◌≤◌, ◌<◌, false, Some, OnErr};
-ghost use Rattle.vg_crows.specs.Rows.{answered, target};
+ghost use Rattle.std.specs.Prelude.{◌≡◌, ◌≤◌, ◌<◌, false, Some, None, OnErr};
+ghost use Rattle.vg_crows.specs.Rows.{answered, may_write, target};
 ghost use Rattle.vg_crows.specs.Views.{CellsAreThere, SameLent, seen, gives, yes_of, is_untold};
 
+use crate::access::against_write;
 use crate::answer::{Answer, Stop};
 use crate::book::Book;
 use crate::storing::store;
@@ -10,12 +11,33 @@ use vg_abs::Lib;
 use vg_cmemory::{FrameMemory, Pointer};
 use vg_core::Reason;
 
-// What comes of the store of an answer.
-fn yes(stored: Result<(), Reason>) -> Result<Answer, Stop>
+/// What comes of the store of an answer.
+pub(crate) fn yes(stored: Result<(), Reason>) -> Result<Answer, Stop>
     ensures { result ≡ yes_of stored }
 {
     match stored {
         Ok(()) => Ok(Answer::Word(1)),
+        Err(reason) => Err(Stop::Wrong(reason)),
+    }
+}
+
+/// Whether an answer of so many bytes may be stored.
+pub(crate) fn may_store<L: Lib>(
+    memory: &FrameMemory,
+    frame: &[u8],
+    book: &Book,
+    lib: &L,
+    place: Pointer,
+    size: u32,
+) -> Result<(), Stop>
+    requires some { 0 < size }
+    requires told { (L.library lib.now).missed ≡ false }
+    requires lent { SameLent (L.library lib.now) book.now }
+    requires cells { CellsAreThere (L.library lib.now) book.now }
+    ensures { result ≡ may_write (seen memory.now frame.now (L.library lib.now) book.now) place size }
+{
+    match against_write(memory, frame, book, lib, place, None, size, size) {
+        Ok(()) => Ok(()),
         Err(reason) => Err(Stop::Wrong(reason)),
     }
 }

@@ -60,6 +60,7 @@ pub fn store<L: Lib>(
     ensures lent { SameLent (L.library lib.new) book.new }
     ensures choices { (L.library lib.new).choices ≡ (L.library lib.old).choices }
     ensures missed { (L.library lib.new).missed ≡ false }
+    ensures handed { book.new.handed ≡ book.old.handed }
     ensures stops { OnErr result (seen memory.new frame.new (L.library lib.new) book.new ≡ seen memory.old frame.old (L.library lib.old) book.old) }
 {
     match pointer.object {
