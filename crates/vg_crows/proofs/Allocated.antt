@@ -70,7 +70,7 @@ octets_same l s (objects.Chunk number) chain now choice e is used = refl
 octets_same l s (objects.Cell v index number) chain now choice e is used =
     let cells = noted_cells s chain now choice in
     let vector : vector_of (effect s.library (ChainAllocate chain now) choice) v ≡ vector_of s.library v =
-        subst (λ (x : tables.State). vector_of (effect x (ChainAllocate chain now) choice) v ≡ vector_of x v) (sym e) (vectors_same l chain now choice v is used) in
+    subst (λ (x : tables.State). vector_of (effect x (ChainAllocate chain now) choice) v ≡ vector_of x v) (sym e) (vectors_same l chain now choice v is used) in
     λ i. if is_lent_as (record s.book { cells = cells i }) v index number then get (vector i).cells index else None
 
 write_same : (l : Library) (own : memory.State) (book : Record) (p : Pointer) (size chain now choice : ℕ) → IsChain l chain → is_used_up l.state chain ≡ false →

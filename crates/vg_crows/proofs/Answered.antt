@@ -76,7 +76,6 @@ key_read choices s map key call t bytes e f =
 
 -- ---- a question without a place
 
-
 abbrev asked_by : State → Option (Option ℕ) → Outcome
 asked_by s q = and_then (told (case_by q)) (λ _. Ok (word_of (with_stored q).answer, s))
 

@@ -50,7 +50,7 @@ hand_out-requires-clause-needs g c = λ told.
     let s = seen c.args.memory.now c.args.frame.now (g.L.Lib.library c.args.lib.now) c.args.book.now in
     let state = (g.L.Lib.library c.args.lib.now).state in
     let met = each_met s 8 (library.needs (library.ChainAllocate c.args.chain.number c.args.time))
-        (sym (c.allocate_needs.ensures.value s.memory) ∙ c.in_ok-allocate_needs.was) in
+    (sym (c.allocate_needs.ensures.value s.memory) ∙ c.in_ok-allocate_needs.was) in
     two_met (λ (need : library.Need). library.is_met state library.fresh need ≡ Some true) (library.IsNoEarlier c.args.chain.number c.args.time) library.MayBeHanded
     (met 0 library.MayBeHanded (omega arith)) refl
 
