@@ -1,6 +1,7 @@
 -- Reads of a chunk: its bytes are all set.
 use Rattle.std.specs.Prelude.{nat_le}
-use Rattle.std.proofs.Common.{◌≡◌, ℕ, zero, suc, ◌+◌, ◌%◌, nat_eq, Bool, true, false, List, [], ◌∷◌, length, map, take, drop, slice_set, arith, Option, None, Ok, Err, if◌then◌else◌, refl, ap, ◌∙◌}
+use Rattle.std.proofs.Common.{◌≡◌, ℕ, zero, suc, ◌+◌, ◌%◌, nat_eq, Bool, true, false, List, [], ◌∷◌, length, map, take, drop, slice_set, arith, Option, None}
+use Rattle.std.proofs.Common.{Ok, Err, if◌then◌else◌, refl, ap, ◌∙◌}
 use Rattle.vg_core.specs.declared.reason.Reason.TheVariants as reasons
 use Rattle.vg_cmemory.specs.declared.object.Room.{Room}
 use Rattle.vg_cint.specs.Tests.{test, first_against, unless}

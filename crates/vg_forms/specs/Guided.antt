@@ -79,14 +79,16 @@ module _ {K N G : Type 0} (grammar : Grammar K N G) (toks : List (Token K)) wher
   lacks_guided i zero n s = (s.at ≡ i) × (passes (grammar.begins n) (slice_get toks s.at) ≡ false)
   lacks_guided i (suc room) n s =
       ((s.at ≡ i) × (passes (grammar.begins n) (slice_get toks s.at) ≡ false))
-      ⊎ ((passes (grammar.begins n) (slice_get toks s.at) ≡ true) × comes_guided toks (guided_inner grammar toks room) (λ u. u.at ≡ i) (lacks_guided i room) (grammar.form n) s)
+      ⊎ ((passes (grammar.begins n) (slice_get toks s.at) ≡ true) × comes_guided toks (guided_inner grammar toks room) (λ u. u.at ≡ i) (lacks_guided i room)
+      (grammar.form n) s)
 
 module _ {K N G : Type 0} (grammar : Grammar K N G) (toks : List (Token K)) where
   -- a counted construct comes to one that begins with the token behind so many, and has no room
   abbrev pub opens_guided : ℕ → ℕ → N → State G → Type 0
   opens_guided i zero n s = (s.at ≡ i) × (passes (grammar.begins n) (slice_get toks s.at) ≡ true)
   opens_guided i (suc room) n s =
-      (passes (grammar.begins n) (slice_get toks s.at) ≡ true) × comes_guided toks (guided_inner grammar toks room) (λ u. ⊥) (opens_guided i room) (grammar.form n) s
+      (passes (grammar.begins n) (slice_get toks s.at) ≡ true) × comes_guided toks (guided_inner grammar toks room) (λ u. ⊥) (opens_guided i room)
+      (grammar.form n) s
 
 module _ {K N G : Type 0} (grammar : Grammar K N G) where
   -- along the first so many tokens, with room for so many constructs in one another, the grammar comes to a place where it needs

@@ -53,19 +53,20 @@ above x y less same = subst (λ o. T (is_lt o)) (sym (nat_cmp_is x y Equal same)
 gone : (top bound x : ℕ) (es : List (ℕ × Option ℕ)) → T (below_all nat_cmp x es)
     → is_one_below top (map (λ entry. entry.0) (filter (λ entry. is_before bound (Some entry.1)) es)) x ≡ false
 gone top bound x [] below = refl
-gone top bound x (e ∷ es) below = go (gone top bound x es (second (is_lt (nat_cmp x e.0)) (below_all nat_cmp x es) below)) (is_before bound (Some e.1)) refl where
-  other : nat_eq e.0 x ≡ false
-  other = ne_eqb e.0 x (λ same. above x e.0 (first (is_lt (nat_cmp x e.0)) (below_all nat_cmp x es) below) (sym same))
+gone top bound x (e ∷ es) below = go (gone top bound x es (second (is_lt (nat_cmp x e.0)) (below_all nat_cmp x es) below)) (is_before bound (Some e.1)) refl
+  where
+    other : nat_eq e.0 x ≡ false
+    other = ne_eqb e.0 x (λ same. above x e.0 (first (is_lt (nat_cmp x e.0)) (below_all nat_cmp x es) below) (sym same))
 
-  go : is_one_below top (map (λ entry. entry.0) (filter (λ entry. is_before bound (Some entry.1)) es)) x ≡ false → (b : Bool) → is_before bound (Some e.1) ≡ b
-      → is_one_below top (map (λ entry. entry.0) (filter (λ entry. is_before bound (Some entry.1)) (e ∷ es))) x ≡ false
-  go rest true is =
-      ap (λ b. is_one_below top (map (λ entry. entry.0) (cond b (e ∷ filter (λ entry. is_before bound (Some entry.1)) es)
-      (filter (λ entry. is_before bound (Some entry.1)) es))) x) is
-      ∙ ap (λ b. (b && nat_lt e.0 top) || is_one_below top (map (λ entry. entry.0) (filter (λ entry. is_before bound (Some entry.1)) es)) x) other ∙ rest
-  go rest false is =
-      ap (λ b. is_one_below top (map (λ entry. entry.0) (cond b (e ∷ filter (λ entry. is_before bound (Some entry.1)) es)
-      (filter (λ entry. is_before bound (Some entry.1)) es))) x) is ∙ rest
+    go : is_one_below top (map (λ entry. entry.0) (filter (λ entry. is_before bound (Some entry.1)) es)) x ≡ false → (b : Bool) → is_before bound (Some e.1) ≡ b
+        → is_one_below top (map (λ entry. entry.0) (filter (λ entry. is_before bound (Some entry.1)) (e ∷ es))) x ≡ false
+    go rest true is =
+        ap (λ b. is_one_below top (map (λ entry. entry.0) (cond b (e ∷ filter (λ entry. is_before bound (Some entry.1)) es)
+        (filter (λ entry. is_before bound (Some entry.1)) es))) x) is
+        ∙ ap (λ b. (b && nat_lt e.0 top) || is_one_below top (map (λ entry. entry.0) (filter (λ entry. is_before bound (Some entry.1)) es)) x) other ∙ rest
+    go rest false is =
+        ap (λ b. is_one_below top (map (λ entry. entry.0) (cond b (e ∷ filter (λ entry. is_before bound (Some entry.1)) es)
+        (filter (λ entry. is_before bound (Some entry.1)) es))) x) is ∙ rest
 
 -- whether what is found is early
 abbrev holds : ℕ → Option (Option ℕ) → Bool
@@ -87,7 +88,11 @@ all_and false = refl
 one_test : (top bound k : ℕ) (es : List (ℕ × Option ℕ)) → T (is_sorted nat_cmp es)
     → is_one_below top (map (λ entry. entry.0) (filter (λ entry. is_before bound (Some entry.1)) es)) k ≡ (nat_lt k top && holds bound (find nat_cmp k es))
 one_test top bound k [] sorted = no_and (nat_lt k top)
-one_test top bound k (e ∷ es) sorted = elim (cases_eq k e.0) [ inl same ↦ here same (is_before bound (Some e.1)) refl | inr ne ↦ there (one_test top bound k es (second (below_all nat_cmp e.0 es) (is_sorted nat_cmp es) sorted)) ne (is_before bound (Some e.1)) refl ] where
+one_test top bound k (e ∷ es) sorted = elim (cases_eq k e.0) [
+  | inl same ↦ here same (is_before bound (Some e.1)) refl
+  | inr ne ↦ there
+      (one_test top bound k es (second (below_all nat_cmp e.0 es) (is_sorted nat_cmp es) sorted)) ne (is_before bound (Some e.1)) refl
+] where
   rest : Bool
   rest = is_one_below top (map (λ entry. entry.0) (filter (λ entry. is_before bound (Some entry.1)) es)) k
 
@@ -144,7 +149,8 @@ times_expire link bound =
     ∙ ap (λ (o : Option (Option ℕ)). nat_lt k link.capacity && holds bound o) (sym (get-entries link.times k)))
     ∙ same_time link bound (nat_lt k link.capacity) (get link.times k))
 
-keys_expire : (link : Link) (bound : ℕ) → without true (is_in_one link.cells (early bound link.times)) link.keys ≡ without true (key_expires link bound) link.keys
+keys_expire : (link : Link) (bound : ℕ) → without true (is_in_one link.cells (early bound link.times)) link.keys ≡ without true (key_expires link bound)
+    link.keys
 keys_expire link bound = ap (λ test. without true test link.keys) (λ i key. key_test link.cells bound key (entries link.times) i)
 
 firsts : (es : List (ℕ × Option ℕ)) → length (map (λ entry. entry.0) es) ≡ length es

@@ -35,7 +35,8 @@ module _ (spec : Specification) (numbers : List ℕ) (at : ℕ) (s : State) (law
       let declared = there spec.shape.objects number (subst (λ n. number < n) lawful.shaped.as_many (within s.objects number object is)) in
       (declared.0.kind, subst (λ b. IsLawfulObject at b declared.0.kind object) full (lawful.each number declared.0 object declared.1 is))
 
-  link_told : (map index : ℕ) (found : Option Object) → slice_get s.objects map ≡ found → index < (link_in found).capacity → Told (get (link_in found).cells index)
+  link_told : (map index : ℕ) (found : Option Object) → slice_get s.objects map ≡ found → index < (link_in found).capacity → Told
+      (get (link_in found).cells index)
   link_told map index None is less = absurd (omega arith)
   link_told map index (Some Chain) is less = absurd (omega arith)
   link_told map index (Some Keys) is less = absurd (omega arith)
@@ -51,7 +52,8 @@ module _ (spec : Specification) (numbers : List ℕ) (at : ℕ) (s : State) (law
   }
 
 pub lawful_tells_all : LawfulTellsAll
-lawful_tells_all spec numbers at s port frame now choices lawful full = step_told spec numbers port now s frame choices (tells_all spec numbers at s lawful full)
+lawful_tells_all spec numbers at s port frame now choices lawful full = step_told spec numbers port now s frame choices
+    (tells_all spec numbers at s lawful full)
 
 pub never_untold : (spec : Specification) (numbers given : List ℕ) (port now at : ℕ) (s : State) (place : Place) → IsLawful spec given at s → s.full ≡ true
     → place.state ≡ s → outcome_of spec numbers port now place ≡ Untold → ⊥

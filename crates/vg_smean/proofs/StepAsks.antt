@@ -20,14 +20,16 @@ use Rattle.vg_abs.specs.Answers.{time_of, match_in, count_before}
 use Rattle.vg_abs.specs.Effects.{with_link, with_cell, with_bytes_in}
 use Rattle.vg_abs.specs.Rows.{may_hand_out}
 use Rattle.vg_abs.specs.Expressions.{is_true}
-use Rattle.vg_smean.specs.Step.{Place, Outcome, Goes, Ends, Refused, Untold, told, followed_by, back_to, named, with_entry, with_field_in_cell, scene_at, valued}
+use Rattle.vg_smean.specs.Step.{Place, Outcome, Goes, Ends, Refused, Untold, told, followed_by, back_to, named, with_entry, with_field_in_cell, scene_at}
+use Rattle.vg_smean.specs.Step.{valued}
 use Rattle.vg_smean.specs.Step.{keyed, Statements, all_by, block_by, either_by, store_field, expire, hand_out_if, hand_out, add_by, touch, remove, statement_by}
 use Rattle.vg_smean.specs.Step.{statement_found, statements_before, statement_of, AsksMore, done, end_of, step}
 use Rattle.vg_smean.specs.Places.{outcome_of}
 use Rattle.vg_smean.proofs.NeverAsks.{Told, TellsAll, told_map, told_time_of, told_index_of, told_cell, told_either, value_told, all_values_told}
 
 -- ---- states
-set_cases : (xs : List Object) (i j : ℕ) (x : Object) → ((i ≡ j) × (slice_get (slice_set xs i x) j ≡ Some x)) ⊎ (slice_get (slice_set xs i x) j ≡ slice_get xs j)
+set_cases : (xs : List Object) (i j : ℕ) (x : Object) → ((i ≡ j) × (slice_get (slice_set xs i x) j ≡ Some x)) ⊎
+    (slice_get (slice_set xs i x) j ≡ slice_get xs j)
 set_cases [] i j x = inr refl
 set_cases (y ∷ ys) zero zero x = inl (refl, refl)
 set_cases (y ∷ ys) zero (suc j) x = inr refl
@@ -35,7 +37,8 @@ set_cases (y ∷ ys) (suc i) zero x = inr refl
 set_cases (y ∷ ys) (suc i) (suc j) x = elim (set_cases ys i j x) [ inl e ↦ inl (ap suc e.0, e.1) | inr e ↦ inr e ]
 
 -- a state whose link has all its cells
-kept_link : (s : State) (map : ℕ) (link : Link) → TellsAll s → ((index : ℕ) → index < link.capacity → Told (get link.cells index)) → TellsAll (with_link s map link)
+kept_link : (s : State) (map : ℕ) (link : Link) → TellsAll s → ((index : ℕ) → index < link.capacity → Told (get link.cells index)) → TellsAll
+    (with_link s map link)
 kept_link s map link all there = record {
   full = all.full;
   links = λ m index less. elim (set_cases s.objects map m (Map link)) [
@@ -168,7 +171,8 @@ module _ (spec : Specification) (numbers : List ℕ) (port now : ℕ) where
   sound_store place vector index field value all =
       sound_where index (vector_of place.state vector).cell_count _ _
       (λ less. sound_told (get (vector_of place.state vector).cells index) _ (told_cell place.state vector index all less)
-      (λ bytes is. kept_bytes place.state vector index (with_field_in_cell spec.shape vector field value bytes) (slice_get place.state.objects vector) all refl))
+      (λ bytes is. kept_bytes place.state vector index (with_field_in_cell spec.shape vector field value bytes) (slice_get place.state.objects vector) all
+      refl))
       all
 
   told_count : (s : State) (link : Link) (bound : ℕ) → TellsAll s → Told (count_before s.full link bound)

@@ -29,7 +29,8 @@ no_index full key = sym (ap (listed_or_none full) (get-empty (slice_cmp nat_cmp)
 pub none_handed : (s : State) (map index : ℕ) → (link_of_map s map).capacity ≤ index → Some false ≡ may_hand_out s (map + 1) index
 none_handed s map index past =
     let at : map + 1 - 1 ≡ map = omega arith in
-    sym (ap (λ n. cond (nat_lt index (link_of_map s n).capacity) (option_map (λ answer. is_none answer) (time_of s.full (link_of_map s n) index)) (Some false)) at
+    sym (ap (λ n. cond (nat_lt index (link_of_map s n).capacity) (option_map (λ answer. is_none answer) (time_of s.full (link_of_map s n) index))
+    (Some false)) at
     ∙ cond-false _ _ _ (le-ltb index (link_of_map s map).capacity past))
 
 -- no route matches where there is no table

@@ -68,7 +68,8 @@ none_written frame place (suc count) number none = absurd (omega arith)
 behind : (frame bytes : List ℕ) (place byte : ℕ) → slice_set (with_bytes_from frame place bytes) (place + length bytes) byte ≡ with_bytes_from frame place
     (bytes ++ byte ∷ [])
 behind [] bytes place byte =
-    ap (λ (xs : List ℕ). slice_set xs (place + length bytes) byte) (unchanged [] bytes place (omega arith)) ∙ sym (none_set [] (place + length bytes) byte (omega arith))
+    ap (λ (xs : List ℕ). slice_set xs (place + length bytes) byte) (unchanged [] bytes place (omega arith)) ∙ sym
+    (none_set [] (place + length bytes) byte (omega arith))
     ∙ sym (unchanged [] (bytes ++ byte ∷ []) place (omega arith))
 behind (one ∷ frame) [] zero byte =
     ap (λ (xs : List ℕ). slice_set xs 0 byte) (sym (no_bytes (one ∷ frame) 0)) ∙ ap (λ rest. byte ∷ rest) (no_bytes frame 0) ∙ sym (here one byte frame [])
