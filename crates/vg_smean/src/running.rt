@@ -55,7 +55,8 @@ pub enum Flow {
 
 /// The value of an expression; that it isn't told ends the step.
 pub fn told(run: &Run<'_>, place: &Place<'_>, expression: u32) -> Result<u64, Stop>
-    ensures { places.Tells result (value_of run.now.spec.now (steps.scene_at run.now.spec.now run.now.numbers.now run.now.port run.now.time (place_of place.now)) expression) }
+    ensures { places.Tells result (value_of run.now.spec.now (steps.scene_at run.now.spec.now run.now.numbers.now run.now.port run.now.time
+        (place_of place.now)) expression) }
 {
     let scene = Scene {
         numbers: run.numbers,
@@ -123,7 +124,8 @@ pub fn set_cell(
     expression: u32,
 ) -> Result<Flow, Stop>
     ensures comes { Comes result (place_of place.new) (steps.statement_by run.now.spec.now run.now.numbers.now run.now.port run.now.time
-        (steps.nothing_known run.now.spec.now run.now.numbers.now run.now.port run.now.time) (SStmt.SetCell target.vector target.index target.field expression) (place_of place.old)) }
+        (steps.nothing_known run.now.spec.now run.now.numbers.now run.now.port run.now.time)
+        (SStmt.SetCell target.vector target.index target.field expression) (place_of place.old)) }
     ensures full { OnOk result ((place_of place.new).state.full ≡ (place_of place.old).state.full) }
 {
     let index = told(run, place, target.index)?;

@@ -34,7 +34,8 @@ fn key_at(
     link: u16,
     key: Parts,
 ) -> Result<Vec<u8>, Stop>
-    ensures { places.TellsBytes result (steps.key_of run.now.spec.now (steps.scene_at run.now.spec.now run.now.numbers.now run.now.port run.now.time (place_of place.now)) link key) }
+    ensures { places.TellsBytes result (steps.key_of run.now.spec.now (steps.scene_at run.now.spec.now run.now.numbers.now run.now.port run.now.time
+        (place_of place.now)) link key) }
 {
     let scene = Scene {
         numbers: run.numbers,
@@ -80,7 +81,8 @@ pub fn all(
     items: &[u32],
 ) -> Result<Flow, Stop>
     requires { (place_of place.old).state.full ≡ true }
-    ensures comes { Comes result (place_of place.new) (steps.all_by run.now.spec.now run.now.numbers.now run.now.port run.now.time (steps.statements_before run.now.spec.now run.now.numbers.now run.now.port run.now.time known) items.now (place_of place.old)) }
+    ensures comes { Comes result (place_of place.new) (steps.all_by run.now.spec.now run.now.numbers.now run.now.port run.now.time
+        (steps.statements_before run.now.spec.now run.now.numbers.now run.now.port run.now.time known) items.now (place_of place.old)) }
     ensures full { OnOk result ((place_of place.new).state.full ≡ true) }
 {
     for item in items {
@@ -103,7 +105,8 @@ fn either(
     value: Option<u64>,
 ) -> Result<Flow, Stop>
     requires { (place_of place.old).state.full ≡ true }
-    ensures comes { Comes result (place_of place.new) (steps.either_by run.now.spec.now run.now.numbers.now run.now.port run.now.time (steps.statements_before run.now.spec.now run.now.numbers.now run.now.port run.now.time known) blocks.0 blocks.1 (place_of place.old) value) }
+    ensures comes { Comes result (place_of place.new) (steps.either_by run.now.spec.now run.now.numbers.now run.now.port run.now.time
+        (steps.statements_before run.now.spec.now run.now.numbers.now run.now.port run.now.time known) blocks.0 blocks.1 (place_of place.old) value) }
     ensures full { OnOk result ((place_of place.new).state.full ≡ true) }
 {
     let names = Vec::from_slice(alloc, &place.names)?;
@@ -132,7 +135,8 @@ fn statement(
     number: u32,
 ) -> Result<Flow, Stop>
     requires { (place_of place.old).state.full ≡ true }
-    ensures comes { Comes result (place_of place.new) (steps.statements_before run.now.spec.now run.now.numbers.now run.now.port run.now.time before number (place_of place.old)) }
+    ensures comes { Comes result (place_of place.new) (steps.statements_before run.now.spec.now run.now.numbers.now run.now.port run.now.time before number
+        (place_of place.old)) }
     ensures full { OnOk result ((place_of place.new).state.full ≡ true) }
 {
     if number >= before {
@@ -154,7 +158,8 @@ fn statement_by(
     statement: SStmt,
 ) -> Result<Flow, Stop>
     requires { (place_of place.old).state.full ≡ true }
-    ensures comes { Comes result (place_of place.new) (steps.statement_by run.now.spec.now run.now.numbers.now run.now.port run.now.time (steps.statements_before run.now.spec.now run.now.numbers.now run.now.port run.now.time known) statement (place_of place.old)) }
+    ensures comes { Comes result (place_of place.new) (steps.statement_by run.now.spec.now run.now.numbers.now run.now.port run.now.time
+        (steps.statements_before run.now.spec.now run.now.numbers.now run.now.port run.now.time known) statement (place_of place.old)) }
     ensures full { OnOk result ((place_of place.new).state.full ≡ true) }
 {
     match statement {
@@ -233,7 +238,9 @@ fn find(
     blocks: (Parts, Parts),
 ) -> Result<Flow, Stop>
     requires { (place_of place.old).state.full ≡ true }
-    ensures comes { Comes result (place_of place.new) (steps.statement_by run.now.spec.now run.now.numbers.now run.now.port run.now.time (steps.statements_before run.now.spec.now run.now.numbers.now run.now.port run.now.time known) (SStmt.Find entry.0 entry.1 blocks.0 blocks.1) (place_of place.old)) }
+    ensures comes { Comes result (place_of place.new) (steps.statement_by run.now.spec.now run.now.numbers.now run.now.port run.now.time
+        (steps.statements_before run.now.spec.now run.now.numbers.now run.now.port run.now.time known) (SStmt.Find entry.0 entry.1 blocks.0 blocks.1)
+        (place_of place.old)) }
     ensures full { OnOk result ((place_of place.new).state.full ≡ true) }
 {
     let key = key_at(alloc, run, place, entry.0, entry.1)?;
@@ -254,7 +261,9 @@ fn add(
     blocks: (Parts, Parts),
 ) -> Result<Flow, Stop>
     requires { (place_of place.old).state.full ≡ true }
-    ensures comes { Comes result (place_of place.new) (steps.statement_by run.now.spec.now run.now.numbers.now run.now.port run.now.time (steps.statements_before run.now.spec.now run.now.numbers.now run.now.port run.now.time known) (SStmt.Add entry.0 entry.1 blocks.0 blocks.1) (place_of place.old)) }
+    ensures comes { Comes result (place_of place.new) (steps.statement_by run.now.spec.now run.now.numbers.now run.now.port run.now.time
+        (steps.statements_before run.now.spec.now run.now.numbers.now run.now.port run.now.time known) (SStmt.Add entry.0 entry.1 blocks.0 blocks.1)
+        (place_of place.old)) }
     ensures full { OnOk result ((place_of place.new).state.full ≡ true) }
 {
     let key = key_at(alloc, run, place, entry.0, entry.1)?;
@@ -279,7 +288,9 @@ fn hand_out(
     block: Parts,
 ) -> Result<Flow, Stop>
     requires { (place_of place.old).state.full ≡ true }
-    ensures comes { Comes result (place_of place.new) (steps.hand_out run.now.spec.now run.now.numbers.now run.now.port run.now.time (steps.statements_before run.now.spec.now run.now.numbers.now run.now.port run.now.time known) block (place_of place.old) link key.now (place_of place.old).choices) }
+    ensures comes { Comes result (place_of place.new) (steps.hand_out run.now.spec.now run.now.numbers.now run.now.port run.now.time
+        (steps.statements_before run.now.spec.now run.now.numbers.now run.now.port run.now.time known) block (place_of place.old) link key.now
+        (place_of place.old).choices) }
     ensures full { OnOk result ((place_of place.new).state.full ≡ true) }
 {
     let Some((choice, rest)) = place.choices.split_first() else {
