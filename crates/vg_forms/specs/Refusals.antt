@@ -2,7 +2,7 @@
 use Rattle.std.specs.Prelude.{◌≡◌, ℕ, zero, suc, ◌+◌, ◌≤◌, List, ◌++◌, take, slice_get, true, Option, Some, None, ◌⊎◌}
 use Rattle.vg_forms.specs.declared.token.Token.{Token}
 use Rattle.vg_forms.specs.Forms.{Form, Plain, Place, One, Unless, Both, Either, Chain, Inner, Made, Growth}
-use Rattle.vg_forms.specs.Places.{State, place_at, passes, tested}
+use Rattle.vg_forms.specs.Places.{State, place_at, passes}
 use Rattle.vg_forms.specs.Grammar.{Grammar}
 use Rattle.vg_forms.specs.Spelling.{Spelled, spelled_with, spelled_inner, start, Spells}
 use Rattle.vg_forms.specs.declared.stops.ReadFault.{ReadFault}

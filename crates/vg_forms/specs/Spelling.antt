@@ -1,10 +1,10 @@
 -- What tokens spell: the forms of a grammar as relations. A form is spelled by the tokens between two states, and the second state
 -- has the tree that they make. A choice is spelled by either side, and a chain by any number of turns: the tests that forms have for
 -- the reader say nothing here.
-use Rattle.std.specs.Prelude.{◌≡◌, ℕ, zero, suc, ◌+◌, List, [], length, slice_get, false, Some, ◌⊎◌}
+use Rattle.std.specs.Prelude.{◌≡◌, ℕ, zero, suc, ◌+◌, List, length, slice_get, false, Some, ◌⊎◌}
 use Rattle.vg_forms.specs.declared.token.Token.{Token}
 use Rattle.vg_forms.specs.Forms.{Form, Plain, Place, One, Unless, Both, Either, Chain, Inner, Made, Growth}
-use Rattle.vg_forms.specs.Places.{State, place_at, passes, tested}
+use Rattle.vg_forms.specs.Places.{State, place_at, passes}
 use Rattle.vg_forms.specs.Grammar.{Grammar}
 
 -- a relation of a form with a value of A: from a state, with a value, to a state

@@ -1,9 +1,9 @@
 -- The grammar's forms meet what makes reading the same as spelling.
-use Rattle.std.proofs.Common.{◌≡◌, ◌≤◌, inl, inr, ℕ, zero, suc, Bool, true, false, List, [], ◌∷◌, ◌++◌, length, slice_get, Option, Some, None, refl, sym, ap, subst, arith}
+use Rattle.std.proofs.Common.{◌≡◌, ◌≤◌, inl, inr, ℕ, zero, suc, Bool, true, false, List, [], ◌∷◌, ◌++◌, length, slice_get, Option, Some, None, refl, sym, subst, arith}
 use Rattle.std.specs.Prelude.{◌&&◌, ◌||◌, not, is_some}
 use Rattle.std.proofs.lemmas.Bool.{and_parts}
 use Rattle.std.proofs.lemmas.Option.{slice_get_cases}
-use Rattle.vg_forms.specs.Forms.{Form, Plain, One, Inner, ◌⊛◌, ◌⊳◌, optional, one_more, Growth}
+use Rattle.vg_forms.specs.Forms.{Plain, One, Inner, ◌⊛◌, ◌⊳◌, optional, one_more}
 use Rattle.vg_forms.specs.Places.{State, passes}
 use Rattle.vg_forms.specs.Spelling.{start}
 use Rattle.vg_forms.specs.Guided.{guided}

@@ -1,5 +1,4 @@
 use Rattle.std.proofs.Common.{◌≡◌, ◌∙◌, inr, ℕ, sym, ap, subst, Ok}
-use Rattle.vg_forms.specs.Spelling.{start}
 use Rattle.vg_forms.specs.Reading.{Wrong, Deep, read}
 use Rattle.vg_forms.specs.declared.stops.ReadFault.TheVariants as faults
 use Rattle.vg_forms.proofs.Answering.{gave_wrong, gave_deep, no_fault, wrong_fault, wrong_only, deep_fault, deep_only, spelled_root, only_root, only_tree}

@@ -1,8 +1,7 @@
 use Rattle.std.proofs.Common.{rules, ◌∙◌, [], ◌∷◌, sym}
 use Rattle.std.proofs.lemmas.Result.{err_from_is_err_and}
-use Rattle.vg_stok.specs.declared.kinds.Sign.TheVariants as signs
-use Rattle.vg_sgrammar.specs.Kinds.{is_sign, is_name}
-use Rattle.vg_sgrammar.specs.Rules.{field, fields, name, next_name, some_names}
+use Rattle.vg_sgrammar.specs.Kinds.{is_name}
+use Rattle.vg_sgrammar.specs.Rules.{field, fields}
 use Rattle.vg_sgrammar.specs.Reader.{reads}
 use Rattle.vg_sgrammar.proofs.Steps.{refused_by, listing_same, listing_smaller, listing_turned, listing_failed, field_eats, fields_init}
 use Rattle.vg_sgrammar.proofs.reader.Reader.fields.Goals as goal

@@ -1,8 +1,8 @@
 use Rattle.std.proofs.Common.{rules, ◌∙◌, [], ◌∷◌, sym}
 use Rattle.std.proofs.lemmas.Result.{err_from_is_err_and}
 use Rattle.vg_stok.specs.declared.kinds.Sign.TheVariants as signs
-use Rattle.vg_sgrammar.specs.Kinds.{is_sign, is_name}
-use Rattle.vg_sgrammar.specs.Rules.{field, fields, name, next_name, some_names}
+use Rattle.vg_sgrammar.specs.Kinds.{is_sign}
+use Rattle.vg_sgrammar.specs.Rules.{next_name, some_names}
 use Rattle.vg_sgrammar.specs.Reader.{reads}
 use Rattle.vg_sgrammar.proofs.Steps.{refused_by, listing_same, listing_smaller, listing_turned, listing_failed, name_eats, names_init}
 use Rattle.vg_sgrammar.proofs.reader.Reader.some_names.Goals as goal
