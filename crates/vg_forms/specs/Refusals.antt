@@ -54,7 +54,8 @@ module _ {K N G : Type 0} (grammar : Grammar K N G) where
   -- at a place stands a token with which no tree goes on, while those before it begin one, and none up to it opens a construct that has
   -- no room; or there the last token ends, and one more is needed
   abbrev pub IsSyntax : ℕ → List (Token K) → ℕ → Type 0
-  IsSyntax room toks at = (i : ℕ) × (at ≡ place_at toks i) × Begins (take i toks) × RulesOut toks i (slice_get toks i) × ((j : ℕ) → j ≤ i → Opens room toks j → ⊥)
+  IsSyntax room toks at = (i : ℕ) × (at ≡ place_at toks i) × Begins (take i toks) × RulesOut toks i (slice_get toks i) × ((j : ℕ) → j ≤ i
+      → Opens room toks j → ⊥)
 
   -- at a place stands a token that opens a construct for which there is no room
   abbrev pub IsDeep : ℕ → List (Token K) → ℕ → Type 0

@@ -30,7 +30,10 @@ module _ {K N G : Type 0} (toks : List (Token K)) where
   spelled_with inner (Chain test x more) s b t = (a : _) × (u : State G) × (n : ℕ) × spelled_with inner x s a u
       × Turns toks n (spelled_with inner more) (place_at toks s.at) a u b t
   spelled_with inner (Inner n) s b t = inner n s b t
-  spelled_with inner (Made f) s b t = (g : Growth G _) × (u : State G) × spelled_with inner f s g u × (b ≡ (g u.tree).0) × (t ≡ record u { tree = (g u.tree).1 })
+  spelled_with inner (Made f) s b t = (g : Growth G _) × (u : State G) × spelled_with inner f s g u × (b ≡ (g u.tree).0) × (t ≡ record u {
+    tree =
+        (g u.tree).1;
+  })
 
 module _ {K N G : Type 0} (grammar : Grammar K N G) where
   module _ (toks : List (Token K)) where
