@@ -2,7 +2,6 @@
 use Rattle.std.proofs.Common.{◌≡◌, ◌≤◌, ◌+◌, ℕ, zero, suc, true, false, List, slice_get, Err, refl, subst, arith}
 use Rattle.vg_forms.specs.Places.{State, passes}
 use Rattle.vg_forms.specs.Reading.{Wrong, Deep, read, read_inner}
-use Rattle.vg_forms.proofs.Checks.{eats}
 use Rattle.vg_forms.proofs.Onward.{further, either_side, gains, Gains}
 use Rattle.vg_forms.specs.declared.token.Token.{Token}
 use Rattle.vg_forms.proofs.Checks.{Law}

@@ -1,14 +1,11 @@
 -- The tests of the grammar, token by token: each tells the side. So the tests lead to all that is spelled, and to nothing else.
-use Rattle.std.proofs.Common.{◌≡◌, ℕ, zero, suc, Bool, true, false, Option, List, length, slice_get, refl, sym, subst, arith}
-use Rattle.std.specs.Prelude.{◌&&◌, ◌||◌, not}
-use Rattle.std.proofs.lemmas.Bool.{and_parts}
+use Rattle.std.proofs.Common.{ℕ, zero, suc, false, List, length, slice_get, sym, subst, arith}
 use Rattle.std.proofs.lemmas.Option.{slice_get_past}
-use Rattle.vg_forms.specs.Forms.{Form, Plain, Inner, ◌⊛◌, ◌⊳◌, optional}
 use Rattle.vg_forms.specs.Places.{State}
 use Rattle.vg_forms.specs.Spelling.{spelled_inner, start, Spells}
 use Rattle.vg_forms.specs.Guided.{guided_inner, Guides}
-use Rattle.vg_forms.proofs.Checks.{first, tells, led, implies}
-use Rattle.vg_forms.proofs.Choices.{and_both, After, Leading, leads, leads_some, guide, plain, implied, some_passes}
+use Rattle.vg_forms.proofs.Checks.{first}
+use Rattle.vg_forms.proofs.Choices.{After, Leading, leads, leads_some, guide, plain, implied, some_passes}
 use Rattle.vg_forms.specs.declared.token.Token.{Token}
 use Rattle.vg_forms.proofs.Checks.{Law}
 

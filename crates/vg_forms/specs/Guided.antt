@@ -28,7 +28,10 @@ module _ {K N G : Type 0} (toks : List (Token K)) where
   guided_with inner (Chain test x more) s b t = (a : _) × (u : State G) × (n : ℕ) × guided_with inner x s a u
       × GuidedTurns toks n test (guided_with inner more) (place_at toks s.at) a u b t
   guided_with inner (Inner n) s b t = inner n s b t
-  guided_with inner (Made f) s b t = (g : Growth G _) × (u : State G) × guided_with inner f s g u × (b ≡ (g u.tree).0) × (t ≡ record u { tree = (g u.tree).1 })
+  guided_with inner (Made f) s b t = (g : Growth G _) × (u : State G) × guided_with inner f s g u × (b ≡ (g u.tree).0) × (t ≡ record u {
+    tree =
+        (g u.tree).1;
+  })
 
 module _ {K N G : Type 0} (grammar : Grammar K N G) (toks : List (Token K)) where
   -- the constructs that are counted, with room for so many in one another
@@ -79,8 +82,8 @@ module _ {K N G : Type 0} (grammar : Grammar K N G) (toks : List (Token K)) wher
   lacks_guided i zero n s = (s.at ≡ i) × (passes (grammar.begins n) (slice_get toks s.at) ≡ false)
   lacks_guided i (suc room) n s =
       ((s.at ≡ i) × (passes (grammar.begins n) (slice_get toks s.at) ≡ false))
-      ⊎ ((passes (grammar.begins n) (slice_get toks s.at) ≡ true) × comes_guided toks (guided_inner grammar toks room) (λ u. u.at ≡ i) (lacks_guided i room)
-      (grammar.form n) s)
+      ⊎ ((passes (grammar.begins n) (slice_get toks s.at) ≡ true) × comes_guided toks (guided_inner grammar toks room) (λ u. u.at ≡ i)
+      (lacks_guided i room) (grammar.form n) s)
 
 module _ {K N G : Type 0} (grammar : Grammar K N G) (toks : List (Token K)) where
   -- a counted construct comes to one that begins with the token behind so many, and has no room

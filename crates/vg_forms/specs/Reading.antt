@@ -59,7 +59,8 @@ module _ {K N G : Type 0} (grammar : Grammar K N G) (toks : List (Token K)) wher
   -- a construct that is counted, with room for so many in one another
   abbrev pub read_inner : ℕ → N → Reads G ℕ
   read_inner zero n s = if passes (grammar.begins n) (slice_get toks s.at) then Err (Deep s.at) else Err (Wrong s.at)
-  read_inner (suc room) n s = if passes (grammar.begins n) (slice_get toks s.at) then read_with toks (read_inner room) (grammar.form n) s else Err (Wrong s.at)
+  read_inner (suc room) n s = if passes (grammar.begins n) (slice_get toks s.at) then read_with toks (read_inner room) (grammar.form n) s else Err
+      (Wrong s.at)
 
   abbrev pub read : {A : Type 0} → ℕ → Form K N G A → Reads G A
   read room f s = read_with toks (read_inner room) f s

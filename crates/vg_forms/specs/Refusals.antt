@@ -2,7 +2,7 @@
 use Rattle.std.specs.Prelude.{◌≡◌, ℕ, zero, suc, ◌+◌, ◌≤◌, List, ◌++◌, take, slice_get, true, Option, Some, None, ◌⊎◌}
 use Rattle.vg_forms.specs.declared.token.Token.{Token}
 use Rattle.vg_forms.specs.Forms.{Form, Plain, Place, One, Unless, Both, Either, Chain, Inner, Made, Growth}
-use Rattle.vg_forms.specs.Places.{State, place_at, passes, tested}
+use Rattle.vg_forms.specs.Places.{State, place_at, passes}
 use Rattle.vg_forms.specs.Grammar.{Grammar}
 use Rattle.vg_forms.specs.Spelling.{Spelled, spelled_with, spelled_inner, start, Spells}
 use Rattle.vg_forms.specs.declared.stops.ReadFault.{ReadFault}
@@ -54,8 +54,8 @@ module _ {K N G : Type 0} (grammar : Grammar K N G) where
   -- at a place stands a token with which no tree goes on, while those before it begin one, and none up to it opens a construct that has
   -- no room; or there the last token ends, and one more is needed
   abbrev pub IsSyntax : ℕ → List (Token K) → ℕ → Type 0
-  IsSyntax room toks at = (i : ℕ) × (at ≡ place_at toks i) × Begins (take i toks) × RulesOut toks i (slice_get toks i) ×
-      ((j : ℕ) → j ≤ i → Opens room toks j → ⊥)
+  IsSyntax room toks at = (i : ℕ) × (at ≡ place_at toks i) × Begins (take i toks) × RulesOut toks i (slice_get toks i) × ((j : ℕ) → j ≤ i
+      → Opens room toks j → ⊥)
 
   -- at a place stands a token that opens a construct for which there is no room
   abbrev pub IsDeep : ℕ → List (Token K) → ℕ → Type 0

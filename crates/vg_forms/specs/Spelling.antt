@@ -1,10 +1,10 @@
 -- What tokens spell: the forms of a grammar as relations. A form is spelled by the tokens between two states, and the second state
 -- has the tree that they make. A choice is spelled by either side, and a chain by any number of turns: the tests that forms have for
 -- the reader say nothing here.
-use Rattle.std.specs.Prelude.{◌≡◌, ℕ, zero, suc, ◌+◌, List, [], length, slice_get, false, Some, ◌⊎◌}
+use Rattle.std.specs.Prelude.{◌≡◌, ℕ, zero, suc, ◌+◌, List, length, slice_get, false, Some, ◌⊎◌}
 use Rattle.vg_forms.specs.declared.token.Token.{Token}
 use Rattle.vg_forms.specs.Forms.{Form, Plain, Place, One, Unless, Both, Either, Chain, Inner, Made, Growth}
-use Rattle.vg_forms.specs.Places.{State, place_at, passes, tested}
+use Rattle.vg_forms.specs.Places.{State, place_at, passes}
 use Rattle.vg_forms.specs.Grammar.{Grammar}
 
 -- a relation of a form with a value of A: from a state, with a value, to a state
@@ -30,8 +30,10 @@ module _ {K N G : Type 0} (toks : List (Token K)) where
   spelled_with inner (Chain test x more) s b t = (a : _) × (u : State G) × (n : ℕ) × spelled_with inner x s a u
       × Turns toks n (spelled_with inner more) (place_at toks s.at) a u b t
   spelled_with inner (Inner n) s b t = inner n s b t
-  spelled_with inner (Made f) s b t = (g : Growth G _) × (u : State G) × spelled_with inner f s g u × (b ≡ (g u.tree).0) ×
-      (t ≡ record u { tree = (g u.tree).1 })
+  spelled_with inner (Made f) s b t = (g : Growth G _) × (u : State G) × spelled_with inner f s g u × (b ≡ (g u.tree).0) × (t ≡ record u {
+    tree =
+        (g u.tree).1;
+  })
 
 module _ {K N G : Type 0} (grammar : Grammar K N G) where
   module _ (toks : List (Token K)) where

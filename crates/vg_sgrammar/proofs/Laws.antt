@@ -1,9 +1,10 @@
 -- The grammar's forms meet what makes reading the same as spelling.
-use Rattle.std.proofs.Common.{◌≡◌, ◌≤◌, inl, inr, ℕ, zero, suc, Bool, true, false, List, [], ◌∷◌, ◌++◌, length, slice_get, Option, Some, None, refl, sym, ap, subst, arith}
+use Rattle.std.proofs.Common.{◌≡◌, ◌≤◌, inl, inr, ℕ, zero, suc, Bool, true, false, List, [], ◌∷◌, ◌++◌, length, slice_get, Option, Some, None, refl}
+use Rattle.std.proofs.Common.{sym, subst, arith}
 use Rattle.std.specs.Prelude.{◌&&◌, ◌||◌, not, is_some}
 use Rattle.std.proofs.lemmas.Bool.{and_parts}
 use Rattle.std.proofs.lemmas.Option.{slice_get_cases}
-use Rattle.vg_forms.specs.Forms.{Form, Plain, One, Inner, ◌⊛◌, ◌⊳◌, optional, one_more, Growth}
+use Rattle.vg_forms.specs.Forms.{Plain, One, Inner, ◌⊛◌, ◌⊳◌, optional, one_more}
 use Rattle.vg_forms.specs.Places.{State, passes}
 use Rattle.vg_forms.specs.Spelling.{start}
 use Rattle.vg_forms.specs.Guided.{guided}
@@ -16,10 +17,12 @@ use Rattle.vg_stree.specs.declared.code.Operation.{Operation}
 use Rattle.vg_sgrammar.specs.Written.{Written}
 use Rattle.vg_sgrammar.specs.Kinds.{SToken, is_sign, is_word, is_binary, binary_of, any_token}
 use Rattle.vg_sgrammar.specs.Rules.{Nested, Expression, Operand, Statement, Block, SForm, sgrammar, begins, form, sign, word, name, number, number_alone}
-use Rattle.vg_sgrammar.specs.Rules.{some_expressions, next_expression, ranked, arguments, behind_name, frame_word, pair, framed, parens, has, frame_primary, cell_primary}
+use Rattle.vg_sgrammar.specs.Rules.{some_expressions, next_expression, ranked, arguments, behind_name, frame_word, pair, framed, parens, has}
+use Rattle.vg_sgrammar.specs.Rules.{frame_primary, cell_primary}
 use Rattle.vg_sgrammar.specs.Rules.{known, named_primary, primary, unary, operator, operation_of, operation}
 use Rattle.vg_sgrammar.specs.Rules.{operations, binary, expression, otherwise, assigned, let_statement, alone, send_statement, if_statement}
-use Rattle.vg_sgrammar.specs.Rules.{frame_statement, cell_statement, expire_statement, key, keyed, indexed, lookup_statement, link_statement, statement, statements}
+use Rattle.vg_sgrammar.specs.Rules.{frame_statement, cell_statement, expire_statement, key, keyed, indexed, lookup_statement, link_statement}
+use Rattle.vg_sgrammar.specs.Rules.{statement, statements}
 use Rattle.vg_sgrammar.specs.Rules.{block, ports, width, config, premise, field_type, field, fields, struct_declaration, size, link, vector, prefix, rule}
 use Rattle.vg_sgrammar.specs.Rules.{some_names, next_name, parameters, define, declaration, declarations, ended, specification}
 
@@ -126,21 +129,24 @@ hints = record {
 }
 
 -- the tests tell the sides
-operand_tells : (kind : TokenKind) (from to : ℕ) → tells sgrammar hints (form Operand) (follows Operand (record { kind = kind; from = from; to = to })) (record { kind = kind; from = from; to = to }) ≡ true
+operand_tells : (kind : TokenKind) (from to : ℕ) → tells sgrammar hints (form Operand) (follows Operand
+    (record { kind = kind; from = from; to = to })) (record { kind = kind; from = from; to = to }) ≡ true
 unfolding unary primary parens has frame_primary cell_primary known named_primary framed frame_word number_alone behind_name arguments
     some_expressions next_expression sign word name number
 operand_tells (kinds.Sign signs.Plus) from to = refl
 operand_tells (kinds.Word words.If) from to = refl
 operand_tells _ from to = refl
 
-operand_begins : (kind : TokenKind) (from to : ℕ) → implies (first sgrammar (form Operand) (record { kind = kind; from = from; to = to })) (begins Operand (record { kind = kind; from = from; to = to })) ≡ true
+operand_begins : (kind : TokenKind) (from to : ℕ) → implies (first sgrammar (form Operand) (record { kind = kind; from = from; to = to }))
+    (begins Operand (record { kind = kind; from = from; to = to })) ≡ true
 unfolding unary primary parens has frame_primary cell_primary known named_primary framed frame_word number_alone behind_name arguments
     some_expressions next_expression sign word name number
 operand_begins (kinds.Sign signs.Plus) from to = refl
 operand_begins (kinds.Word words.If) from to = refl
 operand_begins _ from to = refl
 
-expression_begins : (kind : TokenKind) (from to : ℕ) → implies (first sgrammar (form Expression) (record { kind = kind; from = from; to = to })) (begins Expression (record { kind = kind; from = from; to = to })) ≡ true
+expression_begins : (kind : TokenKind) (from to : ℕ) → implies (first sgrammar (form Expression) (record { kind = kind; from = from; to = to }))
+    (begins Expression (record { kind = kind; from = from; to = to })) ≡ true
 unfolding expression binary ranked operations operation operator unary primary parens has frame_primary cell_primary known named_primary
     framed frame_word number_alone behind_name arguments some_expressions next_expression sign word name number
 expression_begins (kinds.Sign signs.Plus) from to = refl
@@ -154,27 +160,31 @@ unary_tells (kinds.Sign signs.Plus) from to = refl
 unary_tells (kinds.Word words.If) from to = refl
 unary_tells _ from to = refl
 
-statement_tells : (kind : TokenKind) (from to : ℕ) → tells sgrammar hints (form Statement) (follows Statement (record { kind = kind; from = from; to = to })) (record { kind = kind; from = from; to = to }) ≡ true
+statement_tells : (kind : TokenKind) (from to : ℕ) → tells sgrammar hints (form Statement) (follows Statement
+    (record { kind = kind; from = from; to = to })) (record { kind = kind; from = from; to = to }) ≡ true
 unfolding statement link_statement assigned otherwise let_statement alone send_statement if_statement frame_statement cell_statement
     expire_statement key keyed indexed lookup_statement framed frame_word number_alone some_expressions next_expression sign word name number
 statement_tells (kinds.Sign signs.Plus) from to = refl
 statement_tells (kinds.Word words.If) from to = refl
 statement_tells _ from to = refl
 
-statement_begins : (kind : TokenKind) (from to : ℕ) → implies (first sgrammar (form Statement) (record { kind = kind; from = from; to = to })) (begins Statement (record { kind = kind; from = from; to = to })) ≡ true
+statement_begins : (kind : TokenKind) (from to : ℕ) → implies (first sgrammar (form Statement) (record { kind = kind; from = from; to = to }))
+    (begins Statement (record { kind = kind; from = from; to = to })) ≡ true
 unfolding statement link_statement assigned otherwise let_statement alone send_statement if_statement frame_statement cell_statement
     expire_statement key keyed indexed lookup_statement framed frame_word number_alone some_expressions next_expression sign word name number
 statement_begins (kinds.Sign signs.Plus) from to = refl
 statement_begins (kinds.Word words.If) from to = refl
 statement_begins _ from to = refl
 
-block_tells : (kind : TokenKind) (from to : ℕ) → tells sgrammar hints (form Block) (follows Block (record { kind = kind; from = from; to = to })) (record { kind = kind; from = from; to = to }) ≡ true
+block_tells : (kind : TokenKind) (from to : ℕ) → tells sgrammar hints (form Block) (follows Block (record { kind = kind; from = from; to = to }))
+    (record { kind = kind; from = from; to = to }) ≡ true
 unfolding block statements sign
 block_tells (kinds.Sign signs.Plus) from to = refl
 block_tells (kinds.Word words.If) from to = refl
 block_tells _ from to = refl
 
-block_begins : (kind : TokenKind) (from to : ℕ) → implies (first sgrammar (form Block) (record { kind = kind; from = from; to = to })) (begins Block (record { kind = kind; from = from; to = to })) ≡ true
+block_begins : (kind : TokenKind) (from to : ℕ) → implies (first sgrammar (form Block) (record { kind = kind; from = from; to = to })) (begins Block
+    (record { kind = kind; from = from; to = to })) ≡ true
 unfolding block statements sign
 block_begins (kinds.Sign signs.Plus) from to = refl
 block_begins (kinds.Word words.If) from to = refl
@@ -221,13 +231,15 @@ binary_tells (suc rank) behind t is =
 abbrev choice : SForm (Option (ℕ × ℕ))
 choice = optional (is_sign signs.Question) (Plain pair ⊛ (sign signs.Question ⊳ Inner Expression) ⊛ (sign signs.Colon ⊳ Inner Expression))
 
-choice_tells : (kind : TokenKind) (from to : ℕ) → tells sgrammar hints choice (follows Expression (record { kind = kind; from = from; to = to })) (record { kind = kind; from = from; to = to }) ≡ true
+choice_tells : (kind : TokenKind) (from to : ℕ) → tells sgrammar hints choice (follows Expression (record { kind = kind; from = from; to = to }))
+    (record { kind = kind; from = from; to = to }) ≡ true
 unfolding sign
 choice_tells (kinds.Sign signs.Plus) from to = refl
 choice_tells (kinds.Word words.If) from to = refl
 choice_tells _ from to = refl
 
-ranks_tell : (kind : TokenKind) (from to : ℕ) → loose 10 (led sgrammar choice (follows Expression (record { kind = kind; from = from; to = to })) (record { kind = kind; from = from; to = to })) (record { kind = kind; from = from; to = to }) ≡ true
+ranks_tell : (kind : TokenKind) (from to : ℕ) → loose 10 (led sgrammar choice (follows Expression (record { kind = kind; from = from; to = to }))
+    (record { kind = kind; from = from; to = to })) (record { kind = kind; from = from; to = to }) ≡ true
 unfolding sign
 ranks_tell (kinds.Sign signs.Plus) from to = refl
 ranks_tell (kinds.Word words.If) from to = refl
@@ -279,23 +291,28 @@ closing P a b c d e f g t is = by t.kind t.from t.to is
 unary_stops : (t : SToken) → closes t ≡ true → stops hints unary t ≡ true
 unfolding unary primary parens has frame_primary cell_primary known named_primary framed frame_word number_alone behind_name arguments
     some_expressions next_expression sign word name number
-unary_stops t is = closing (λ t. stops hints unary t ≡ true) (λ from to. refl) (λ from to. refl) (λ from to. refl) (λ from to. refl) (λ from to. refl) (λ from to. refl) (λ from to. refl) t is
+unary_stops t is = closing (λ t. stops hints unary t ≡ true) (λ from to. refl) (λ from to. refl) (λ from to. refl) (λ from to. refl)
+    (λ from to. refl) (λ from to. refl) (λ from to. refl) t is
 
 choice_stops : (t : SToken) → closes t ≡ true → stops hints choice t ≡ true
 unfolding sign
-choice_stops t is = closing (λ t. stops hints choice t ≡ true) (λ from to. refl) (λ from to. refl) (λ from to. refl) (λ from to. refl) (λ from to. refl) (λ from to. refl) (λ from to. refl) t is
+choice_stops t is = closing (λ t. stops hints choice t ≡ true) (λ from to. refl) (λ from to. refl) (λ from to. refl) (λ from to. refl)
+    (λ from to. refl) (λ from to. refl) (λ from to. refl) t is
 
 statement_stops : (t : SToken) → closes t ≡ true → stops hints statement t ≡ true
 unfolding statement link_statement assigned otherwise let_statement alone send_statement if_statement frame_statement cell_statement
     expire_statement key keyed indexed lookup_statement framed frame_word number_alone some_expressions next_expression sign word name number
-statement_stops t is = closing (λ t. stops hints statement t ≡ true) (λ from to. refl) (λ from to. refl) (λ from to. refl) (λ from to. refl) (λ from to. refl) (λ from to. refl) (λ from to. refl) t is
+statement_stops t is = closing (λ t. stops hints statement t ≡ true) (λ from to. refl) (λ from to. refl) (λ from to. refl) (λ from to. refl)
+    (λ from to. refl) (λ from to. refl) (λ from to. refl) t is
 
 block_stops : (t : SToken) → closes t ≡ true → stops hints block t ≡ true
 unfolding block statements sign
-block_stops t is = closing (λ t. stops hints block t ≡ true) (λ from to. refl) (λ from to. refl) (λ from to. refl) (λ from to. refl) (λ from to. refl) (λ from to. refl) (λ from to. refl) t is
+block_stops t is = closing (λ t. stops hints block t ≡ true) (λ from to. refl) (λ from to. refl) (λ from to. refl) (λ from to. refl)
+    (λ from to. refl) (λ from to. refl) (λ from to. refl) t is
 
 not_binary : (rank : ℕ) (t : SToken) → closes t ≡ true → not (is_binary rank t) ≡ true
-not_binary rank t is = closing (λ t. not (is_binary rank t) ≡ true) (λ from to. refl) (λ from to. refl) (λ from to. refl) (λ from to. refl) (λ from to. refl) (λ from to. refl) (λ from to. refl) t is
+not_binary rank t is = closing (λ t. not (is_binary rank t) ≡ true) (λ from to. refl) (λ from to. refl) (λ from to. refl) (λ from to. refl)
+    (λ from to. refl) (λ from to. refl) (λ from to. refl) t is
 
 binary_stops : (rank : ℕ) (t : SToken) → closes t ≡ true → stops hints (binary rank) t ≡ true
 unfolding binary ranked operations operation operator
@@ -349,7 +366,12 @@ leads_last a (x ∷ xs) t = refl
 
 operations_fit : (rank : ℕ) → fits hints (operation (suc rank) (binary rank)) ≡ true → fits hints (operations (suc rank) (binary rank)) ≡ true
 unfolding operations operation operator
-operations_fit rank is = rw (is, binary_whole rank, leads_last (one_more {G = Written} {A = Operation}) (sample hints (binary_of (suc rank))) (token kinds.Name)) refl
+operations_fit rank is = rw (
+  is,
+  binary_whole rank,
+  leads_last (one_more {G = Written} {A = Operation}) (sample hints (binary_of (suc rank)))
+      (token kinds.Name),
+) refl
 
 operations_eat : (rank : ℕ) → eats (operations (suc rank) (binary rank)) ≡ false
 unfolding operations

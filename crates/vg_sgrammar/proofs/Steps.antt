@@ -1,17 +1,16 @@
 -- The steps of the reader: constructs that are counted, ranks of operators, and loops over parts in lists, as chains.
-use Rattle.std.proofs.Common.{◌≡◌, ◌∙◌, ◌<◌, ◌≤◌, ◌+◌, ◌-◌, ℕ, zero, suc, Bool, true, false, List, [], ◌∷◌, ◌++◌, length, Option, Some, None, is_some, slice_get}
-use Rattle.std.proofs.Common.{Result, Ok, Err, refl, sym, ap, subst, arith}
-use Rattle.vg_forms.specs.Forms.{Plain, Chain, Inner, Growth, ◌⊛◌, listed, one_more}
+use Rattle.std.proofs.Common.{◌≡◌, ◌<◌, ◌≤◌, ◌+◌, ◌-◌, ℕ, zero, suc, Bool, true, false, List, [], ◌∷◌, ◌++◌, length, slice_get}
+use Rattle.std.proofs.Common.{Result, Ok, Err, refl, sym, subst, arith}
+use Rattle.vg_forms.specs.Forms.{Plain, Chain, Inner, ◌⊛◌, listed, one_more}
 use Rattle.vg_forms.specs.Places.{place_at, passes}
-use Rattle.vg_forms.specs.Reading.{Refusal, Wrong, Deep, ◌>>=◌, turn, read, read_inner, Gives}
+use Rattle.vg_forms.specs.Reading.{Refusal, Wrong, Deep, turn, read, read_inner, Gives}
 use Rattle.vg_forms.specs.declared.stops.Stop.{Stop}
 use Rattle.vg_forms.specs.declared.stops.Stop.TheVariants as stops
 use Rattle.vg_forms.proofs.Checks.{eats}
-use Rattle.vg_forms.proofs.Onward.{further, gains, turn-onward}
+use Rattle.vg_forms.proofs.Onward.{further, gains}
 use Rattle.vg_forms.proofs.Chains.{Going, started, ended, failed, turned, some_next}
 use Rattle.vg_forms.proofs.Rooms.{inner_gains}
 use Rattle.vg_forms.proofs.Rooms as rooms
-use Rattle.vg_sgrammar.specs.Written.{Written}
 use Rattle.vg_stok.specs.declared.kinds.Sign.TheVariants as signs
 use Rattle.vg_sgrammar.specs.Kinds.{SToken, is_sign, is_binary, is_name, begins_statement, begins_declaration}
 use Rattle.vg_sgrammar.specs.Rules.{Nested, SForm, sgrammar, begins, form, unary, binary, ranked, sign, operator, operation, operations}

@@ -1,5 +1,5 @@
 -- How the tree grows with each rule of the grammar.
-use Rattle.std.specs.Prelude.{ℕ, List, [], ◌∷◌, ◌++◌, length, Option, Some, None}
+use Rattle.std.specs.Prelude.{ℕ, List, [], ◌∷◌, length, Option, Some, None}
 use Rattle.vg_forms.specs.Forms.{Growth, same}
 use Rattle.vg_stree.specs.declared.code.Operation.{Operation}
 use Rattle.vg_stree.specs.declared.code.Parts.{Parts}

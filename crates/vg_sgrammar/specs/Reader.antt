@@ -1,5 +1,5 @@
 -- What the calls of the reader do, by what reading is. No public clause rests on this file.
-use Rattle.std.specs.Prelude.{◌≡◌, ℕ, List, slice_get, Option, Result, Ok, Err}
+use Rattle.std.specs.Prelude.{ℕ, List, slice_get, Option, Result, Ok, Err}
 use Rattle.std.specs.Global.{Vec}
 use Rattle.vg_forms.specs.Places.{State}
 use Rattle.vg_forms.specs.Reading.{Reads, read, read_inner}

@@ -182,7 +182,8 @@ send_statement = Made (Plain (λ at port. grow.statement at (stmts.Send port)) �
 
 -- if expression block [ else block ]
 unfoldable pub if_statement : SForm ℕ
-if_statement = Made (Plain (λ at condition a b. grow.statement at (stmts.If condition a b)) ⊛ Place ⊲ word words.If ⊛ Inner Expression ⊛ Inner Block ⊛ otherwise)
+if_statement = Made (Plain (λ at condition a b. grow.statement at
+    (stmts.If condition a b)) ⊛ Place ⊲ word words.If ⊛ Inner Expression ⊛ Inner Block ⊛ otherwise)
 
 -- frame . w [ number ] = expression ;
 unfoldable pub frame_statement : SForm ℕ

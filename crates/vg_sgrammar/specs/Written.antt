@@ -1,5 +1,5 @@
 -- What contracts see of a specification as it is written.
-use Rattle.std.specs.Prelude.{ℕ, List, [], ◌∷◌, ◌++◌, length}
+use Rattle.std.specs.Prelude.{ℕ, List, [], ◌∷◌, ◌++◌}
 use Rattle.vg_stree.specs.declared.code.Operation.{Operation}
 use Rattle.vg_sgrammar.specs.declared.tree.Placed.{Placed}
 use Rattle.vg_sgrammar.specs.declared.tree.Name.{Name}

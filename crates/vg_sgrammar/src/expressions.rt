@@ -7,7 +7,8 @@ ghost use Rattle.vg_sgrammar.specs.Kinds.{is_binary, binary_of, frame_word_of};
 ghost use Rattle.vg_sgrammar.specs.Reader.{reads, reads_inner, next, items_of};
 ghost use Rattle.vg_sgrammar.specs.Rules as rules;
 ghost use Rattle.vg_sgrammar.specs.Rules.{number_alone, some_expressions, arguments, frame_word, framed, parens, has};
-ghost use Rattle.vg_sgrammar.specs.Rules.{frame_primary, cell_primary, known, named_primary, primary, unary, operator, operation, operations, ranked, next_expression};
+ghost use Rattle.vg_sgrammar.specs.Rules.{frame_primary, cell_primary, known, named_primary, primary, unary, operator, operation, operations, ranked};
+ghost use Rattle.vg_sgrammar.specs.Rules.{next_expression};
 ghost use Rattle.vg_sgrammar.specs.Rules.{binary, expression};
 
 use crate::kinds::{binary_of, frame_word_of};

@@ -11,3 +11,8 @@ mod tree;
 
 pub use reading::{MOST_NESTED, WrittenSpec, read_written};
 pub use tree::{Block, Declaration, Expression, Field, Name, Placed, Size, Statement, Tree};
+
+#[cfg(test)]
+mod functions;
+#[cfg(test)]
+mod tests;

@@ -37,7 +37,8 @@ not_given v e = elim (cases_Bool (nat_lt v 18446744073709551616)) [
 ]
 
 -- the digits from one on
-pub later-le : (base n : ℕ) (digits : List ℕ) (i : ℕ) → 0 < base → i < length digits → n * base + digit_of (get_or digits i 0) ≤ value_on base n (drop i digits)
+pub later-le : (base n : ℕ) (digits : List ℕ) (i : ℕ) → 0 < base → i < length digits → n * base + digit_of (get_or digits i 0) ≤ value_on base n
+    (drop i digits)
 later-le base n digits i some h =
     let first : drop i digits ≡ get_or digits i 0 ∷ drop (i + 1) digits = rw (add-one, drop-cons digits i 0) refl in
     rw first (value_on-le base (n * base + digit_of (get_or digits i 0)) (drop (i + 1) digits) some)

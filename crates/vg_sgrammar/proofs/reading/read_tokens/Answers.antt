@@ -1,5 +1,4 @@
 use Rattle.std.proofs.Common.{◌≡◌, ◌∙◌, inr, ℕ, sym, ap, subst, Ok}
-use Rattle.vg_forms.specs.Spelling.{start}
 use Rattle.vg_forms.specs.Reading.{Wrong, Deep, read}
 use Rattle.vg_forms.specs.declared.stops.ReadFault.TheVariants as faults
 use Rattle.vg_forms.proofs.Answering.{gave_wrong, gave_deep, no_fault, wrong_fault, wrong_only, deep_fault, deep_only, spelled_root, only_root, only_tree}
@@ -34,19 +33,23 @@ returns-in-Ok-clause-only_fault c = λ f is.
 
 pub returns-in-Err-Wrong-clause-fault : goal.returns-in-Err-Wrong-clause-fault
 returns-in-Err-Wrong-clause-fault c =
-    let e = gave_wrong law c.args.toks.now 64 c.in-Err-Wrong.field-0 c.new-reader.result c.specification.new.self c.in-Err-Wrong.field-0-is c.new-reader.ensures
+    let e = gave_wrong law c.args.toks.now 64 c.in-Err-Wrong.field-0 c.new-reader.result c.specification.new.self c.in-Err-Wrong.field-0-is
+    c.new-reader.ensures
     c.in-Err-Wrong.ensures in
-    inr (subst (λ (p : ℕ). RefusesTokens c.args.toks.now (faults.Syntax p)) (sym c.place.ensures) (wrong_fault law c.args.toks.now 64 c.specification.new.self.at e))
+    inr (subst (λ (p : ℕ). RefusesTokens c.args.toks.now (faults.Syntax p)) (sym c.place.ensures)
+    (wrong_fault law c.args.toks.now 64 c.specification.new.self.at e))
 
 pub returns-in-Err-Wrong-clause-only_tree : goal.returns-in-Err-Wrong-clause-only_tree
 returns-in-Err-Wrong-clause-only_tree c = λ tree step is.
-    let e = gave_wrong law c.args.toks.now 64 c.in-Err-Wrong.field-0 c.new-reader.result c.specification.new.self c.in-Err-Wrong.field-0-is c.new-reader.ensures
+    let e = gave_wrong law c.args.toks.now 64 c.in-Err-Wrong.field-0 c.new-reader.result c.specification.new.self c.in-Err-Wrong.field-0-is
+    c.new-reader.ensures
     c.in-Err-Wrong.ensures in
     absurd (no_tree law c.args.toks.now 64 (Wrong c.specification.new.self.at) tree e (step, is))
 
 pub returns-in-Err-Wrong-clause-only_fault : goal.returns-in-Err-Wrong-clause-only_fault
 returns-in-Err-Wrong-clause-only_fault c = λ f is.
-    let e = gave_wrong law c.args.toks.now 64 c.in-Err-Wrong.field-0 c.new-reader.result c.specification.new.self c.in-Err-Wrong.field-0-is c.new-reader.ensures
+    let e = gave_wrong law c.args.toks.now 64 c.in-Err-Wrong.field-0 c.new-reader.result c.specification.new.self c.in-Err-Wrong.field-0-is
+    c.new-reader.ensures
     c.in-Err-Wrong.ensures in
     inr (ap faults.Syntax c.place.ensures ∙ wrong_only law c.args.toks.now 64 c.specification.new.self.at f e is)
 
@@ -54,7 +57,8 @@ pub returns-in-Err-Deep-clause-fault : goal.returns-in-Err-Deep-clause-fault
 returns-in-Err-Deep-clause-fault c =
     let e = gave_deep law c.args.toks.now 64 c.in-Err-Deep.field-0 c.new-reader.result c.specification.new.self c.in-Err-Deep.field-0-is c.new-reader.ensures
     c.in-Err-Deep.ensures in
-    inr (subst (λ (p : ℕ). RefusesTokens c.args.toks.now (faults.Deep p)) (sym c.place-in-Err-Deep.ensures) (deep_fault law c.args.toks.now 64 c.specification.new.self.at e))
+    inr (subst (λ (p : ℕ). RefusesTokens c.args.toks.now (faults.Deep p)) (sym c.place-in-Err-Deep.ensures)
+    (deep_fault law c.args.toks.now 64 c.specification.new.self.at e))
 
 pub returns-in-Err-Deep-clause-only_tree : goal.returns-in-Err-Deep-clause-only_tree
 returns-in-Err-Deep-clause-only_tree c = λ tree step is.

@@ -1,11 +1,10 @@
-use Rattle.std.proofs.Common.{rules, ◌∙◌, ◌-◌, ◌<◌, [], ◌∷◌, sym, subst, arith}
+use Rattle.std.proofs.Common.{rules, ◌∙◌, ◌-◌, [], ◌∷◌, sym, subst, arith}
 use Rattle.std.proofs.lemmas.Result.{err_from_is_err_and}
-use Rattle.vg_forms.specs.Forms.{Inner}
 use Rattle.vg_forms.specs.Reading.{Gives}
 use Rattle.vg_stok.specs.declared.kinds.Sign.TheVariants as signs
 use Rattle.vg_sgrammar.specs.Kinds.{is_sign, is_binary}
-use Rattle.vg_sgrammar.specs.Rules.{Expression, some_expressions, next_expression, operations, operation, binary, ranked}
-use Rattle.vg_sgrammar.specs.Reader.{reads, reads_inner}
+use Rattle.vg_sgrammar.specs.Rules.{some_expressions, next_expression, operations, operation, binary}
+use Rattle.vg_sgrammar.specs.Reader.{reads}
 use Rattle.vg_sgrammar.proofs.Steps.{rank_none, rank_some, refused_by, listing_same, listing_smaller, listing_turned, listing_failed, listing_ended}
 use Rattle.vg_sgrammar.proofs.Steps.{operation_eats, operations_init, expression_eats, expressions_init}
 use Rattle.vg_sgrammar.proofs.reader.Reader.+expression.Goals as goal

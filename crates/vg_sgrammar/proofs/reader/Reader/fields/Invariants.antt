@@ -1,7 +1,6 @@
 use Rattle.std.proofs.Common.{◌-◌, length}
-use Rattle.vg_stok.specs.declared.kinds.Sign.TheVariants as signs
-use Rattle.vg_sgrammar.specs.Kinds.{is_sign, is_name}
-use Rattle.vg_sgrammar.specs.Rules.{field, fields, name, next_name, some_names}
+use Rattle.vg_sgrammar.specs.Kinds.{is_name}
+use Rattle.vg_sgrammar.specs.Rules.{field, fields}
 use Rattle.vg_sgrammar.specs.Reader.{reads}
 use Rattle.vg_sgrammar.proofs.Steps.{Listing}
 use Rattle.vg_sgrammar.proofs.reader.Reader.fields.Given as goal
