@@ -102,3 +102,11 @@ pub lookup_told : (choices : List ℕ) (s : State) (table address : ℕ) (t : Ta
     → match_in s.library.full (prefixes_of s.library table) address ≡ Some found →
     granted choices s (library.PrefixLookup table address) (Some t) ≡ answered s (Some t) found
 lookup_told choices s table address t found e = ap (questioned s (Some t)) e ∙ questioned_told s t found
+
+pub key_fails : (choices : List ℕ) (s : State) (call : library.Call) (t : Option Target) (stop : Stop) → meets_key s call ≡ Err stop →
+    and_then (meets_key s call) (λ _. granted choices s call t) ≡ Err stop
+key_fails choices s call t stop e = ap (λ r. and_then r (λ _. granted choices s call t)) e
+
+pub key_passes : (choices : List ℕ) (s : State) (call : library.Call) (t : Option Target) → meets_key s call ≡ Ok (tt {0}) →
+    and_then (meets_key s call) (λ _. granted choices s call t) ≡ granted choices s call t
+key_passes choices s call t e = ap (λ r. and_then r (λ _. granted choices s call t)) e

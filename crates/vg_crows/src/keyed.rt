@@ -3,13 +3,14 @@ ghost use Rattle.std.specs.Prelude.{◌≡◌, ◌<◌, ◌≤◌, ◌^◌, fals
 ghost use Rattle.vg_abs.specs.State.{link_of_map};
 ghost use Rattle.vg_crows.specs.State.{or_wrong};
 ghost use Rattle.vg_crows.specs.Access as accesses;
-ghost use Rattle.vg_crows.specs.Views.{CellsAreThere, NamesMap, SameLent, gives, is_untold, seen, with_value};
+ghost use Rattle.vg_crows.specs.Views.{CellsAreThere, NamesMap, SameLent, StopsWith, gives, is_untold, seen, with_value};
 ghost use Rattle.vg_crows.specs.Rows.{perform};
 ghost use Rattle.vg_crows.specs.declared.request.Request.TheVariants as requests;
 
 use crate::access::read;
 use crate::answer::{Answer, Stop};
 use crate::book::Book;
+use crate::needs::needs_present;
 use crate::request::Handle;
 use crate::stored::answer_stored;
 use vg_abs::Lib;
@@ -44,6 +45,35 @@ pub fn map_get<L: Lib>(
         return Err(Stop::Untold);
     }
     answer_stored(memory, frame, book, lib, index, 4, found)
+}
+
+/// `map_erase`
+pub fn map_erase<L: Lib>(
+    memory: &FrameMemory,
+    frame: &[u8],
+    book: &mut Book,
+    lib: &mut L,
+    map: Handle,
+    key: Pointer,
+) -> Result<Answer, Stop>
+    requires told { (L.library lib.old).missed ≡ false }
+    requires map { NamesMap (L.library lib.old) map }
+    requires lent { SameLent (L.library lib.old) book.old }
+    requires cells { CellsAreThere (L.library lib.old) book.old }
+    ensures value { (choices : List ℕ) → gives result (seen memory.now frame.now (L.library lib.new) book.new)
+        ≡ perform choices (seen memory.now frame.now (L.library lib.old) book.old) (requests.MapErase map key) }
+    ensures stops { StopsWith result (L.library lib.old) (L.library lib.new) book.old book.new }
+    ensures lent { SameLent (L.library lib.new) book.new }
+    ensures choices { (L.library lib.new).choices ≡ (L.library lib.old).choices }
+    ensures missed { (L.library lib.new).missed ≡ is_untold result }
+{
+    let mut room = [0; 64];
+    let bytes = &mut room[..map.key_length as usize];
+    read_key(memory, frame, book, lib, map, key, bytes)?;
+    needs_present(lib, 6, map, bytes)?;
+    lib.map_erase(map.number, bytes);
+    book.mark(map.number);
+    Ok(Answer::Nothing)
 }
 
 // The bytes of a key.
