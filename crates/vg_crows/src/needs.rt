@@ -107,5 +107,6 @@ pub fn needs_absent<L: Lib>(lib: &mut L, row: u8, map: Handle, key: &[u8]) -> Re
     if lib.missed() {
         return Err(Stop::Untold);
     }
-    decided(row, found.is_none())
+    let is_present = found.is_some();
+    decided(row, !is_present)
 }

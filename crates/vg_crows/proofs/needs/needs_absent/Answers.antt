@@ -16,7 +16,7 @@ returns-then-missed-clause-untouched g c =
 pub returns-clause-value : goal.returns-clause-value
 returns-clause-value g c = λ book.
     let found = told_as _ _ _ c.map_get-found.result c.map_get-found.ensures c.requires.told (sym c.missed.ensures.missed ∙ c.if-missed.false) in
-    c.decided.ensures ∙ (ap (λ (b : Bool). decided c.args.row (Some (not b))) c.is_none.ensures
+    c.decided.ensures ∙ (ap (λ (b : Bool). decided c.args.row (Some (not b))) c.is_some-is_present.ensures
     ∙ sym (ap (λ q. decided c.args.row (option_map (λ answer. is_none answer) q)) found))
 
 pub returns-clause-untouched : goal.returns-clause-untouched
