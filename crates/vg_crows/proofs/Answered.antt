@@ -110,3 +110,9 @@ key_fails choices s call t stop e = ap (λ r. and_then r (λ _. granted choices 
 pub key_passes : (choices : List ℕ) (s : State) (call : library.Call) (t : Option Target) → meets_key s call ≡ Ok (tt {0}) →
     and_then (meets_key s call) (λ _. granted choices s call t) ≡ granted choices s call t
 key_passes choices s call t e = ap (λ r. and_then r (λ _. granted choices s call t)) e
+
+pub key_before : (choices : List ℕ) (s : State) (map : ℕ) (key : Pointer) (call : List ℕ → library.Call) (t : Option Target) (stop : Stop) →
+    meets_numbers s (call []) ≡ Err stop → by_key choices s map key call t ≡ Err stop
+key_before choices s map key call t stop e =
+    ap (λ r. and_then r (λ _. and_then (or_wrong (bytes_behind s key (link_of_map s.library map).key_length))
+    (λ bytes. and_then (meets_key s (call bytes)) (λ _. granted choices s (call bytes) t)))) e

@@ -57,6 +57,12 @@ two_met P one other h i zero d less = h
 two_met P one other h i (suc zero) d less = i
 two_met P one other h i (suc (suc k)) d less = absurd (omega arith)
 
+pub three_met : (P : Need → Type 0) (one two three : Need) → P one → P two → P three → All P (one ∷ two ∷ three ∷ [])
+three_met P one two three h i j zero d less = h
+three_met P one two three h i j (suc zero) d less = i
+three_met P one two three h i j (suc (suc zero)) d less = j
+three_met P one two three h i j (suc (suc (suc k))) d less = absurd (omega arith)
+
 -- the same, of a library that is as it was
 pub still_met : (state now : library.State) (needs : List Need) → now ≡ state → All (λ (need : Need). is_met state fresh need ≡ Some true) needs →
     All (λ (need : Need). is_met now fresh need ≡ Some true) needs
