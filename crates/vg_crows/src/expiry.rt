@@ -33,3 +33,33 @@ fn expire_needs(book: &Book, map: Handle, chain: Handle, vector: Handle) -> Resu
     decided(12, !is_changed)?;
     decided(12, !is_lent)
 }
+
+/// `expire_items`. A link that wasn't changed is as it came, which gives an expiry what it needs.
+pub fn expire_items<L: Lib>(
+    book: &mut Book,
+    lib: &mut L,
+    map: Handle,
+    chain: Handle,
+    vector: Handle,
+    before: u64,
+) -> Result<Answer, Stop>
+    requires told { (L.library lib.old).missed ≡ false }
+    requires map { NamesMap (L.library lib.old) map }
+    requires lent { SameLent (L.library lib.old) book.old }
+    requires tied { IsTiedUnlessChanged (L.library lib.old) book.old map.number }
+    ensures value { (choices : List ℕ) (own : memory.State)
+        → gives result (beside own (L.library lib.new) book.new) ≡ perform choices (beside own (L.library lib.old) book.old)
+        (requests.ExpireItems map chain vector before) }
+    ensures stops { StopsWith result (L.library lib.old) (L.library lib.new) book.old book.new }
+    ensures lent { SameLent (L.library lib.new) book.new }
+    ensures choices { (L.library lib.new).choices ≡ (L.library lib.old).choices }
+    ensures missed { (L.library lib.new).missed ≡ is_untold result }
+{
+    expire_needs(book, map, chain, vector)?;
+    let count = lib.expire(map.number, before);
+    if lib.missed() {
+        return Err(Stop::Untold);
+    }
+    book.mark(map.number);
+    Ok(Answer::Word(count as u64))
+}
