@@ -1,12 +1,12 @@
 -- Answers that are stored.
-use Rattle.std.proofs.Common.{◌≡◌, ◌∙◌, sym, ap, refl, ℕ, List, [], Option, Some, None, Result, Ok, Err}
+use Rattle.std.proofs.Common.{◌≡◌, ◌∙◌, ap, refl, ℕ, List, [], Option, Some, None, Result, Ok, Err}
 use Rattle.vg_core.specs.declared.reason.Reason.{Reason}
 use Rattle.vg_cint.specs.Tests.{first_against, unless}
 use Rattle.vg_cmemory.specs.Access.{leaves}
 use Rattle.vg_cmemory.specs.declared.object.Pointer.{Pointer}
 use Rattle.vg_abs.specs.Rows as library
 use Rattle.vg_abs.specs.Rows.{case_by, with_stored}
-use Rattle.std.specs.Prelude.{Bool, true, false, is_some, option_map}
+use Rattle.std.specs.Prelude.{Bool, is_some, option_map}
 use Rattle.vg_abs.specs.Answers.{index_of, time_of, match_in}
 use Rattle.vg_abs.specs.State.{link_of_map, link_of_chain, prefixes_of}
 use Rattle.vg_crows.specs.declared.answer.Answer.TheVariants as answers
@@ -75,7 +75,6 @@ key_read choices s map key call t bytes e f =
     ∙ ap (λ r. and_then r (λ bytes. and_then (meets_key s (call bytes)) (λ _. granted choices s (call bytes) t))) f
 
 -- ---- a question without a place
-
 
 abbrev asked_by : State → Option (Option ℕ) → Outcome
 asked_by s q = and_then (told (case_by q)) (λ _. Ok (word_of (with_stored q).answer, s))

@@ -1,15 +1,13 @@
 -- What a change of a link leaves of the vectors.
-use Rattle.std.proofs.Common.{◌≡◌, ◌≢◌, ◌∙◌, sym, ap, subst, refl, ℕ, zero, suc, ◌-◌, ◌<◌, ◌≤◌, nat_eq, Bool, true, false, List, [], ◌∷◌, length, All, Option, Some, None, ◌⊎◌, inl, inr}
+use Rattle.std.proofs.Common.{◌≡◌, ◌≢◌, ◌∙◌, sym, ap, subst, refl, ℕ, zero, suc, ◌-◌, nat_eq, true, false, List, [], ◌∷◌, Option, Some, None, ◌⊎◌, inl, inr}
 use Rattle.std.specs.Prelude.{slice_get, slice_set}
-use Rattle.std.specs.FinMap.{get}
 use Rattle.std.proofs.lemmas.Bool.Decides.{eqb_tells}
 use Rattle.vg_abs.specs.declared.object.Object.{Object}
 use Rattle.vg_abs.specs.declared.object.Object.TheVariants.{Map, Chain, Keys, Cells, Prefixes}
-use Rattle.vg_abs.specs.Tables.{Link, Vector}
+use Rattle.vg_abs.specs.Tables.{Link}
 use Rattle.vg_abs.specs.State.{State, link_in, vector_in, vector_of}
 use Rattle.vg_abs.specs.Effects.{with_link}
 use Rattle.vg_abs.specs.Library.{Library, IsMapIn, IsVector, IsVectorIn}
-use Rattle.vg_crows.specs.declared.book.Cell.{Cell}
 
 get_same : {A : Type 0} (xs : List A) (m : ℕ) (x y : A) → slice_get xs m ≡ Some x → slice_get (slice_set xs m y) m ≡ Some y
 get_same [] m x y e = cc
@@ -86,7 +84,7 @@ is_by l t m v old new e r (inl same) is =
     (subst (λ (j : ℕ). slice_get l.state.objects j ≡ Some (Map old)) same.1 r.is) is in absurd none
 is_by l t m v old new e r (inr other) is =
     let after : slice_get t.state.objects v ≡ slice_get l.state.objects v =
-        ap (λ (s : State). slice_get s.objects v) e ∙ get_other l.state.objects m v (Map new) other.1 in
+    ap (λ (s : State). slice_get s.objects v) e ∙ get_other l.state.objects m v (Map new) other.1 in
     subst (λ (o : Option Object). IsVectorIn t v o) (sym after)
     (in_by l t v (slice_get l.state.objects v)
     (λ was. subst (λ (s : State). IsMapIn (slice_get s.objects (v - 2))) (sym e) (map_by l.state m (v - 2) old new r (eqb_tells m (v - 2)) was)) is)

@@ -1,5 +1,5 @@
 -- Calls, need by need.
-use Rattle.std.proofs.Common.{◌≡◌, ◌∙◌, sym, ap, subst, refl, ℕ, zero, suc, ◌<◌, Bool, true, false, List, [], ◌∷◌, length, All, Option, Some, None, Result, Ok, Err, IsErrAnd, arith}
+use Rattle.std.proofs.Common.{◌≡◌, ◌∙◌, sym, ap, subst, refl, ℕ, zero, suc, Bool, true, false, List, [], ◌∷◌, All, Option, Some, None, Result, Ok, Err, IsErrAnd, arith}
 use Rattle.vg_cmemory.specs.State as memory
 use Rattle.vg_abs.specs.State as library
 use Rattle.vg_abs.specs.Library.{Library}

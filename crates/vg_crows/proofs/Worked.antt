@@ -1,5 +1,5 @@
 -- The worked frames are as the definitions have them.
-use Rattle.std.proofs.Common.{refl, Option}
+use Rattle.std.proofs.Common.{refl}
 use Rattle.std.specs.Prelude.{ℕ, List, [], ◌∷◌}
 use Rattle.std.specs.Cmp.Lexicographic.{slice_cmp}
 use Rattle.std.specs.Ordering.{nat_cmp}
@@ -13,7 +13,7 @@ loans = (
   rw (get-insert {X = List ℕ} nat_cmp_total empty 0 (0 ∷ []) 0) refl,
   rw (get-insert {X = List ℕ} nat_cmp_total empty 0 (0 ∷ []) 0) refl,
   rw (get-insert {X = List ℕ} nat_cmp_total empty 0 (0 ∷ []) 0) refl,
-  rw (get-insert {X = List ℕ} nat_cmp_total empty 0 (0 ∷ []) 0) refl
+  rw (get-insert {X = List ℕ} nat_cmp_total empty 0 (0 ∷ []) 0) refl,
 )
 
 pub refusals : RefusalsComeInOrder
@@ -28,5 +28,5 @@ refusals = (
   refl,
   rw (get-empty nat_cmp 0) refl,
   refl,
-  rw (get-empty (slice_cmp nat_cmp) (7 ∷ [])) refl
+  rw (get-empty (slice_cmp nat_cmp) (7 ∷ [])) refl,
 )

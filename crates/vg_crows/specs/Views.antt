@@ -1,5 +1,5 @@
 -- What contracts see of what calls work on.
-use Rattle.std.specs.Prelude.{ℕ, ◌≡◌, Bool, true, false, List, length, map, take, drop, All, ◌≤◌, ◌==◌, Option, Some, Result, Ok, Err, OnErr}
+use Rattle.std.specs.Prelude.{ℕ, ◌≡◌, Bool, true, false, List, length, map, take, drop, All, ◌≤◌, ◌==◌, Some, Result, Ok, Err, OnErr}
 use Rattle.std.specs.FinMap.{get}
 use Rattle.std.specs.List.{list_any}
 use Rattle.vg_cmemory.specs.State.{Own}

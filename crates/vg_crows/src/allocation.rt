@@ -39,12 +39,7 @@ fn is_used_up<L: Lib>(lib: &L, chain: Handle) -> bool
 }
 
 // The next index, which is one that can be handed out.
-fn take_choice<L: Lib>(
-    book: &mut Book,
-    lib: &mut L,
-    chain: Handle,
-    time: u64,
-) -> Result<u32, Stop>
+fn take_choice<L: Lib>(book: &mut Book, lib: &mut L, chain: Handle, time: u64) -> Result<u32, Stop>
     requires told { (L.library lib.old).missed ≡ false }
     requires chain { NamesChain (L.library lib.old) chain }
     requires lent { SameLent (L.library lib.old) book.old }

@@ -49,12 +49,7 @@ pub fn chain_free<L: Lib>(
     Ok(Answer::Nothing)
 }
 
-fn rejuvenate_needs<L: Lib>(
-    lib: &mut L,
-    chain: Handle,
-    index: u32,
-    time: u64,
-) -> Result<(), Stop>
+fn rejuvenate_needs<L: Lib>(lib: &mut L, chain: Handle, index: u32, time: u64) -> Result<(), Stop>
     requires told { (L.library lib.old).missed ≡ false }
     requires chain { NamesChain (L.library lib.old) chain }
     ensures value { (own : memory.State) (book : Record)

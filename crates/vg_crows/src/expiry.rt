@@ -19,7 +19,10 @@ fn needs_one_link(map: Handle, chain: Handle, vector: Handle) -> Result<(), Stop
     ensures { result ≡ decided 12 (Some ((chain.number == map.number + 1) && (vector.number == map.number + 2))) }
 {
     let map = map.number as u32;
-    decided(12, chain.number as u32 == map + 1 && vector.number as u32 == map + 2)
+    decided(
+        12,
+        chain.number as u32 == map + 1 && vector.number as u32 == map + 2,
+    )
 }
 
 fn expire_needs(book: &Book, map: Handle, chain: Handle, vector: Handle) -> Result<(), Stop>

@@ -54,12 +54,7 @@ pub fn needs_fewer(row: u8, count: usize, most: usize) -> Result<(), Stop>
 /// An index must be allocated.
 ///
 /// `Before`: it is free, with the number of the call's row. `Untold`: that isn't told.
-pub fn needs_allocated<L: Lib>(
-    lib: &mut L,
-    row: u8,
-    chain: Handle,
-    index: u32,
-) -> Result<(), Stop>
+pub fn needs_allocated<L: Lib>(lib: &mut L, row: u8, chain: Handle, index: u32) -> Result<(), Stop>
     requires told { (L.library lib.old).missed ≡ false }
     requires chain { NamesChain (L.library lib.old) chain }
     requires inside { index < chain.count }

@@ -19,9 +19,13 @@ pub enum Request {
     /// `packet_length`
     PacketLength,
     /// `packet_borrow`
-    PacketBorrow { count: u64 },
+    PacketBorrow {
+        count: u64,
+    },
     /// `packet_return`
-    PacketReturn { chunk: Pointer },
+    PacketReturn {
+        chunk: Pointer,
+    },
     /// `map_get`
     MapGet {
         map: Handle,
@@ -35,9 +39,14 @@ pub enum Request {
         index: u32,
     },
     /// `map_erase`
-    MapErase { map: Handle, key: Pointer },
+    MapErase {
+        map: Handle,
+        key: Pointer,
+    },
     /// `map_size`
-    MapSize { map: Handle },
+    MapSize {
+        map: Handle,
+    },
     /// `chain_allocate`
     ChainAllocate {
         chain: Handle,
@@ -45,7 +54,10 @@ pub enum Request {
         time: u64,
     },
     /// `chain_is_allocated`
-    ChainIsAllocated { chain: Handle, index: u32 },
+    ChainIsAllocated {
+        chain: Handle,
+        index: u32,
+    },
     /// `chain_rejuvenate`
     ChainRejuvenate {
         chain: Handle,
@@ -53,7 +65,10 @@ pub enum Request {
         time: u64,
     },
     /// `chain_free`
-    ChainFree { chain: Handle, index: u32 },
+    ChainFree {
+        chain: Handle,
+        index: u32,
+    },
     /// `expire_items`
     ExpireItems {
         map: Handle,
@@ -62,9 +77,15 @@ pub enum Request {
         before: u64,
     },
     /// `vector_borrow`
-    VectorBorrow { vector: Handle, index: u32 },
+    VectorBorrow {
+        vector: Handle,
+        index: u32,
+    },
     /// `vector_return`
-    VectorReturn { vector: Handle, cell: Pointer },
+    VectorReturn {
+        vector: Handle,
+        cell: Pointer,
+    },
     /// `prefix_lookup`
     PrefixLookup {
         table: Handle,

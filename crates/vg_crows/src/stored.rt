@@ -68,6 +68,16 @@ pub fn answer_stored<L: Lib>(
     let Some(value) = found else {
         return Ok(Answer::Word(0));
     };
-    let stored = store(memory, frame, book, lib, place, None, size, size, value as u64);
+    let stored = store(
+        memory,
+        frame,
+        book,
+        lib,
+        place,
+        None,
+        size,
+        size,
+        value as u64,
+    );
     yes(stored)
 }

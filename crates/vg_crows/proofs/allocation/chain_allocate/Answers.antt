@@ -1,11 +1,9 @@
-use Rattle.std.proofs.Common.{◌≡◌, ◌∙◌, sym, ap, subst, ℕ, [], Ok, Err, Some, None, Result, IfOk, true, false, Bool, length, ◌<◌, refl, arith}
+use Rattle.std.proofs.Common.{◌≡◌, ◌∙◌, sym, ap, subst, Some, Result, IfOk, true, length, ◌<◌, refl, arith}
 use Rattle.vg_abs.specs.Rows as library
 use Rattle.vg_crows.specs.declared.answer.Answer.{Answer}
 use Rattle.vg_crows.specs.declared.answer.Stop.{Stop}
-use Rattle.vg_crows.specs.State.{State}
-use Rattle.vg_crows.specs.Record.{fresh}
 use Rattle.vg_crows.specs.Rows.{target}
-use Rattle.vg_crows.specs.Views.{beside, seen, gives, is_untold}
+use Rattle.vg_crows.specs.Views.{seen, gives, is_untold}
 use Rattle.vg_crows.proofs.Steps.{stopped, passed, numbers_ok, each_met, two_met}
 use Rattle.vg_crows.proofs.Allocated.{granted_used, granted_stop, granted_go}
 use Rattle.vg_crows.proofs.allocation.chain_allocate.Goals as goal
@@ -50,7 +48,7 @@ hand_out-requires-clause-needs g c = λ told.
     let s = seen c.args.memory.now c.args.frame.now (g.L.Lib.library c.args.lib.now) c.args.book.now in
     let state = (g.L.Lib.library c.args.lib.now).state in
     let met = each_met s 8 (library.needs (library.ChainAllocate c.args.chain.number c.args.time))
-        (sym (c.allocate_needs.ensures.value s.memory) ∙ c.in_ok-allocate_needs.was) in
+    (sym (c.allocate_needs.ensures.value s.memory) ∙ c.in_ok-allocate_needs.was) in
     two_met (λ (need : library.Need). library.is_met state library.fresh need ≡ Some true) (library.IsNoEarlier c.args.chain.number c.args.time) library.MayBeHanded
     (met 0 library.MayBeHanded (omega arith)) refl
 

@@ -1,4 +1,4 @@
-use Rattle.std.proofs.Common.{◌≡◌, ◌∙◌, sym, ap, Ok, [], ◌∷◌, true, Bool, Some}
+use Rattle.std.proofs.Common.{◌≡◌, ◌∙◌, sym, ap, Ok, [], ◌∷◌, Some}
 use Rattle.std.specs.Prelude.{nat_lt, nat_le}
 use Rattle.vg_abs.specs.Rows as library
 use Rattle.vg_abs.specs.State.{link_of_chain}
@@ -11,7 +11,7 @@ pub returns-in_err-needs_allocated-clause-value : goal.returns-in_err-needs_allo
 returns-in_err-needs_allocated-clause-value g c = λ own book.
     let s = beside own (g.L.Lib.library c.args.lib.now) book in
     let first : decided 10 (Some (nat_lt c.args.index (link_of_chain (g.L.Lib.library c.args.lib.now).state c.args.chain.number).capacity)) ≡ Ok tt =
-        ap (λ n. decided 10 (Some (nat_lt c.args.index n))) c.requires.chain.count ∙ (sym c.needs_below.ensures ∙ c.in_ok-needs_below.was) in
+    ap (λ n. decided 10 (Some (nat_lt c.args.index n))) c.requires.chain.count ∙ (sym c.needs_below.ensures ∙ c.in_ok-needs_below.was) in
     passed c.from_residual-in_err-needs_allocated.result c.in_err-needs_allocated.field-0.0 c.from_residual-in_err-needs_allocated.ensures.1
     ∙ sym (met_next s 10 (library.IsInChain c.args.chain.number c.args.index)
     (library.IsAllocated c.args.chain.number c.args.index ∷ library.IsNoEarlier c.args.chain.number c.args.time ∷ []) first
@@ -22,7 +22,7 @@ pub returns-clause-value : goal.returns-clause-value
 returns-clause-value g c = λ own book.
     let s = beside own (g.L.Lib.library c.args.lib.now) book in
     let first : decided 10 (Some (nat_lt c.args.index (link_of_chain (g.L.Lib.library c.args.lib.now).state c.args.chain.number).capacity)) ≡ Ok tt =
-        ap (λ n. decided 10 (Some (nat_lt c.args.index n))) c.requires.chain.count ∙ (sym c.needs_below.ensures ∙ c.in_ok-needs_below.was) in
+    ap (λ n. decided 10 (Some (nat_lt c.args.index n))) c.requires.chain.count ∙ (sym c.needs_below.ensures ∙ c.in_ok-needs_below.was) in
     c.needs_no_earlier.ensures
     ∙ (ap (λ n. decided 10 (Some (nat_le n c.args.time))) (c.chain_highest-highest.ensures c.requires.told)
     ∙ sym (met_next s 10 (library.IsInChain c.args.chain.number c.args.index)

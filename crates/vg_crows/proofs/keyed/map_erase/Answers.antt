@@ -1,7 +1,6 @@
-use Rattle.std.proofs.Common.{◌≡◌, ◌∙◌, ap, sym, refl, ℕ, List, [], ◌∷◌, Option, Result, Ok, Err, Some, None, false, length}
+use Rattle.std.proofs.Common.{◌≡◌, ◌∙◌, ap, sym, refl, [], ◌∷◌, Result, Ok, None, false}
 use Rattle.vg_abs.specs.Rows as library
 use Rattle.vg_abs.specs.State as tables
-use Rattle.vg_cmemory.specs.State as memory
 use Rattle.vg_crows.specs.declared.answer.Answer.{Answer}
 use Rattle.vg_crows.specs.declared.answer.Answer.TheVariants as answers
 use Rattle.vg_crows.specs.declared.answer.Stop.{Stop}
@@ -19,7 +18,7 @@ returns-in_err-needs_present-clause-value g c = λ choices.
     let t = seen c.args.memory.now c.args.frame.now (g.L.Lib.library c.needs_present.new.lib) c.args.book.now in
     let bytes = c.read_key.new.into in
     let read : or_wrong (bytes_behind s c.args.key (tables.link_of_map s.library c.args.map.number).key_length) ≡ Ok bytes =
-        sym c.read_key.ensures.value ∙ ap (λ (r : Result (Unit {0}) Stop). with_value r bytes) c.in_ok-read_key.was in
+    sym c.read_key.ensures.value ∙ ap (λ (r : Result (Unit {0}) Stop). with_value r bytes) c.in_ok-read_key.was in
     ap (λ (r : Result Answer Stop). gives r t)
     (passed c.from_residual-in_err-needs_present.result c.in_err-needs_present.field-0.0 c.from_residual-in_err-needs_present.ensures.1)
     ∙ sym (key_read choices s c.args.map.number c.args.key (λ bytes. library.MapErase c.args.map.number bytes) None bytes refl read
@@ -41,9 +40,9 @@ returns-clause-value g c = λ choices.
     let bytes = c.read_key.new.into in
     let call = library.MapErase c.args.map.number bytes in
     let read : or_wrong (bytes_behind s c.args.key (tables.link_of_map s.library c.args.map.number).key_length) ≡ Ok bytes =
-        sym c.read_key.ensures.value ∙ ap (λ (r : Result (Unit {0}) Stop). with_value r bytes) c.in_ok-read_key.was in
+    sym c.read_key.ensures.value ∙ ap (λ (r : Result (Unit {0}) Stop). with_value r bytes) c.in_ok-read_key.was in
     let told : (g.L.Lib.library c.needs_present.new.lib).missed ≡ false =
-        c.needs_present.ensures.missed ∙ ap (λ (r : Result (Unit {0}) Stop). is_untold r) c.in_ok-needs_present.was in
+    c.needs_present.ensures.missed ∙ ap (λ (r : Result (Unit {0}) Stop). is_untold r) c.in_ok-needs_present.was in
     let left = (c.map_erase.ensures.done told).state_is ∙ ap (λ state. library.effect state call 0) c.needs_present.ensures.untouched.state_is in
     ap (λ (t : State). Ok (answers.Nothing, t)) (left_is s.memory (g.L.Lib.library c.map_erase.new.self) c.mark.new.self _ _ left c.mark.ensures)
     ∙ sym (key_read choices s c.args.map.number c.args.key (λ bytes. library.MapErase c.args.map.number bytes) None bytes refl read

@@ -1,5 +1,5 @@
 use Rattle.std.proofs.Common.{◌∙◌, sym, ap, Some}
-use Rattle.std.specs.Prelude.{option_map, is_some, is_none, Bool}
+use Rattle.std.specs.Prelude.{option_map, is_some, Bool}
 use Rattle.vg_crows.specs.Rows.{decided}
 use Rattle.vg_crows.proofs.Asking.{untold_is, told_as, untouched, decided_untold}
 use Rattle.vg_crows.proofs.needs.needs_present.Goals as goal
