@@ -1,19 +1,18 @@
 -- An index that is handed out, and its store.
-use Rattle.std.proofs.Common.{◌≡◌, ◌∙◌, sym, ap, subst, refl, ℕ, ◌-◌, ◌<◌, ◌≤◌, Bool, true, false, if◌then◌else◌, List, [], length, All, Option, Some, None, Result, Ok, Err, OnErr}
+use Rattle.std.proofs.Common.{◌≡◌, ◌∙◌, sym, ap, subst, refl, ℕ, ◌-◌, Bool, true, false, if◌then◌else◌, List, All, Option, Some, None, Result, Ok, Err, OnErr}
 use Rattle.std.specs.Prelude.{slice_get}
 use Rattle.std.specs.FinMap.{get}
 use Rattle.vg_core.specs.declared.reason.Reason.{Reason}
-use Rattle.vg_cint.specs.Tests.{Test, tested}
+use Rattle.vg_cint.specs.Tests.{tested}
 use Rattle.vg_cmemory.specs.declared.object.Object.{Object}
 use Rattle.vg_cmemory.specs.declared.object.Object.TheVariants as objects
 use Rattle.vg_cmemory.specs.declared.object.Pointer.{Pointer}
-use Rattle.vg_cmemory.specs.declared.object.Room.{Room}
 use Rattle.vg_cmemory.specs.Access.{leaves}
 use Rattle.vg_cmemory.specs.Cells.{write_tests_with}
 use Rattle.vg_abs.specs.declared.object.Object as tables_objects
 use Rattle.vg_abs.specs.declared.object.Object.TheVariants.{Map, Chain, Keys, Cells, Prefixes}
 use Rattle.vg_cmemory.specs.State as memory
-use Rattle.vg_abs.specs.Tables.{Link, Vector}
+use Rattle.vg_abs.specs.Tables.{Vector}
 use Rattle.vg_abs.specs.State as tables
 use Rattle.vg_abs.specs.State.{link_of_chain, link_in, vector_of}
 use Rattle.vg_abs.specs.Effects.{with_link, with_index}
@@ -25,8 +24,8 @@ use Rattle.vg_crows.specs.declared.answer.Stop.{Stop}
 use Rattle.vg_crows.specs.declared.book.Cell.{Cell}
 use Rattle.vg_crows.specs.Record.{Record, with_handed, marked, is_lent_as}
 use Rattle.vg_crows.specs.State.{State, and_then, or_wrong}
-use Rattle.vg_crows.specs.Access.{octets_of, write_tests, stored, store}
-use Rattle.vg_crows.specs.Rows.{Outcome, Target, granted, told, may_store, answered, after_place, choice_of, concluded, done, noted, target, may_write, with_answer, word_of}
+use Rattle.vg_crows.specs.Access.{octets_of, store}
+use Rattle.vg_crows.specs.Rows.{Outcome, Target, granted, told, may_store, after_place, choice_of, concluded, done, noted, target, may_write, with_answer, word_of}
 use Rattle.vg_crows.specs.Views.{CellsAreThere, beside, gives, yes_of, is_untold}
 use Rattle.vg_crows.proofs.Kept.{Recut, vectors_kept, still_vector}
 use Rattle.vg_crows.proofs.Answered.{stored_answer}

@@ -1,12 +1,12 @@
 -- Answers that are stored.
-use Rattle.std.proofs.Common.{◌≡◌, ◌∙◌, sym, ap, refl, ℕ, List, [], Option, Some, None, Result, Ok, Err}
+use Rattle.std.proofs.Common.{◌≡◌, ◌∙◌, ap, refl, ℕ, List, [], Option, Some, None, Result, Ok, Err}
 use Rattle.vg_core.specs.declared.reason.Reason.{Reason}
 use Rattle.vg_cint.specs.Tests.{first_against, unless}
 use Rattle.vg_cmemory.specs.Access.{leaves}
 use Rattle.vg_cmemory.specs.declared.object.Pointer.{Pointer}
 use Rattle.vg_abs.specs.Rows as library
 use Rattle.vg_abs.specs.Rows.{case_by, with_stored}
-use Rattle.std.specs.Prelude.{Bool, true, false, is_some, option_map}
+use Rattle.std.specs.Prelude.{Bool, is_some, option_map}
 use Rattle.vg_abs.specs.Answers.{index_of, time_of, match_in}
 use Rattle.vg_abs.specs.State.{link_of_map, link_of_chain, prefixes_of}
 use Rattle.vg_crows.specs.declared.answer.Answer.TheVariants as answers
@@ -101,3 +101,17 @@ pub lookup_told : (choices : List ℕ) (s : State) (table address : ℕ) (t : Ta
     → match_in s.library.full (prefixes_of s.library table) address ≡ Some found →
     granted choices s (library.PrefixLookup table address) (Some t) ≡ answered s (Some t) found
 lookup_told choices s table address t found e = ap (questioned s (Some t)) e ∙ questioned_told s t found
+
+pub key_fails : (choices : List ℕ) (s : State) (call : library.Call) (t : Option Target) (stop : Stop) → meets_key s call ≡ Err stop →
+    and_then (meets_key s call) (λ _. granted choices s call t) ≡ Err stop
+key_fails choices s call t stop e = ap (λ r. and_then r (λ _. granted choices s call t)) e
+
+pub key_passes : (choices : List ℕ) (s : State) (call : library.Call) (t : Option Target) → meets_key s call ≡ Ok (tt {0}) →
+    and_then (meets_key s call) (λ _. granted choices s call t) ≡ granted choices s call t
+key_passes choices s call t e = ap (λ r. and_then r (λ _. granted choices s call t)) e
+
+pub key_before : (choices : List ℕ) (s : State) (map : ℕ) (key : Pointer) (call : List ℕ → library.Call) (t : Option Target) (stop : Stop) →
+    meets_numbers s (call []) ≡ Err stop → by_key choices s map key call t ≡ Err stop
+key_before choices s map key call t stop e =
+    ap (λ r. and_then r (λ _. and_then (or_wrong (bytes_behind s key (link_of_map s.library map).key_length))
+    (λ bytes. and_then (meets_key s (call bytes)) (λ _. granted choices s (call bytes) t)))) e

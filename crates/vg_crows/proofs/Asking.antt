@@ -1,8 +1,7 @@
 -- What is known after a question to the library.
-use Rattle.std.proofs.Common.{◌≡◌, ◌∙◌, sym, ap, refl, ℕ, Bool, true, false, Option, Some, None, Result, Ok, Err}
+use Rattle.std.proofs.Common.{◌≡◌, sym, ap, refl, ℕ, Bool, true, false, Option, Some, None, Err}
 use Rattle.std.specs.Prelude.{option_map}
-use Rattle.vg_abs.specs.Library.{Library, Asks, Becomes, Misses}
-use Rattle.vg_crows.specs.declared.answer.Stop.{Stop}
+use Rattle.vg_abs.specs.Library.{Library, Asks, Becomes}
 use Rattle.vg_crows.specs.declared.answer.Stop.TheVariants as stops
 use Rattle.vg_crows.specs.Rows.{decided}
 use Rattle.vg_crows.specs.Views.{IsUntouched}

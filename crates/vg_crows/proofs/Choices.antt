@@ -1,14 +1,11 @@
 -- Choices that are taken, and those that are left.
-use Rattle.std.proofs.Common.{◌≡◌, ◌≢◌, ◌∙◌, sym, ap, subst, refl, ℕ, zero, suc, ◌+◌, ◌-◌, ◌<◌, Bool, true, false, if◌then◌else◌, List, [], ◌∷◌, ◌++◌, length, map, take, drop, Option, Some, None, Result, Ok, Err, arith}
+use Rattle.std.proofs.Common.{◌≡◌, ◌≢◌, ◌∙◌, sym, ap, subst, refl, ℕ, zero, suc, Bool, true, false, List, [], ◌∷◌, ◌++◌, length, map, take, drop, Option, Some, None, Ok, Err}
 use Rattle.std.specs.Prelude.{slice_get, not, unwrap_or}
 use Rattle.vg_cmemory.specs.State as memory
 use Rattle.vg_abs.specs.Library.{Library, Allocates, Misses, HandsOut, lacks_choice, is_lacking, next_choice, after_choice}
-use Rattle.vg_abs.specs.State as tables
 use Rattle.vg_abs.specs.Rows.{ChainAllocate, is_used_up, may_hand_out}
 use Rattle.vg_crows.specs.declared.answer.Stop.TheVariants as stops
-use Rattle.vg_crows.specs.declared.answer.Stop.{Stop}
-use Rattle.vg_crows.specs.Record.{Record, with_handed, marked}
-use Rattle.vg_crows.specs.State.{State}
+use Rattle.vg_crows.specs.Record.{Record}
 use Rattle.vg_crows.specs.Rows.{choice_of, chosen, as_choice}
 use Rattle.vg_crows.specs.Views.{Guides, beside}
 

@@ -1,7 +1,7 @@
 -- Writes to objects that aren't cells.
-use Rattle.std.proofs.Common.{◌≡◌, ◌∙◌, sym, ap, refl, ℕ, Bool, true, false, List, Option, Some, None, Result, Ok, Err}
+use Rattle.std.proofs.Common.{◌≡◌, ◌∙◌, ap, refl, ℕ, Bool, true, false, Option, Some, None, Result, Ok, Err}
 use Rattle.vg_core.specs.declared.reason.Reason.{Reason}
-use Rattle.vg_cint.specs.Tests.{Test, first_against, unless, tested}
+use Rattle.vg_cint.specs.Tests.{first_against, unless}
 use Rattle.vg_cmemory.specs.declared.object.Object.{Object}
 use Rattle.vg_cmemory.specs.declared.object.Object.TheVariants as objects
 use Rattle.vg_cmemory.specs.declared.object.Pointer.{Pointer}

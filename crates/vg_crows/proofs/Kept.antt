@@ -1,15 +1,13 @@
 -- What a change of a link leaves of the vectors.
-use Rattle.std.proofs.Common.{◌≡◌, ◌≢◌, ◌∙◌, sym, ap, subst, refl, ℕ, zero, suc, ◌-◌, ◌<◌, ◌≤◌, nat_eq, Bool, true, false, List, [], ◌∷◌, length, All, Option, Some, None, ◌⊎◌, inl, inr}
+use Rattle.std.proofs.Common.{◌≡◌, ◌≢◌, ◌∙◌, sym, ap, subst, refl, ℕ, zero, suc, ◌-◌, nat_eq, true, false, List, [], ◌∷◌, Option, Some, None, ◌⊎◌, inl, inr}
 use Rattle.std.specs.Prelude.{slice_get, slice_set}
-use Rattle.std.specs.FinMap.{get}
 use Rattle.std.proofs.lemmas.Bool.Decides.{eqb_tells}
 use Rattle.vg_abs.specs.declared.object.Object.{Object}
 use Rattle.vg_abs.specs.declared.object.Object.TheVariants.{Map, Chain, Keys, Cells, Prefixes}
-use Rattle.vg_abs.specs.Tables.{Link, Vector}
+use Rattle.vg_abs.specs.Tables.{Link}
 use Rattle.vg_abs.specs.State.{State, link_in, vector_in, vector_of}
 use Rattle.vg_abs.specs.Effects.{with_link}
 use Rattle.vg_abs.specs.Library.{Library, IsMapIn, IsVector, IsVectorIn}
-use Rattle.vg_crows.specs.declared.book.Cell.{Cell}
 
 get_same : {A : Type 0} (xs : List A) (m : ℕ) (x y : A) → slice_get xs m ≡ Some x → slice_get (slice_set xs m y) m ≡ Some y
 get_same [] m x y e = cc

@@ -9,3 +9,4 @@ mod Answered
 mod Kept
 mod Choices
 mod Allocated
+mod Expired

@@ -1,5 +1,5 @@
 -- Calls, need by need.
-use Rattle.std.proofs.Common.{◌≡◌, ◌∙◌, sym, ap, subst, refl, ℕ, zero, suc, ◌<◌, Bool, true, false, List, [], ◌∷◌, length, All, Option, Some, None, Result, Ok, Err, IsErrAnd, arith}
+use Rattle.std.proofs.Common.{◌≡◌, ◌∙◌, sym, ap, subst, refl, ℕ, zero, suc, Bool, true, false, List, [], ◌∷◌, All, Option, Some, None, Result, Ok, Err, IsErrAnd, arith}
 use Rattle.vg_cmemory.specs.State as memory
 use Rattle.vg_abs.specs.State as library
 use Rattle.vg_abs.specs.Library.{Library}
@@ -56,6 +56,12 @@ pub two_met : (P : Need → Type 0) (one other : Need) → P one → P other →
 two_met P one other h i zero d less = h
 two_met P one other h i (suc zero) d less = i
 two_met P one other h i (suc (suc k)) d less = absurd (omega arith)
+
+pub three_met : (P : Need → Type 0) (one two three : Need) → P one → P two → P three → All P (one ∷ two ∷ three ∷ [])
+three_met P one two three h i j zero d less = h
+three_met P one two three h i j (suc zero) d less = i
+three_met P one two three h i j (suc (suc zero)) d less = j
+three_met P one two three h i j (suc (suc (suc k))) d less = absurd (omega arith)
 
 -- the same, of a library that is as it was
 pub still_met : (state now : library.State) (needs : List Need) → now ≡ state → All (λ (need : Need). is_met state fresh need ≡ Some true) needs →

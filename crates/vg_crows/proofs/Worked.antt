@@ -1,5 +1,5 @@
 -- The worked frames are as the definitions have them.
-use Rattle.std.proofs.Common.{refl, Option}
+use Rattle.std.proofs.Common.{refl}
 use Rattle.std.specs.Prelude.{ℕ, List, [], ◌∷◌}
 use Rattle.std.specs.Cmp.Lexicographic.{slice_cmp}
 use Rattle.std.specs.Ordering.{nat_cmp}

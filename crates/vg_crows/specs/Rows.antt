@@ -1,7 +1,7 @@
 -- The rows of the library's calls on memory, frame and library: what each needs and where, what it answers, and what it leaves. Needs, cases, answers
 -- and effects are those of the library's tables; here stand the pointers, and the order in which all of it comes.
-use Rattle.std.specs.Prelude.{ℕ, zero, suc, ◌+◌, ◌-◌, ◌<◌, Bool, true, false, ◌&&◌, not, nat_eq, List, [], ◌∷◌, length, filter, slice_get, Option, Some, None}
-use Rattle.std.specs.Prelude.{is_some, Result, Ok, Err, if◌then◌else◌}
+use Rattle.std.specs.Prelude.{ℕ, ◌-◌, Bool, true, false, ◌&&◌, not, nat_eq, List, [], ◌∷◌, length, filter, slice_get, Option, Some, None}
+use Rattle.std.specs.Prelude.{Result, Ok, Err, if◌then◌else◌}
 use Rattle.vg_core.specs.declared.reason.Reason.{Reason}
 use Rattle.vg_core.specs.declared.reason.Reason.TheVariants as reasons
 use Rattle.vg_cint.specs.Tests.{tested}

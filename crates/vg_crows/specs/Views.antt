@@ -1,6 +1,7 @@
 -- What contracts see of what calls work on.
-use Rattle.std.specs.Prelude.{ℕ, ◌≡◌, Bool, true, false, List, length, map, take, drop, All, ◌≤◌, Option, Some, Result, Ok, Err, OnErr}
+use Rattle.std.specs.Prelude.{ℕ, ◌≡◌, Bool, true, false, List, length, map, take, drop, All, ◌≤◌, ◌==◌, Some, Result, Ok, Err, OnErr}
 use Rattle.std.specs.FinMap.{get}
+use Rattle.std.specs.List.{list_any}
 use Rattle.vg_cmemory.specs.State.{Own}
 use Rattle.vg_cmemory.specs.State as memory
 use Rattle.vg_abs.specs.Library.{Library, IsMap, IsChain, IsVector}
@@ -92,3 +93,9 @@ pub record NamesChain (l : Library) (chain : Handle) : Type 0 where
 pub record NamesVector (l : Library) (vector : Handle) : Type 0 where
   pub of_vector : IsVector l vector.number
   pub count : (vector_of l.state vector.number).cell_count ≡ vector.count
+
+-- as long as a link wasn't changed in this frame, the cell of each index that is told as allocated is a key mapped to that index
+abbrev pub IsTiedUnlessChanged : Library → Record → (map : ℕ) → Type 0
+IsTiedUnlessChanged l book map = list_any (λ changed. changed == map) (so_far book).changed ≡ false → (index time : ℕ) →
+    get (link_of_map l.state map).times index ≡ Some (Some time) →
+    (key : List ℕ) × (get (link_of_map l.state map).cells index ≡ Some key) × (get (link_of_map l.state map).keys key ≡ Some (Some index))

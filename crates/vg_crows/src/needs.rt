@@ -1,10 +1,10 @@
 //! What calls need.
-ghost use Rattle.std.specs.Prelude.{◌≡◌, ◌<◌, Some, false, nat_lt, nat_le};
+ghost use Rattle.std.specs.Prelude.{◌≡◌, ◌<◌, Some, false, length, nat_lt, nat_le};
 ghost use Rattle.vg_abs.specs.Library.{IsMap, IsChain};
-ghost use Rattle.vg_abs.specs.Rows.{IsAllocated, is_met};
+ghost use Rattle.vg_abs.specs.Rows.{IsAllocated, IsAbsent, IsPresent, is_met};
 ghost use Rattle.vg_crows.specs.Rows.{decided};
 ghost use Rattle.vg_crows.specs.Record.{Record, so_far};
-ghost use Rattle.vg_crows.specs.Views.{IsUntouched, NamesChain, is_untold};
+ghost use Rattle.vg_crows.specs.Views.{IsUntouched, NamesChain, NamesMap, is_untold};
 
 use crate::answer::Stop;
 use crate::request::Handle;
@@ -67,4 +67,41 @@ pub fn needs_allocated<L: Lib>(lib: &mut L, row: u8, chain: Handle, index: u32) 
         return Err(Stop::Untold);
     }
     decided(row, is_allocated)
+}
+
+/// A key must be present.
+///
+/// `Before`: it is absent, with the number of the call's row. `Untold`: that isn't told.
+pub fn needs_present<L: Lib>(lib: &mut L, row: u8, map: Handle, key: &[u8]) -> Result<(), Stop>
+    requires told { (L.library lib.old).missed ≡ false }
+    requires map { NamesMap (L.library lib.old) map }
+    requires key { length key.now ≡ map.key_length }
+    ensures value { (book : Record) → result ≡ decided row (is_met (L.library lib.old).state (so_far book) (IsPresent map.number key.now)) }
+    ensures untouched { IsUntouched (L.library lib.old) (L.library lib.new) }
+    ensures missed { (L.library lib.new).missed ≡ is_untold result }
+{
+    let found = lib.map_get(map.number, key);
+    if lib.missed() {
+        return Err(Stop::Untold);
+    }
+    decided(row, found.is_some())
+}
+
+/// A key must be absent.
+///
+/// `Before`: it is present, with the number of the call's row. `Untold`: that isn't told.
+pub fn needs_absent<L: Lib>(lib: &mut L, row: u8, map: Handle, key: &[u8]) -> Result<(), Stop>
+    requires told { (L.library lib.old).missed ≡ false }
+    requires map { NamesMap (L.library lib.old) map }
+    requires key { length key.now ≡ map.key_length }
+    ensures value { (book : Record) → result ≡ decided row (is_met (L.library lib.old).state (so_far book) (IsAbsent map.number key.now)) }
+    ensures untouched { IsUntouched (L.library lib.old) (L.library lib.new) }
+    ensures missed { (L.library lib.new).missed ≡ is_untold result }
+{
+    let found = lib.map_get(map.number, key);
+    if lib.missed() {
+        return Err(Stop::Untold);
+    }
+    let is_present = found.is_some();
+    decided(row, !is_present)
 }

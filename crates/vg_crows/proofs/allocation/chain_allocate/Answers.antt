@@ -1,11 +1,9 @@
-use Rattle.std.proofs.Common.{◌≡◌, ◌∙◌, sym, ap, subst, ℕ, [], Ok, Err, Some, None, Result, IfOk, true, false, Bool, length, ◌<◌, refl, arith}
+use Rattle.std.proofs.Common.{◌≡◌, ◌∙◌, sym, ap, subst, Some, Result, IfOk, true, length, ◌<◌, refl, arith}
 use Rattle.vg_abs.specs.Rows as library
 use Rattle.vg_crows.specs.declared.answer.Answer.{Answer}
 use Rattle.vg_crows.specs.declared.answer.Stop.{Stop}
-use Rattle.vg_crows.specs.State.{State}
-use Rattle.vg_crows.specs.Record.{fresh}
 use Rattle.vg_crows.specs.Rows.{target}
-use Rattle.vg_crows.specs.Views.{beside, seen, gives, is_untold}
+use Rattle.vg_crows.specs.Views.{seen, gives, is_untold}
 use Rattle.vg_crows.proofs.Steps.{stopped, passed, numbers_ok, each_met, two_met}
 use Rattle.vg_crows.proofs.Allocated.{granted_used, granted_stop, granted_go}
 use Rattle.vg_crows.proofs.allocation.chain_allocate.Goals as goal

@@ -1,4 +1,4 @@
-use Rattle.std.proofs.Common.{◌≡◌, ◌∙◌, sym, ap, subst, ℕ, Ok, None, Result, IfOk}
+use Rattle.std.proofs.Common.{◌≡◌, ◌∙◌, sym, ap, subst, ℕ, None, Result, IfOk}
 use Rattle.vg_cmemory.specs.State as memory
 use Rattle.vg_abs.specs.Rows as library
 use Rattle.vg_crows.specs.declared.answer.Answer.{Answer}

@@ -1,4 +1,4 @@
-use Rattle.std.proofs.Common.{◌≡◌, ◌∙◌, sym, ap, subst, ℕ, List, [], ◌∷◌, ◌++◌, Option}
+use Rattle.std.proofs.Common.{◌∙◌, sym, ap, subst, ℕ, [], ◌∷◌, ◌++◌, Option}
 use Rattle.vg_abs.specs.Library.{Allocates}
 use Rattle.vg_crows.specs.Record.{Record}
 use Rattle.vg_crows.proofs.Choices.{misses, hands, lacking, choice_is, guided, guided_next, guided_same}

@@ -1,12 +1,10 @@
-use Rattle.std.proofs.Common.{◌≡◌, ◌∙◌, sym, ap, Ok, Err, [], ◌∷◌, true, false, Bool, Some, None}
+use Rattle.std.proofs.Common.{◌≡◌, ◌∙◌, sym, ap, Ok, Some, None}
 use Rattle.std.specs.Prelude.{nat_lt, is_some}
 use Rattle.vg_abs.specs.Rows as library
-use Rattle.vg_abs.specs.State as tables
 use Rattle.vg_abs.specs.State.{link_of_chain}
-use Rattle.vg_crows.specs.State.{State}
 use Rattle.vg_crows.specs.declared.answer.Answer.TheVariants as answers
 use Rattle.vg_crows.specs.Rows.{decided}
-use Rattle.vg_crows.specs.Views.{beside, bit}
+use Rattle.vg_crows.specs.Views.{beside}
 use Rattle.vg_crows.proofs.Asking.{untold_is, told_is, untouched}
 use Rattle.vg_crows.proofs.Answered.{allocated_untold, allocated_told}
 use Rattle.vg_crows.proofs.Steps.{met_last, numbers_ok}

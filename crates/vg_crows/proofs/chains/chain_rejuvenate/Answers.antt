@@ -1,12 +1,10 @@
-use Rattle.std.proofs.Common.{◌≡◌, ◌∙◌, sym, ap, Ok, Err, Result, [], ◌∷◌, true, false, Bool, Some, None}
+use Rattle.std.proofs.Common.{◌≡◌, ◌∙◌, sym, ap, Ok, Result, [], false, None}
 use Rattle.vg_abs.specs.Rows as library
-use Rattle.vg_crows.specs.declared.answer.Answer.{Answer}
 use Rattle.vg_crows.specs.declared.answer.Answer.TheVariants as answers
 use Rattle.vg_crows.specs.declared.answer.Stop.{Stop}
 use Rattle.vg_crows.specs.State.{State}
-use Rattle.vg_crows.specs.Record.{fresh, marked}
-use Rattle.vg_crows.specs.Rows.{Outcome, meets_numbers}
-use Rattle.vg_crows.specs.Views.{beside, gives, is_untold}
+use Rattle.vg_crows.specs.Record.{fresh}
+use Rattle.vg_crows.specs.Views.{beside, is_untold}
 use Rattle.vg_crows.proofs.Steps.{nothing, stopped, numbers_ok, each_met, still_met, left_is}
 use Rattle.vg_crows.proofs.chains.chain_rejuvenate.Goals as goal
 

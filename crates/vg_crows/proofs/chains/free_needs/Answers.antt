@@ -1,4 +1,4 @@
-use Rattle.std.proofs.Common.{◌≡◌, ◌∙◌, sym, ap, Ok, [], ◌∷◌, true, Bool, Some}
+use Rattle.std.proofs.Common.{◌≡◌, ◌∙◌, sym, ap, Ok, [], ◌∷◌, Some}
 use Rattle.std.specs.Prelude.{nat_lt}
 use Rattle.vg_abs.specs.Rows as library
 use Rattle.vg_abs.specs.State.{link_of_chain}

@@ -1,11 +1,11 @@
-use Rattle.std.proofs.Common.{◌≡◌, ◌∙◌, ap, sym, refl, ℕ, List, Option, Result, Ok, Some, None, false, length}
+use Rattle.std.proofs.Common.{◌≡◌, ◌∙◌, ap, sym, refl, Result, Ok}
 use Rattle.vg_abs.specs.Rows as library
 use Rattle.vg_abs.specs.State as tables
 use Rattle.vg_crows.specs.declared.answer.Stop.{Stop}
-use Rattle.vg_crows.specs.State.{State, or_wrong}
+use Rattle.vg_crows.specs.State.{or_wrong}
 use Rattle.vg_crows.specs.Access.{bytes_behind}
 use Rattle.vg_crows.specs.Rows.{answered, target}
-use Rattle.vg_crows.specs.Views.{seen, gives, with_value}
+use Rattle.vg_crows.specs.Views.{seen, with_value}
 use Rattle.vg_crows.proofs.Answered.{key_read, get_told}
 use Rattle.vg_crows.proofs.Asking.{told_as, untouched}
 use Rattle.vg_crows.proofs.keyed.map_get.Goals as goal

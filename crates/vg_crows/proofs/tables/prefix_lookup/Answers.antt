@@ -1,5 +1,4 @@
-use Rattle.std.proofs.Common.{◌≡◌, ◌∙◌, ap, sym, refl, ℕ, Option}
-use Rattle.vg_abs.specs.Rows as library
+use Rattle.std.proofs.Common.{◌∙◌, ap, sym, ℕ, Option}
 use Rattle.vg_abs.specs.State as tables
 use Rattle.vg_crows.specs.Rows.{answered, target}
 use Rattle.vg_crows.specs.Views.{seen}
