@@ -25,7 +25,8 @@ use Rattle.vg_crows.specs.declared.book.Cell.{Cell}
 use Rattle.vg_crows.specs.Record.{Record, with_handed, marked, is_lent_as}
 use Rattle.vg_crows.specs.State.{State, and_then, or_wrong}
 use Rattle.vg_crows.specs.Access.{octets_of, store}
-use Rattle.vg_crows.specs.Rows.{Outcome, Target, granted, told, may_store, after_place, choice_of, concluded, done, noted, target, may_write, with_answer, word_of}
+use Rattle.vg_crows.specs.Rows.{Outcome, Target, granted, told, may_store, after_place, choice_of, concluded, done, noted, target, may_write, with_answer}
+use Rattle.vg_crows.specs.Rows.{word_of}
 use Rattle.vg_crows.specs.Views.{CellsAreThere, beside, gives, yes_of, is_untold}
 use Rattle.vg_crows.proofs.Kept.{Recut, vectors_kept, still_vector}
 use Rattle.vg_crows.proofs.Answered.{stored_answer}
@@ -41,7 +42,8 @@ recut_by s m (Some Keys) choice now e is = absurd is
 recut_by s m (Some (Cells cells)) choice now e is = absurd is
 recut_by s m (Some (Prefixes prefixes)) choice now e is = absurd is
 
-recut : (l : Library) (chain choice now : ℕ) → IsChain l chain → Recut l.state (chain - 1) (link_of_chain l.state chain) (with_index (link_of_chain l.state chain) choice now)
+recut : (l : Library) (chain choice now : ℕ) → IsChain l chain → Recut l.state (chain - 1) (link_of_chain l.state chain)
+    (with_index (link_of_chain l.state chain) choice now)
 recut l chain choice now is = recut_by l.state (chain - 1) (slice_get l.state.objects (chain - 1)) choice now refl is.map
 
 -- what the effect is, where an index is free
@@ -79,7 +81,8 @@ write_same l own book p size chain now choice is used =
     (octets_same l (beside own l book) p.object chain now choice refl is used)
 
 -- the index is stored, and the answer is 1
-pub handed_out : (l : Library) (own : memory.State) (book : Record) (p : Pointer) (chain now choice : ℕ) (t : State) (r : Result (Unit {0}) Reason) → IsChain l chain →
+pub handed_out : (l : Library) (own : memory.State) (book : Record) (p : Pointer) (chain now choice : ℕ) (t : State) (r : Result (Unit {0}) Reason) → IsChain
+    l chain →
     is_used_up l.state chain ≡ false → may_write (beside own l book) p 4 ≡ Ok (tt {0}) →
     leaves r t ≡ store (done (beside own l book) (ChainAllocate chain now) choice) p None 4 4 choice →
     gives (yes_of r) t ≡ Ok (concluded (beside own l book) (ChainAllocate chain now) (target p 4) choice)
@@ -141,7 +144,8 @@ pub granted_used : (choices : List ℕ) (s : State) (chain now : ℕ) (t : Targe
 granted_used choices s chain now t used = rw used refl
 
 pub granted_free : (choices : List ℕ) (s : State) (chain now : ℕ) (t : Target) → is_used_up s.library chain ≡ false →
-    granted choices s (ChainAllocate chain now) (Some t) ≡ and_then (may_write s t.pointer t.size) (λ _. after_place choices s (ChainAllocate chain now) (Some t))
+    granted choices s (ChainAllocate chain now) (Some t) ≡ and_then (may_write s t.pointer t.size)
+    (λ _. after_place choices s (ChainAllocate chain now) (Some t))
 granted_free choices s chain now t used = ap (granted_by choices s chain now t) used
 
 pub granted_stop : (choices : List ℕ) (s : State) (chain now : ℕ) (t : Target) (stop : Stop) → is_used_up s.library chain ≡ false →

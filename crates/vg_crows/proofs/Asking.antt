@@ -30,7 +30,8 @@ untouched s t (Some a) f r asked m =
 pub decided_untold : {A : Type 0} (q : Option A) (f : A → Bool) (row : ℕ) → q ≡ None → Err stops.Untold ≡ decided row (option_map f q)
 decided_untold q f row e = sym (ap (λ o. decided row (option_map f o)) e)
 
-pub decided_told : {A : Type 0} (q : Option A) (f : A → Bool) (row : ℕ) (r : Bool) → option_map f q ≡ Some r → decided row (Some r) ≡ decided row (option_map f q)
+pub decided_told : {A : Type 0} (q : Option A) (f : A → Bool) (row : ℕ) (r : Bool) → option_map f q ≡ Some r → decided row (Some r) ≡ decided row
+    (option_map f q)
 decided_told q f row r e = sym (ap (decided row) e)
 
 pub told_as : {A : Type 0} (s t : Library) (q : Option A) (r : A) → Asked s t q (λ a. a) r → s.missed ≡ false → t.missed ≡ false → q ≡ Some r

@@ -1,5 +1,6 @@
 -- Bytes over those of a cell.
-use Rattle.std.proofs.Common.{◌≡◌, ◌∙◌, sym, ap, refl, ℕ, zero, suc, ◌+◌, ◌≤◌, ◌/◌, List, [], ◌∷◌, ◌++◌, length, take, drop, slice_set, replicate, Option, Some, arith}
+use Rattle.std.proofs.Common.{◌≡◌, ◌∙◌, sym, ap, refl, ℕ, zero, suc, ◌+◌, ◌≤◌, ◌/◌, List, [], ◌∷◌, ◌++◌, length, take, drop, slice_set, replicate, Option, Some}
+use Rattle.std.proofs.Common.{arith}
 use Rattle.std.specs.Prelude.{unwrap_or}
 use Rattle.vg_cmemory.specs.Access.{put, bytes_of_word}
 use Rattle.vg_abs.specs.State as library

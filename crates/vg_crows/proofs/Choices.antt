@@ -1,5 +1,6 @@
 -- Choices that are taken, and those that are left.
-use Rattle.std.proofs.Common.{◌≡◌, ◌≢◌, ◌∙◌, sym, ap, subst, refl, ℕ, zero, suc, Bool, true, false, List, [], ◌∷◌, ◌++◌, length, map, take, drop, Option, Some, None, Ok, Err}
+use Rattle.std.proofs.Common.{◌≡◌, ◌≢◌, ◌∙◌, sym, ap, subst, refl, ℕ, zero, suc, Bool, true, false, List, [], ◌∷◌, ◌++◌, length, map, take, drop, Option, Some}
+use Rattle.std.proofs.Common.{None, Ok, Err}
 use Rattle.std.specs.Prelude.{slice_get, not, unwrap_or}
 use Rattle.vg_cmemory.specs.State as memory
 use Rattle.vg_abs.specs.Library.{Library, Allocates, Misses, HandsOut, lacks_choice, is_lacking, next_choice, after_choice}
@@ -87,7 +88,8 @@ misses_by s t chain now r true e a m used n = (e, a.untold m used e)
 misses_by s t chain now None false e a m used n = absurd (a.handed m used e)
 misses_by s t chain now (Some i) false e a m used n = let same = (a.handed m used e).same_missed in absurd (cc (same, m, n))
 
-pub misses : (s t : Library) (chain now : ℕ) (r : Option ℕ) → Allocates s t chain now r → s.missed ≡ false → is_used_up s.state chain ≡ false → t.missed ≡ true →
+pub misses : (s t : Library) (chain now : ℕ) (r : Option ℕ) → Allocates s t chain now r → s.missed ≡ false → is_used_up s.state chain ≡ false → t.missed ≡
+    true →
     (lacks_choice s chain ≡ true) × Misses s t
 misses s t chain now r a m used n = misses_by s t chain now r (lacks_choice s chain) refl a m used n
 
@@ -140,7 +142,8 @@ guided_next t book new chain i choices e g =
 pub guided_same : (s t : Library) (book : Record) (choices : List ℕ) → t.choices ≡ s.choices → Guides t book choices → Guides s book choices
 guided_same s t book choices e g = record { begins = g.begins; rest = λ left f. g.rest left (e ∙ f) }
 
-pub guided_on : (s t : Library) (book new : Record) (choices : List ℕ) → t.choices ≡ s.choices → new.handed ≡ book.handed → Guides t new choices → Guides s book choices
+pub guided_on : (s t : Library) (book new : Record) (choices : List ℕ) → t.choices ≡ s.choices → new.handed ≡ book.handed → Guides t new choices → Guides s
+    book choices
 guided_on s t book new choices e f g =
     record {
       begins = subst (λ (hs : List (ℕ × ℕ)). take (length hs) choices ≡ map last_first hs) f g.begins;

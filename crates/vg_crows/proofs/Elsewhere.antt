@@ -32,7 +32,8 @@ is_cell (objects.Cell vector index number) = true
 is_cell (objects.Declared node number) = false
 is_cell (objects.Chunk number) = false
 
-stored_in : {A : Type 0} (l : Library) (book : Record) (own t : memory.State) (r : Result A Reason) (o : Object) (offset : ℕ) (room : Option Room) (size align word : ℕ) →
+stored_in : {A : Type 0} (l : Library) (book : Record) (own t : memory.State) (r : Result A Reason) (o : Object) (offset : ℕ) (room : Option Room)
+    (size align word : ℕ) →
     is_cell o ≡ false → leaves r t ≡ accesses.store own (record { object = o; offset = offset }) room size align word →
     leaves r (beside t l book) ≡ store (beside own l book) (record { object = o; offset = offset }) room size align word
 stored_in l book own t r (objects.Cell vector index number) offset room size align word other e = cc
@@ -45,7 +46,8 @@ stored_in l book own t r (objects.Chunk number) offset room size align word othe
     ∙ carries_unless l book (first_against (accesses.write_tests own (record { object = objects.Chunk number; offset = offset }) room size align))
     (accesses.written own (objects.Chunk number) offset (bytes_of_word size word))
 
-pub stored_elsewhere : {A : Type 0} (l : Library) (book : Record) (own t : memory.State) (r : Result A Reason) (p : Pointer) (room : Option Room) (size align word : ℕ) →
+pub stored_elsewhere : {A : Type 0} (l : Library) (book : Record) (own t : memory.State) (r : Result A Reason) (p : Pointer) (room : Option Room)
+    (size align word : ℕ) →
     is_cell p.object ≡ false → leaves r t ≡ accesses.store own p room size align word →
     leaves r (beside t l book) ≡ store (beside own l book) p room size align word
 stored_elsewhere l book own t r p room size align word other e = stored_in l book own t r p.object p.offset room size align word other e

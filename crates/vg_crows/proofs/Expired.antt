@@ -69,7 +69,8 @@ done_by : (s t : Library) (q : Option ℕ) (result : ℕ) (state : tables.State)
 done_by s t None result state asks m n = let missed = (asks.untold refl).missed in absurd (cc (missed, n))
 done_by s t (Some count) result state asks m n = let told = asks.told m count refl in (ap Some (sym told.0), told.1)
 
-stays_by : (s t : Library) (q : Option ℕ) (result : ℕ) (state : tables.State) → Asks s t q (λ count. (result ≡ count) × Becomes s t state) → q ≡ None → Misses s t
+stays_by : (s t : Library) (q : Option ℕ) (result : ℕ) (state : tables.State) → Asks s t q (λ count. (result ≡ count) × Becomes s t state) → q ≡ None → Misses
+    s t
 stays_by s t q result state asks e = asks.untold e
 
 pub expired_misses : (s t : Library) (map before result : ℕ) → Expires s t map before result → s.missed ≡ false → t.missed ≡ true → Misses s t
@@ -89,7 +90,8 @@ pub granted_untold : (choices : List ℕ) (s : State) (map chain vector before :
     granted choices s (library.ExpireItems map chain vector before) None ≡ Err stops.Untold
 granted_untold choices s map chain vector before e = ap (expiry_by (done s (library.ExpireItems map chain vector before) 0)) e
 
-pub granted_count : (choices : List ℕ) (s : State) (map chain vector before count : ℕ) → count_before s.library.full (link_of_map s.library map) before ≡ Some count →
+pub granted_count : (choices : List ℕ) (s : State) (map chain vector before count : ℕ) → count_before s.library.full (link_of_map s.library map) before ≡ Some
+    count →
     granted choices s (library.ExpireItems map chain vector before) None ≡ Ok (answers.Word count, done s (library.ExpireItems map chain vector before) 0)
 granted_count choices s map chain vector before count e = ap (expiry_by (done s (library.ExpireItems map chain vector before) 0)) e
 

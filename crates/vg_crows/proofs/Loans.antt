@@ -33,7 +33,8 @@ is_number one other h = grind (arith, common_steps)
 abbrev is_at : (vector index : ℕ) → (ℕ × ℕ) → Bool
 is_at vector index cell = (cell.0 == vector) && (cell.1 == index)
 
-lent_by : (cell : Cell) (vector index number : ℕ) (more rest : Bool) → (is_name_of vector index number cell ≡ true) ⊎ (more ≡ true) → (more ≡ true → rest ≡ true)
+lent_by : (cell : Cell) (vector index number : ℕ) (more rest : Bool) → (is_name_of vector index number cell ≡ true) ⊎ (more ≡ true) →
+    (more ≡ true → rest ≡ true)
     → (is_at vector index (place_of cell) || rest) ≡ true
 lent_by cell vector index number more rest (inl h) go =
     or_left (is_at vector index (place_of cell)) rest (two_of_three (nat_eq cell.vector vector) (nat_eq cell.index index) (nat_eq cell.number number) h)

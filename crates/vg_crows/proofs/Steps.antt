@@ -1,5 +1,6 @@
 -- Calls, need by need.
-use Rattle.std.proofs.Common.{◌≡◌, ◌∙◌, sym, ap, subst, refl, ℕ, zero, suc, Bool, true, false, List, [], ◌∷◌, All, Option, Some, None, Result, Ok, Err, IsErrAnd, arith}
+use Rattle.std.proofs.Common.{◌≡◌, ◌∙◌, sym, ap, subst, refl, ℕ, zero, suc, Bool, true, false, List, [], ◌∷◌, All, Option, Some, None, Result, Ok, Err}
+use Rattle.std.proofs.Common.{IsErrAnd, arith}
 use Rattle.vg_cmemory.specs.State as memory
 use Rattle.vg_abs.specs.State as library
 use Rattle.vg_abs.specs.Library.{Library}
@@ -46,7 +47,8 @@ rest_met row (Some false) more e = cc
 rest_met row (Some true) more e = e
 
 -- where all is met, each is
-pub each_met : (s : State) (row : ℕ) (needs : List Need) → all_met s row needs ≡ Ok tt → All (λ (need : Need). is_met s.library (so_far s.book) need ≡ Some true) needs
+pub each_met : (s : State) (row : ℕ) (needs : List Need) → all_met s row needs ≡ Ok tt → All
+    (λ (need : Need). is_met s.library (so_far s.book) need ≡ Some true) needs
 each_met s row [] e k d h = absurd (omega arith)
 each_met s row (need ∷ needs) e zero d h = first_met row (is_met s.library (so_far s.book) need) (all_met s row needs) e
 each_met s row (need ∷ needs) e (suc k) d h =

@@ -103,7 +103,8 @@ LoansAndChanges =
 abbrev pub RefusalsComeInOrder : Type 0
 RefusalsComeInOrder =
     (told_of [] at_first (requests.MapPut (handle 0) place 2 ∷ []) ≡ ([], wrong 5))
-    × (told_of [] at_first (requests.MapPut (handle 0) (record { object = objects.Declared 0 1; offset = 1 }) 1 ∷ []) ≡ ([], Some (stops.Wrong reasons.OutOfObject)))
+    × (told_of [] at_first (requests.MapPut (handle 0) (record { object = objects.Declared 0 1; offset = 1 }) 1 ∷ []) ≡
+    ([], Some (stops.Wrong reasons.OutOfObject)))
     × (told_of [] at_first (requests.MapErase (handle 0) place ∷ []) ≡ ([], Some (stops.Wrong reasons.Unset)))
     × (told_of [] at_first (requests.MapErase (handle 0) key ∷ []) ≡ ([], wrong 6))
     × (told_of [] at_first (requests.ChainAllocate (handle 1) key 2 ∷ []) ≡ ([], wrong 8))

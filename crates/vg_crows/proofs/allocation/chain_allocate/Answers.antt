@@ -49,7 +49,8 @@ hand_out-requires-clause-needs g c = λ told.
     let state = (g.L.Lib.library c.args.lib.now).state in
     let met = each_met s 8 (library.needs (library.ChainAllocate c.args.chain.number c.args.time))
     (sym (c.allocate_needs.ensures.value s.memory) ∙ c.in_ok-allocate_needs.was) in
-    two_met (λ (need : library.Need). library.is_met state library.fresh need ≡ Some true) (library.IsNoEarlier c.args.chain.number c.args.time) library.MayBeHanded
+    two_met (λ (need : library.Need). library.is_met state library.fresh need ≡ Some true) (library.IsNoEarlier c.args.chain.number c.args.time)
+    library.MayBeHanded
     (met 0 library.MayBeHanded (omega arith)) refl
 
 pub hand_out-requires-clause-few : goal.hand_out-requires-clause-few

@@ -17,7 +17,8 @@ store-stored-requires-clause-cells g c =
     let m = g.L.Lib.library c.take_choice.new.lib in
     let own : memory.State = record { own = c.args.memory.now; frame = c.args.frame.now } in
     let left = subst (λ (r : Result ℕ Stop). IfOk r (λ choice. beside own m c.take_choice.new.book
-    ≡ done (beside own l c.args.book.now) (library.ChainAllocate c.args.chain.number c.args.time) choice)) c.in_ok-choice.was (c.take_choice.ensures.left own) in
+    ≡ done (beside own l c.args.book.now) (library.ChainAllocate c.args.chain.number c.args.time) choice)) c.in_ok-choice.was (c.take_choice.ensures.left own)
+    in
     let same = noted_same own l c.args.book.now c.args.chain.number c.args.time c.in_ok-choice.choice m c.take_choice.new.book left in
     cells_stay l m c.args.book.now c.take_choice.new.book c.args.chain.number c.args.time c.in_ok-choice.choice c.requires.chain.of_chain c.requires.free
     same.0 same.1 c.requires.cells
@@ -31,7 +32,8 @@ returns-clause-value g c = λ choices guides.
     let choice = c.in_ok-choice.choice in
     let t = seen c.store-stored.new.memory c.store-stored.new.frame n c.store-stored.new.book in
     let left = subst (λ (r : Result ℕ Stop). IfOk r (λ choice. beside own m c.take_choice.new.book
-    ≡ done (beside own l c.args.book.now) (library.ChainAllocate c.args.chain.number c.args.time) choice)) c.in_ok-choice.was (c.take_choice.ensures.left own) in
+    ≡ done (beside own l c.args.book.now) (library.ChainAllocate c.args.chain.number c.args.time) choice)) c.in_ok-choice.was (c.take_choice.ensures.left own)
+    in
     let before = guided_on m n c.take_choice.new.book c.store-stored.new.book choices c.store-stored.ensures.choices c.store-stored.ensures.handed guides in
     let chosen = sym (c.take_choice.ensures.value choices own before) ∙ c.in_ok-choice.was in
     let put = c.store-stored.ensures.value ∙ ap (λ (x : State). store x c.args.index None 4 4 choice) left in
@@ -49,7 +51,8 @@ returns-clause-stops g c =
     let choice = c.in_ok-choice.choice in
     let t = seen c.store-stored.new.memory c.store-stored.new.frame n c.store-stored.new.book in
     let left = subst (λ (r : Result ℕ Stop). IfOk r (λ choice. beside own m c.take_choice.new.book
-    ≡ done (beside own l c.args.book.now) (library.ChainAllocate c.args.chain.number c.args.time) choice)) c.in_ok-choice.was (c.take_choice.ensures.left own) in
+    ≡ done (beside own l c.args.book.now) (library.ChainAllocate c.args.chain.number c.args.time) choice)) c.in_ok-choice.was (c.take_choice.ensures.left own)
+    in
     let put = c.store-stored.ensures.value ∙ ap (λ (x : State). store x c.args.index None 4 4 choice) left in
     is_no_stop _ c.yes.result t _
     (ap (λ (r : Result Answer Stop). gives r t) c.yes.ensures

@@ -28,7 +28,8 @@ returns-clause-value g c = λ choices own.
     let s = beside own (g.L.Lib.library c.args.lib.now) c.args.book.now in
     let call = library.ChainFree c.args.chain.number c.args.index in
     let met = sym (c.free_needs.ensures.value own c.args.book.now) ∙ c.in_ok-free_needs.was in
-    let told : (g.L.Lib.library c.free_needs.new.lib).missed ≡ false = c.free_needs.ensures.missed ∙ ap (λ (r : Result (Unit {0}) Stop). is_untold r) c.in_ok-free_needs.was in
+    let told : (g.L.Lib.library c.free_needs.new.lib).missed ≡ false = c.free_needs.ensures.missed ∙ ap (λ (r : Result (Unit {0}) Stop). is_untold r)
+    c.in_ok-free_needs.was in
     let tables = (c.chain_free.ensures.done told).state_is ∙ ap (λ state. library.effect state call 0) c.free_needs.ensures.untouched.state_is in
     ap (λ (t : State). Ok (answers.Nothing, t)) (left_is own (g.L.Lib.library c.chain_free.new.self) c.mark.new.self _ _ tables c.mark.ensures)
     ∙ sym (numbers_ok choices s call None met)

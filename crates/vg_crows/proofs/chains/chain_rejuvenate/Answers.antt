@@ -28,7 +28,8 @@ returns-clause-value g c = λ choices own.
     let s = beside own (g.L.Lib.library c.args.lib.now) c.args.book.now in
     let call = library.ChainRejuvenate c.args.chain.number c.args.index c.args.time in
     let met = sym (c.rejuvenate_needs.ensures.value own c.args.book.now) ∙ c.in_ok-rejuvenate_needs.was in
-    let told : (g.L.Lib.library c.rejuvenate_needs.new.lib).missed ≡ false = c.rejuvenate_needs.ensures.missed ∙ ap (λ (r : Result (Unit {0}) Stop). is_untold r) c.in_ok-rejuvenate_needs.was in
+    let told : (g.L.Lib.library c.rejuvenate_needs.new.lib).missed ≡ false = c.rejuvenate_needs.ensures.missed ∙ ap
+    (λ (r : Result (Unit {0}) Stop). is_untold r) c.in_ok-rejuvenate_needs.was in
     let tables = (c.chain_rejuvenate.ensures.done told).state_is ∙ ap (λ state. library.effect state call 0) c.rejuvenate_needs.ensures.untouched.state_is in
     ap (λ (t : State). Ok (answers.Nothing, t)) (left_is own (g.L.Lib.library c.chain_rejuvenate.new.self) c.mark.new.self _ _ tables c.mark.ensures)
     ∙ sym (numbers_ok choices s call None met)

@@ -27,7 +27,8 @@ returns-in_err-read_key-clause-value g c = λ choices.
     sym c.read_key.ensures.value ∙ ap (λ (r : Result (Unit {0}) Stop). with_value r c.read_key.new.into) c.in_err-read_key.was in
     ap (λ (r : Result Answer Stop). gives r s)
     (passed c.from_residual-in_err-read_key.result c.in_err-read_key.field-0.0 c.from_residual-in_err-read_key.ensures.1)
-    ∙ sym (key_stop choices s c.args.map.number c.args.key (λ bytes. library.MapPut c.args.map.number bytes c.args.index) None c.in_err-read_key.field-0.0 numbers unread)
+    ∙ sym (key_stop choices s c.args.map.number c.args.key (λ bytes. library.MapPut c.args.map.number bytes c.args.index) None c.in_err-read_key.field-0.0
+    numbers unread)
 
 pub returns-in_err-needs_absent-clause-value : goal.returns-in_err-needs_absent-clause-value
 returns-in_err-needs_absent-clause-value g c = λ choices.

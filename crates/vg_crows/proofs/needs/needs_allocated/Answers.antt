@@ -6,7 +6,8 @@ use Rattle.vg_crows.proofs.needs.needs_allocated.Goals as goal
 pub returns-then-missed-clause-value : goal.returns-then-missed-clause-value
 returns-then-missed-clause-value g c = λ book.
     decided_untold _ (λ answer. is_some answer) c.args.row
-    (untold_is _ _ _ (λ answer. is_some answer) c.chain_is-is_allocated.result c.chain_is-is_allocated.ensures c.requires.told (sym c.missed.ensures.missed ∙ c.if-missed.true))
+    (untold_is _ _ _ (λ answer. is_some answer) c.chain_is-is_allocated.result c.chain_is-is_allocated.ensures c.requires.told
+    (sym c.missed.ensures.missed ∙ c.if-missed.true))
 
 pub returns-then-missed-clause-untouched : goal.returns-then-missed-clause-untouched
 returns-then-missed-clause-untouched g c =
@@ -15,7 +16,8 @@ returns-then-missed-clause-untouched g c =
 pub returns-clause-value : goal.returns-clause-value
 returns-clause-value g c = λ book.
     c.decided.ensures ∙ decided_told _ (λ answer. is_some answer) c.args.row c.chain_is-is_allocated.result
-    (told_is _ _ _ (λ answer. is_some answer) c.chain_is-is_allocated.result c.chain_is-is_allocated.ensures c.requires.told (sym c.missed.ensures.missed ∙ c.if-missed.false))
+    (told_is _ _ _ (λ answer. is_some answer) c.chain_is-is_allocated.result c.chain_is-is_allocated.ensures c.requires.told
+    (sym c.missed.ensures.missed ∙ c.if-missed.false))
 
 pub returns-clause-untouched : goal.returns-clause-untouched
 returns-clause-untouched g c =
